@@ -1,0 +1,25 @@
+-- A letter that is matched is its strand; one that is none of the three is no strand. Assumes nothing.
+use borrow.Author.Tests.{ne-eqb}
+use Rattle.ledger.proofs.Strand.of_letter.Statement.{statement}
+use Rattle.ledger.proofs.Strand.of_letter.Tie as tie
+use Rattle.ledger.proofs.Strand.of_letter.Reads as reads
+use Rattle.ledger.proofs.Strand.of_letter.Lts as lts
+
+-- src/lib.rt:126:5
+returns : tie.Need-returns
+returns c = rw (c .match .keys1)
+
+-- src/lib.rt:126:5
+returns-2 : tie.Need-returns-2
+returns-2 c = rw (c .match .keys2)
+
+-- src/lib.rt:126:5
+returns-3 : tie.Need-returns-3
+returns-3 c = rw (c .match .keys3)
+
+-- src/lib.rt:126:5
+returns-4 : tie.Need-returns-4
+returns-4 c = rw (ne-eqb _ _ (c .match .rest .0 .0 .1), ne-eqb _ _ (c .match .rest .0 .1), ne-eqb _ _ (c .match .rest .1))
+
+pub of-letter-spec : {M : Type 1} → statement M
+of-letter-spec = tie.close (tie.spec returns returns-2 returns-3 returns-4)

@@ -1,0 +1,27 @@
+-- The strand kind of 01: its opposite and its letter.
+use Prim.Native.Nat.{ℕ}
+use mathlib.Core.Bool.{Bool, true, false}
+use lib.Dec.{eqb}
+use Rattle.ledger.specs.declared.Strand.{Strand}
+use Rattle.ledger.specs.declared.Strand.the-variants.{Plus, Minus, Dot}
+use Rattle.ledger.specs.declared.Lettered.{Lettered}
+use Rattle.ledger.specs.declared.Lettered.the-variants.{Is, NoStrand}
+
+abbrev pub strandOpposite : Strand → Strand
+strandOpposite Plus = Minus
+strandOpposite Minus = Plus
+strandOpposite Dot = Dot
+
+-- `+`, `-`, `.`
+abbrev pub strandLetter : Strand → ℕ
+strandLetter Plus = 43
+strandLetter Minus = 45
+strandLetter Dot = 46
+
+abbrev pub pickLettered : Bool → Lettered → Lettered → Lettered
+pickLettered true a b = a
+pickLettered false a b = b
+
+-- the strand of a letter
+abbrev pub strandOf : ℕ → Lettered
+strandOf b = pickLettered (eqb b (strandLetter Plus)) (Is Plus) (pickLettered (eqb b (strandLetter Minus)) (Is Minus) (pickLettered (eqb b (strandLetter Dot)) (Is Dot) NoStrand))

@@ -1,0 +1,142 @@
+// What every layer shares: the reasons of a refusal with their numbers, strands, positions, parts of a text, and the limits by name.
+ghost use mathlib.Core.Path.{_≡_};
+ghost use Rattle.ledger.specs.Reasons.{reasonNumber};
+ghost use Rattle.ledger.specs.Strands.{strandOpposite, strandLetter, strandOf};
+ghost use Rattle.ledger.specs.Limits.{inCoordinates};
+
+// A text has at most so many bytes.
+pub const TEXT_LIMIT: usize = 65536;
+
+// A name has 1 to so many bytes.
+pub const NAME_LIMIT: usize = 64;
+
+// A record holds 1 to so many blocks.
+pub const BLOCK_LIMIT: u64 = 512;
+
+// The score of a chain is at most this.
+pub const CHAIN_SCORE_LIMIT: u64 = 999999999999999999;
+
+// The id of a chain is at most this.
+pub const CHAIN_ID_LIMIT: u64 = 4294967295;
+
+// The score of a BED line is at most this.
+pub const BED_SCORE_LIMIT: u64 = 1000;
+
+// Each of the three numbers of a colour is at most this.
+pub const COLOUR_LIMIT: u64 = 255;
+
+// A position in a sequence, a size or a count: 01's coordinate.
+pub struct Position {
+    pub base: u64,
+}
+
+impl Position {
+    // The largest coordinate.
+    pub const LARGEST: u64 = 2147483647;
+
+    // Whether the position is a coordinate at all.
+    pub fn in_range(self) -> bool
+        ensures { λ r. ⌜ r ≡ inCoordinates (self .base) ⌝ }
+    {
+        self.base <= Position::LARGEST
+    }
+}
+
+// Why a call is refused, in the order of 01's refusal ledger.
+pub enum Reason {
+    TextTooLong,
+    WrongCount,
+    ByteNotAllowed,
+    NumberMisspelt,
+    NumberOutOfRange,
+    BadWord,
+    SpanDisagrees,
+    ListLength,
+    BlockRules,
+    CountsDisagree,
+    NoRoom,
+    NoPair,
+    OutsideTarget,
+}
+
+impl Reason {
+    // The reason's number in 01's refusal ledger.
+    pub fn number(self) -> u64
+        ensures { λ r. ⌜ r ≡ reasonNumber self ⌝ }
+    {
+        match self {
+            Reason::TextTooLong => 1,
+            Reason::WrongCount => 2,
+            Reason::ByteNotAllowed => 3,
+            Reason::NumberMisspelt => 4,
+            Reason::NumberOutOfRange => 5,
+            Reason::BadWord => 6,
+            Reason::SpanDisagrees => 7,
+            Reason::ListLength => 8,
+            Reason::BlockRules => 9,
+            Reason::CountsDisagree => 10,
+            Reason::NoRoom => 11,
+            Reason::NoPair => 12,
+            Reason::OutsideTarget => 13,
+        }
+    }
+}
+
+// A refusal: why, and the byte offset of the place in the text (0 for a call without a text).
+pub struct Refusal {
+    pub reason: Reason,
+    pub place: usize,
+}
+
+// The strand kind of 01: `+`, `-`, or `.` where none is told.
+pub enum Strand {
+    Plus,
+    Minus,
+    Dot,
+}
+
+// The strand of a letter, where the letter is one.
+pub enum Lettered {
+    Is(Strand),
+    NoStrand,
+}
+
+impl Strand {
+    // `+` and `-` change places; `.` is its own opposite.
+    pub fn opposite(self) -> Strand
+        ensures { λ r. ⌜ r ≡ strandOpposite self ⌝ }
+    {
+        match self {
+            Strand::Plus => Strand::Minus,
+            Strand::Minus => Strand::Plus,
+            Strand::Dot => Strand::Dot,
+        }
+    }
+
+    pub fn letter(self) -> u8
+        ensures { λ r. ⌜ r ≡ strandLetter self ⌝ }
+    {
+        match self {
+            Strand::Plus => b'+',
+            Strand::Minus => b'-',
+            Strand::Dot => b'.',
+        }
+    }
+
+    pub fn of_letter(b: u8) -> Lettered
+        ensures { λ r. ⌜ r ≡ strandOf b ⌝ }
+    {
+        match b {
+            b'+' => Lettered::Is(Strand::Plus),
+            b'-' => Lettered::Is(Strand::Minus),
+            b'.' => Lettered::Is(Strand::Dot),
+            _ => Lettered::NoStrand,
+        }
+    }
+}
+
+// Where a name stands in a text: its first byte and its length.
+pub struct Part {
+    pub start: usize,
+    pub length: usize,
+}
