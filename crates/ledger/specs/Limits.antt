@@ -35,6 +35,10 @@ bedScoreLimit = 1000
 abbrev pub colourLimit : ℕ
 colourLimit = 255
 
+-- the largest place that a word of the machine holds; no text, buffer or table is longer
+abbrev pub largestPlace : ℕ
+largestPlace = 18446744073709551615
+
 -- whether a number is a coordinate
 abbrev pub inCoordinates : ℕ → Bool
 inCoordinates n = leb n largestPosition

@@ -1,0 +1,37 @@
+-- A number: digits only, no leading zero but in `0` itself, within a least and a greatest value.
+use Prim.Native.Nat.{ℕ, zero, suc, _+_, _-_, _*_}
+use mathlib.Core.Path.{_≡_}
+use mathlib.Core.Bool.{Bool, true, false, not, _&&_, _||_}
+use mathlib.Core.List.{List, [], _∷_}
+use lib.ListN.{length, getD}
+use lib.Dec.{leb, eqb}
+use Rattle.ledger.specs.declared.Reason.the-variants.{NumberMisspelt, NumberOutOfRange}
+use Rattle.text.specs.declared.Class.the-variants.{Digit}
+use Rattle.text.specs.Scan.{endOf}
+use Rattle.numbers.specs.declared.Spelt.{Spelt}
+use Rattle.numbers.specs.declared.Spelt.the-variants.{Means, Faulty}
+use Rattle.numbers.specs.Spelling.{require, faultIn}
+
+-- some digits and nothing else; the first is `0` only where it stands alone
+unfoldable pub wellSpelt : List ℕ → Bool
+wellSpelt w = not (eqb (length w) 0) && (eqb (endOf Digit w 0) (length w) && (eqb (length w) 1 || not (eqb (getD w 0 0) 48)))
+
+-- the value of the digits w after a number acc
+unfoldable pub valueFrom : ℕ → List ℕ → ℕ
+valueFrom acc [] = acc
+valueFrom acc (b ∷ w) = valueFrom (acc * 10 + (b - 48)) w
+
+unfoldable pub value : List ℕ → ℕ
+value w = valueFrom 0 w
+
+-- misspelt (4) before out of range (5), both at the word's first byte
+unfoldable pub numberOf : ℕ → ℕ → List ℕ → Spelt
+numberOf least most w =
+    require (wellSpelt w) NumberMisspelt 0
+    (require (leb least (value w) && leb (value w) most) NumberOutOfRange 0
+    (Means (value w)))
+
+-- what reading a number promises: what it spells, and that a fault stands at its first byte, which follows
+pub record NumberRead (least most : ℕ) (w : List ℕ) (r : Spelt) : Type 0 where
+  pub is : r ≡ numberOf least most w
+  pub near : faultIn r ≡ 0

@@ -1,0 +1,238 @@
+-- Laws of the scan (one step, a stop, the end), of words and lines by their places, of the first check, and of parts. Assumes nothing.
+use mathlib.Core.Path.{_≡_, refl, sym, ap, _∙_}
+use mathlib.Core.Bool.{Bool, true, false, not, _||_}
+use mathlib.Core.List.{List, [], _∷_, _++_}
+use Prim.Native.Nat.{ℕ, zero, suc, _+_, _-_, _≤_, _<_, min}
+use native.Mathlib.Nat.{add-zero, add-sub-cancel-left}
+use native.Mathlib.Numerals.{add-one}
+use native.Mathlib.Omega.{arith}
+use lib.ListN.{length, take, drop, getD, length-drop, drop-of-length-le}
+use lib.Seq.{drop-cons, drop-drop, take-all, take-nil}
+use borrow.Author.Tests.{not-true, not-false, eqb-true, leb-true, leb-false, le-leb, lt-leb, lt-ltb, le-ltb}
+use lib.Dec.{leb, eqb}
+use Rattle.ledger.specs.declared.Part.{Part}
+use Rattle.ledger.specs.declared.Reason.the-variants.{TextTooLong, ByteNotAllowed}
+use Rattle.ledger.specs.Limits.{textLimit}
+use Rattle.text.specs.declared.Class.{Class}
+use Rattle.text.specs.Scan.{isIn, oneMore, run, endOf}
+use Rattle.text.specs.declared.Class.the-variants.{Line, Blank, Word, Allowed}
+use Rattle.text.specs.declared.Extent.{Extent}
+use Rattle.text.specs.declared.Check.the-variants.{Holds, Refused}
+use Rattle.text.specs.Checks.{textCheck}
+use Rattle.text.specs.Parts.{partIn, partBytes}
+use Rattle.text.specs.Words.{nextWord, wordAt, nextLine, lineEnd, bytesOf}
+
+module _ (c : Class) (s : List ℕ) (i : ℕ) where
+  pub endOf-step : i < length s → isIn c (getD s i 0) ≡ true → endOf c s i ≡ endOf c s (i + 1)
+  unfolding endOf run
+  endOf-step h e = rw (add-one, drop-cons s i 0 h, e) (omega arith)
+
+  pub endOf-stop : isIn c (getD s i 0) ≡ false → i < length s → endOf c s i ≡ i
+  unfolding endOf run
+  endOf-stop e h = rw (drop-cons s i 0 h, e) (omega arith)
+
+  pub endOf-past : length s ≤ i → endOf c s i ≡ i
+  unfolding endOf run
+  endOf-past h = rw (drop-of-length-le s h) (omega arith)
+
+  module _ (from : ℕ) (t : Bool) (inv : endOf c s i ≡ endOf c s from) (h : i < length s) (is : t ≡ isIn c (getD s i 0)) where
+    pub scan-found : not t ≡ true → i ≡ endOf c s from
+    scan-found e = sym (endOf-stop (sym is ∙ not-true t e) h) ∙ inv
+
+    pub scan-more : not t ≡ false → endOf c s (i + 1) ≡ endOf c s from
+    scan-more e = sym (endOf-step h (sym is ∙ not-false t e)) ∙ inv
+
+  pub scan-past : (from : ℕ) → endOf c s i ≡ endOf c s from → length s ≤ i → i ≡ endOf c s from
+  scan-past from inv h = sym (endOf-past h) ∙ inv
+
+-- a run that takes all of xs goes on into what follows
+pub more-ones : (t : Bool) (n m : ℕ) → oneMore t n ≡ suc m → (t ≡ true) × (n ≡ m)
+more-ones true n m e = (refl, omega arith)
+more-ones false n m e = absurd (let z : zero ≡ suc m = e in omega arith)
+
+pub run-append : (c : Class) (xs ys : List ℕ) → run c xs ≡ length xs → run c (xs ++ ys) ≡ length xs + run c ys
+unfolding run
+run-append c [] ys h = omega arith
+run-append c (x ∷ xs) ys h =
+    let m = more-ones (isIn c x) (run c xs) (length xs) h in
+    rw (m .0, run-append c xs ys (m .1)) (omega arith)
+
+pub word-next : (s : List ℕ) (line i : ℕ) (w w′ : Extent) → w ≡ wordAt s line i → w′ ≡ nextWord s (w .end) → w′ ≡ wordAt s line (i + 1)
+unfolding wordAt
+word-next s line i w w′ e e′ = rw (add-one, ← e) e′
+
+pub word-there : (s : List ℕ) (line i k : ℕ) (w : Extent) → w ≡ wordAt s line i → i ≤ k → k ≤ i → w ≡ wordAt s line k
+word-there s line i k w e h l = let q : k ≡ i = omega arith in rw q e
+
+-- a scan within a line ends within it
+abbrev Within : Class → List ℕ → Type 0
+Within c s = run Line s ≡ run c s + run Line (drop (run c s) s)
+
+within-step : (c : Class) (x : ℕ) (s : List ℕ) (t : Bool) → isIn c x ≡ t → (isIn c x ≡ true → isIn Line x ≡ true) → Within c s → Within c (x ∷ s)
+unfolding run
+within-step c x s true e f h = rw (f e, e) (omega arith)
+within-step c x s false e f h = rw e (omega arith)
+
+run-within : (c : Class) → ((b : ℕ) → isIn c b ≡ true → isIn Line b ≡ true) → (s : List ℕ) → Within c s
+unfolding run
+run-within c f [] = refl
+run-within c f (x ∷ s) = within-step c x s (isIn c x) refl (f x) (run-within c f s)
+
+line-within : (c : Class) → ((b : ℕ) → isIn c b ≡ true → isIn Line b ≡ true) → (s : List ℕ) (i : ℕ) → lineEnd s (endOf c s i) ≡ lineEnd s i
+unfolding lineEnd endOf
+line-within c f s i = omega (arith, run-within c f (drop i s), ap (run Line) (drop-drop (run c (drop i s)) i s))
+
+pub blank-line : (b : ℕ) → isIn Blank b ≡ true → isIn Line b ≡ true
+blank-line b h = go (eqb b 10) refl
+  where
+    go : (t : Bool) → eqb b 10 ≡ t → isIn Line b ≡ true
+    go true e = let z : isIn Blank 10 ≡ true = rw (eqb-true b 10 e) at h in cc
+    go false e = rw e
+
+pub word-line : (b : ℕ) → isIn Word b ≡ true → isIn Line b ≡ true
+word-line b h = go (eqb b 10) refl
+  where
+    go : (t : Bool) → eqb b 10 ≡ t → isIn Line b ≡ true
+    go true e = let z : isIn Word 10 ≡ true = rw (eqb-true b 10 e) at h in cc
+    go false e = rw e
+
+pub word-ends : (s : List ℕ) (line k : ℕ) → wordAt s line k .end ≡ endOf Word s (wordAt s line k .start)
+unfolding wordAt nextWord
+word-ends s line zero = refl
+word-ends s line (suc k) = refl
+
+-- every word of a line, there or not, has the line's end for its own
+pub same-line : (s : List ℕ) (line k : ℕ) → lineEnd s (wordAt s line k .start) ≡ lineEnd s line
+unfolding wordAt nextWord
+same-line s line zero = line-within Blank blank-line s line
+same-line s line (suc k) =
+    line-within Blank blank-line s (wordAt s line k .end)
+    ∙ ap (lineEnd s) (word-ends s line k) ∙ line-within Word word-line s (wordAt s line k .start) ∙ same-line s line k
+
+-- where a scan has ended, none of the class follows
+pub run-ended : (c : Class) (s : List ℕ) → run c (drop (run c s) s) ≡ 0
+unfolding run
+run-ended c [] = refl
+run-ended c (x ∷ s) = go (isIn c x) refl (run-ended c s)
+  where
+    go : (t : Bool) → isIn c x ≡ t → run c (drop (run c s) s) ≡ 0 → run c (drop (run c (x ∷ s)) (x ∷ s)) ≡ 0
+    go true e h = rw e h
+    go false e h = rw (e, e)
+
+pub starts-unblank : (s : List ℕ) (line k : ℕ) → run Blank (drop (wordAt s line k .start) s) ≡ 0
+unfolding wordAt nextWord endOf
+starts-unblank s line zero = rw (← drop-drop) (run-ended Blank (drop line s))
+starts-unblank s line (suc k) = rw (← drop-drop) (run-ended Blank (drop (wordAt s line k .end) s))
+
+-- neither a blank nor a word's byte: a line feed
+feed : (a b d : Bool) (n m k : ℕ) → oneMore (a || b) n ≡ 0 → oneMore (not (a || b || d)) m ≡ 0 → oneMore (not d) k ≡ 0
+feed true b d n m k h l = absurd (let z : suc n ≡ 0 = h in omega arith)
+feed false true d n m k h l = absurd (let z : suc n ≡ 0 = h in omega arith)
+feed false false true n m k h l = refl
+feed false false false n m k h l = absurd (let z : suc m ≡ 0 = l in omega arith)
+
+pub no-line : (s : List ℕ) → run Blank s ≡ 0 → run Word s ≡ 0 → run Line s ≡ 0
+unfolding run
+no-line [] h l = refl
+no-line (x ∷ s) h l = feed (eqb x 32) (eqb x 9) (eqb x 10) (run Blank s) (run Word s) (run Line s) h l
+
+-- a word that is not there stands at the line's end
+pub missing : (s : List ℕ) (line k : ℕ) → wordAt s line k .start ≡ wordAt s line k .end → wordAt s line k .start ≡ lineEnd s line
+unfolding lineEnd endOf
+missing s line k h =
+    let w : run Word (drop (wordAt s line k .start) s) ≡ 0 = omega (arith, word-ends s line k) in
+    omega (arith, no-line (drop (wordAt s line k .start) s) (starts-unblank s line k) w, same-line s line k)
+
+-- an empty word is its own next word, and so every later one
+empty-next : (s : List ℕ) (w : Extent) → run Blank (drop (w .start) s) ≡ 0 → w .end ≡ endOf Word s (w .start) → w .start ≡ w .end → nextWord s (w .end) ≡ w
+unfolding nextWord endOf
+empty-next s w z e h = let q : w .start + 0 ≡ w .start = omega arith in rw (← h, z, q, ← e, ← h)
+
+empty-later : (s : List ℕ) (line i d : ℕ) → wordAt s line i .start ≡ wordAt s line i .end → wordAt s line (i + d) ≡ wordAt s line i
+unfolding wordAt
+empty-later s line i zero h = rw add-zero
+empty-later s line i (suc d) h =
+    let q : i + suc d ≡ suc (i + d) = omega arith in
+    rw (q, empty-later s line i d h) (empty-next s (wordAt s line i) (starts-unblank s line i) (word-ends s line i) h)
+
+pub word-stays : (s : List ℕ) (line i k : ℕ) (w : Extent) → w ≡ wordAt s line i → w .start ≡ w .end → i ≤ k → w ≡ wordAt s line k
+word-stays s line i k w e h l =
+    let q : i + (k - i) ≡ k = omega arith in
+    let z : wordAt s line i .start ≡ wordAt s line i .end = rw e at h in
+    e ∙ sym (empty-later s line i (k - i) z) ∙ ap (wordAt s line) q
+
+-- two numbers, either way round
+pub either : (a b : ℕ) (P : Type 0) → (a ≤ b → P) → (b < a → P) → P
+either a b P f g = go (leb a b) refl
+  where
+    go : (t : Bool) → leb a b ≡ t → P
+    go true e = f (leb-true a b e)
+    go false e = g (leb-false a b e)
+
+-- a part cut off at the text's end holds the same bytes
+abbrev Cut : List ℕ → ℕ → ℕ → Type 0
+Cut s a e = take (min e (length s) - min a (min e (length s))) (drop (min a (min e (length s))) s) ≡ take (e - a) (drop a s)
+
+cut-in : (s : List ℕ) (a e : ℕ) → a ≤ min e (length s) → Cut s a e
+cut-in s a e h =
+    let p : min a (min e (length s)) ≡ a = omega arith in
+    either e (length s) _
+    (λ k. let q : min e (length s) ≡ e = omega arith in rw (p, q))
+    (λ k. rw (p, take-all (min e (length s) - a) (drop a s) (rw length-drop (omega arith)), take-all (e - a) (drop a s) (rw length-drop (omega arith))))
+
+cut-out : (s : List ℕ) (a e : ℕ) → min e (length s) < a → Cut s a e
+cut-out s a e h =
+    let p : min e (length s) - min a (min e (length s)) ≡ 0 = omega arith in
+    either e a _
+    (λ k. let q : e - a ≡ 0 = omega arith in rw (p, q))
+    (λ k. let q : length s ≤ a = omega arith in rw (p, drop-of-length-le s q, take-nil))
+
+pub cut-off : (s : List ℕ) (a e : ℕ) → Cut s a e
+cut-off s a e = either a (min e (length s)) _ (cut-in s a e) (cut-out s a e)
+
+pub cut-bytes : (s : List ℕ) (w : Extent) (a e : ℕ) → e ≡ min (w .end) (length s) → a ≡ min (w .start) e → take (e - a) (drop a s) ≡ bytesOf s w
+unfolding bytesOf
+cut-bytes s w a e ee ea = rw (ea, ee) (cut-off s (w .start) (w .end))
+
+-- the three answers of the first check
+module _ (s : List ℕ) where
+  pub text-long : textLimit < length s → Refused (record { reason = TextTooLong; place = 0 }) ≡ textCheck s
+  unfolding textCheck
+  text-long h = rw (lt-leb (length s) textLimit h)
+
+  module _ (bad : ℕ) (h : length s ≤ textLimit) (is : bad ≡ endOf Allowed s 0) where
+    pub text-bad : bad < length s → Refused (record { reason = ByteNotAllowed; place = bad }) ≡ textCheck s
+    unfolding textCheck
+    text-bad k = rw (← is, le-leb (length s) textLimit h, lt-leb (length s) bad k)
+
+    pub text-good : length s ≤ bad → Holds ≡ textCheck s
+    unfolding textCheck
+    text-good k = rw (← is, le-leb (length s) textLimit h, le-leb (length s) bad k)
+
+-- the next line, where the line ends by a feed and where it doesn't
+module _ (s : List ℕ) (line e : ℕ) (is : e ≡ lineEnd s line) where
+  pub next-fed : e < length s → e + 1 ≡ nextLine s line
+  unfolding nextLine
+  next-fed h = rw (← is, lt-ltb e (length s) h)
+
+  pub next-none : length s ≤ e → e ≡ nextLine s line
+  unfolding nextLine
+  next-none h = rw (← is, le-ltb e (length s) h)
+
+-- a part that starts past the text's end, one that ends past it, and one that lies in it
+module _ (s : List ℕ) (p : Part) where
+  pub part-past : length s < p .start → record { start = length s; length = 0 } ≡ partIn s p
+  unfolding partIn
+  part-past h = rw (lt-leb (p .start + p .length) (length s) (omega arith))
+
+  pub part-long : length s - p .start < p .length → record { start = length s; length = 0 } ≡ partIn s p
+  unfolding partIn
+  part-long h = rw (lt-leb (p .start + p .length) (length s) (omega arith))
+
+  pub part-fits : p .start ≤ length s → p .length ≤ length s - p .start → p ≡ partIn s p
+  unfolding partIn
+  part-fits h k = rw (le-leb (p .start + p .length) (length s) (omega arith))
+
+  pub part-cut : (r : Part) → r ≡ partIn s p → take (r .start + r .length - r .start) (drop (r .start) s) ≡ partBytes s (partIn s p)
+  unfolding partBytes
+  part-cut r is = rw (← is, add-sub-cancel-left)

@@ -1,0 +1,5 @@
+pub mod Scan
+pub mod Pieces
+pub mod Words
+pub mod Parts
+pub mod Checks

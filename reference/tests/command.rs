@@ -1,0 +1,134 @@
+//! The samples command, case by case.
+
+use std::io::Write;
+use std::process::{Command, Stdio};
+
+/// Runs the command on an input and answers its output.
+fn run(input: &[u8]) -> Vec<u8> {
+    let mut child = Command::new(env!("CARGO_BIN_EXE_samples"))
+        .stdin(Stdio::piped())
+        .stdout(Stdio::piped())
+        .spawn()
+        .unwrap();
+    child.stdin.take().unwrap().write_all(input).unwrap();
+    child.wait_with_output().unwrap().stdout
+}
+
+/// Runs pairs of a case and its answer.
+fn cases(pairs: &[(&str, &str)]) {
+    let input: String = pairs.iter().map(|(case, _)| format!("{case}\n")).collect();
+    let output = String::from_utf8(run(input.as_bytes())).unwrap();
+    let answers: Vec<&str> = output.lines().collect();
+    assert_eq!(answers.len(), pairs.len());
+    for ((case, expected), answer) in pairs.iter().zip(answers) {
+        assert_eq!(answer, *expected, "for {case}");
+    }
+}
+
+#[test]
+fn comments_answer_nothing() {
+    assert_eq!(run(b""), b"");
+    assert_eq!(run(b"# a comment\n\nc 5\n#c 6"), b"c value 5\n");
+}
+
+#[test]
+fn texts_lines_and_words() {
+    cases(&[
+        ("t", "t fine"),
+        ("t ", "t fine"),
+        (r"t a\tb\n", "t fine"),
+        (r"t ab\x1f", "t refused 3 at 2"),
+        (r"t a\x0d", "t refused 3 at 1"),
+        (r"l a\s\tbb\n\n", "l 0-5: 0-1 3-5 | 6-6:"),
+        (r"l \n", "l 0-0:"),
+        (r"l \\", "l 0-1: 0-1"),
+        ("l", "l none"),
+    ]);
+}
+
+#[test]
+fn numbers() {
+    cases(&[
+        ("c 2147483647", "c value 2147483647"),
+        ("c 2147483648", "c refused 5 at 0"),
+        ("c 007", "c refused 4 at 0"),
+        ("c", "c refused 4 at 0"),
+        (r"c 5\s", "c refused 4 at 0"),
+        ("z 0", "z refused 5 at 0"),
+        ("s 999999999999999999", "s value 999999999999999999"),
+        ("s 1000000000000000000", "s refused 5 at 0"),
+        ("i 4294967295", "i value 4294967295"),
+        ("i 4294967296", "i refused 5 at 0"),
+        ("e 1000", "e value 1000"),
+        ("e 1001", "e refused 5 at 0"),
+        ("b 512", "b value 512"),
+        ("b 513", "b refused 5 at 0"),
+        (
+            "d 18446744073709551615",
+            "d digits 18446744073709551615 list 18446744073709551615,",
+        ),
+        ("d 0", "d digits 0 list 0,"),
+    ]);
+}
+
+#[test]
+fn lists_and_colours() {
+    cases(&[
+        ("L 567,488,", "L count 2: 567 488"),
+        ("L 567,488", "L count 2: 567 488"),
+        ("L 5,,", "L refused 4 at 2"),
+        ("L ,", "L refused 4 at 0"),
+        ("Z 1,0", "Z refused 5 at 2"),
+        ("2 1,2,", "2 count 2: 1 2"),
+        ("2 1,2,3", "2 refused 8 at 0"),
+        ("r 0", "r colour 0 0 0"),
+        ("r 1,2,3,", "r refused 4 at 6"),
+        ("r 1,2,3,256", "r refused 5 at 6"),
+    ]);
+}
+
+#[test]
+fn names_strands_and_fixed_words() {
+    cases(&[
+        ("n chr22", "n name 5"),
+        ("n", "n refused 6 at 0"),
+        ("+ -", "+ strand -"),
+        ("+ .", "+ refused 6 at 0"),
+        (". .", ". strand ."),
+        ("k chain", "k chain"),
+        ("k Chain", "k refused 6 at 0"),
+        ("? x", "? unknown case"),
+        ("c5", "c unknown case"),
+    ]);
+}
+
+#[test]
+fn lines_by_their_columns() {
+    cases(&[
+        (
+            "B chr22 1000 5000 cloneA 960 + 1000 5000 0 2 567,488, 0,3512",
+            r"B chr22\t1000\t5000\tcloneA\t960\t+\t1000\t5000\t0\t2\t567,488,\t0,3512,",
+        ),
+        ("B c 5 9", "B refused 6 at 5"),
+        (r"B c 5\s", "B refused 4 at 4"),
+        (
+            "B c 9 5 n 0 + 1 0 0,0,0 1 7 7 x",
+            r"B c\t9\t5\tn\t0\t+\t1\t0\t0\t1\t7,\t7,",
+        ),
+        ("B c 5 9 n 0 + 5 9 0 1 4,4 x", "B refused 8 at 20"),
+        (
+            "P 27 0 0 0 1 1 1 3 - qB 80 5 33 tA 100 10 40 3 10,8,9 5,15,24 10,23,31",
+            r"P 27\t0\t0\t0\t1\t1\t1\t3\t-\tqB\t80\t5\t33\ttA\t100\t10\t40\t3\t10,8,9,\t5,15,24,\t10,23,31,",
+        ),
+        ("P", "P refused 4 at 0"),
+        (
+            r"C chain\t100 tA 100 + 10 40 qB 80 - 5 33 7",
+            "C chain 100 tA 100 + 10 40 qB 80 - 5 33 7",
+        ),
+        (
+            "C chain 100 tA 100 - 10 40 qB 80 - 5 33 7",
+            "C refused 6 at 17",
+        ),
+        ("C", "C refused 6 at 0"),
+    ]);
+}
