@@ -1,3 +1,4 @@
 pub mod Spelling
 pub mod Numbers
+pub mod Ranges
 pub mod Lists

@@ -42,23 +42,41 @@ abbrev pub thenCount : Spelt → (ℕ → Spelt) → Spelt
 thenCount (Means m) rest = rest m
 thenCount (Faulty why at) rest = Faulty why at
 
--- all items from the left, an empty one at the end among them: their number, or the first fault
-unfoldable pub listTest : ℕ → ℕ → Bool → List ℕ → Spelt
-listTest least most comma w =
-    thenCount (testItems least most 0 0 (itemsOf w)) (λ m.
-    require (not (openEnd comma w)) NumberMisspelt (length w)
-    (Means m))
+-- what was found of the items, then an empty one at the end, then their number against a count
+unfoldable pub listEnd : Bool → ℕ → List ℕ → Spelt → Spelt
+listEnd comma n w found =
+    thenCount found (λ m.
+      require (not (openEnd comma w)) NumberMisspelt (length w)
+      (require (eqb m n) ListLength 0
+      (Means m)))
 
--- and then their number is compared with a count
+-- a list of n numbers: all items from the left (4, 5), an empty one at the end among them, and then their number (8)
 unfoldable pub listOf : ℕ → ℕ → Bool → ℕ → List ℕ → Spelt
-listOf least most comma n w =
-    thenCount (listTest least most comma w) (λ m.
-    require (eqb m n) ListLength 0
-    (Means m))
+listOf least most comma n w = listEnd comma n w (testItems least most 0 0 (itemsOf w))
 
 -- the numbers that the items spell
 unfoldable pub valuesOf : List ℕ → List ℕ
 valuesOf w = map value (itemsOf w)
+
+abbrev pub orStop : Spelt → List ℕ → List ℕ
+orStop (Means v) vs = v ∷ vs
+orStop (Faulty why p) vs = []
+
+-- the values of the items before the first bad one: of all items where there is none
+unfoldable pub goodValues : ℕ → ℕ → List (List ℕ) → List ℕ
+goodValues least most [] = []
+goodValues least most (x ∷ xs) = orStop (numberOf least most x) (goodValues least most xs)
+
+-- what storing the items promises: what it finds, and the values stored from the table's front, as far as it reaches
+pub record ItemsStored (least most : ℕ) (w before after : List ℕ) (r : Spelt) : Type 0 where
+  pub is : r ≡ testItems least most 0 0 (itemsOf w)
+  pub stored : after ≡ sets before 0 (goodValues least most (itemsOf w))
+  pub near : faultIn r ≤ length w
+
+-- what ending a list promises
+pub record ListEnded (comma : Bool) (n : ℕ) (w : List ℕ) (found r : Spelt) : Type 0 where
+  pub is : r ≡ listEnd comma n w found
+  pub near : faultIn found ≤ length w → faultIn r ≤ length w
 
 -- the table after reading: the values stored from its front as far as it reaches, or the table as it was
 abbrev pub tableAfter : Spelt → List ℕ → List ℕ → List ℕ
@@ -69,15 +87,4 @@ tableAfter (Faulty why at) vs before = before
 pub record ListRead (least most : ℕ) (comma : Bool) (n : ℕ) (w before after : List ℕ) (r : Spelt) : Type 0 where
   pub is : r ≡ listOf least most comma n w
   pub stored : after ≡ tableAfter r (valuesOf w) before
-  pub near : faultIn r ≤ length w
-
--- what testing a list promises: what it finds, and that a fault stands in the list, which follows
-pub record ListTested (least most : ℕ) (comma : Bool) (w : List ℕ) (r : Spelt) : Type 0 where
-  pub is : r ≡ listTest least most comma w
-  pub near : faultIn r ≤ length w
-
--- what one walk over the items promises: what it finds, and, where all items are good, the values stored
-pub record Walked (least most : ℕ) (w before after : List ℕ) (r : Spelt) : Type 0 where
-  pub is : r ≡ testItems least most 0 0 (itemsOf w)
-  pub stored : (m : ℕ) → r ≡ Means m → after ≡ sets before 0 (valuesOf w)
   pub near : faultIn r ≤ length w

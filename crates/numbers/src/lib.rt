@@ -3,7 +3,7 @@ ghost use mathlib.Core.Path.{_≡_};
 ghost use Prim.Native.Nat.{_-_};
 ghost use lib.ListN.{set};
 ghost use Rattle.numbers.specs.Numbers.{wellSpelt, NumberRead};
-ghost use Rattle.numbers.specs.Lists.{lastByte, openEnd, Walked, ListTested, ListRead};
+ghost use Rattle.numbers.specs.Lists.{lastByte, openEnd, ItemsStored, ListEnded, ListRead};
 use ledger::Reason;
 use text::Class;
 
@@ -67,9 +67,10 @@ pub fn store(out: &mut [u64], n: usize, v: u64)
     }
 }
 
-// One walk over the items from the left, storing their values as far as the table reaches.
-fn walk_items(word: &[u8], least: u64, most: u64, out: &mut [u64]) -> Spelt
-    ensures { λ r. ⌜ Walked least most (now (word .entry)) (now (out .entry)) (now (out .exit)) r ⌝ }
+// Tests the items from the left and stores their values as far as the table reaches: the number of items, or the first bad one.
+// The table is the caller's working room: where an item is bad, it holds the values before it.
+pub fn store_items(word: &[u8], least: u64, most: u64, out: &mut [u64]) -> Spelt
+    ensures { λ r. ⌜ ItemsStored least most (now (word .entry)) (now (out .entry)) (now (out .exit)) r ⌝ }
 {
     let mut i = 0;
     let mut n = 0;
@@ -106,23 +107,26 @@ fn open_end(word: &[u8], comma: bool) -> bool
     (word.len() == 0) | (!comma & (last_byte(word) == b','))
 }
 
-// Tests a comma list: the number of its items, or the first fault. `comma`: whether one further comma may stand at the end.
-pub fn test_list(word: &[u8], least: u64, most: u64, comma: bool) -> Spelt
-    ensures { λ r. ⌜ ListTested least most comma (now (word .entry)) r ⌝ }
+// Ends a list whose items were found good or bad: an empty item at the end, then the number of items against a count.
+// `comma`: whether one further comma may stand at the end.
+pub fn end_list(found: Spelt, word: &[u8], comma: bool, count: u64) -> Spelt
+    ensures { λ r. ⌜ ListEnded comma count (now (word .entry)) found r ⌝ }
 {
-    let mut none = [0u64; 0];
-    match walk_items(word, least, most, &mut none) {
+    match found {
         Spelt::Faulty(reason, at) => Spelt::Faulty(reason, at),
         Spelt::Means(m) => {
             if open_end(word, comma) {
                 return Spelt::Faulty(Reason::NumberMisspelt, word.len());
+            }
+            if m != count {
+                return Spelt::Faulty(Reason::ListLength, 0);
             }
             Spelt::Means(m)
         }
     }
 }
 
-// Reads a comma list of so many numbers into a table. All items are tested before a number is stored, so a refusal leaves the table as it was.
+// Reads a comma list of so many numbers into a table. All is tested before a number is stored, so a refusal leaves the table as it was.
 pub fn read_list(
     word: &[u8],
     least: u64,
@@ -133,13 +137,10 @@ pub fn read_list(
 ) -> Spelt
     ensures { λ r. ⌜ ListRead least most comma count (now (word .entry)) (now (out .entry)) (now (out .exit)) r ⌝ }
 {
-    match test_list(word, least, most, comma) {
+    let mut none = [0u64; 0];
+    let found = store_items(word, least, most, &mut none);
+    match end_list(found, word, comma, count) {
         Spelt::Faulty(reason, at) => Spelt::Faulty(reason, at),
-        Spelt::Means(m) => {
-            if m != count {
-                return Spelt::Faulty(Reason::ListLength, 0);
-            }
-            walk_items(word, least, most, out)
-        }
+        Spelt::Means(_) => store_items(word, least, most, out),
     }
 }

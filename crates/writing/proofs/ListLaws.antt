@@ -8,7 +8,7 @@ use native.Mathlib.Numerals.{add-one}
 use lib.ListN.{length, getD, drop, length-append, drop-of-length-le}
 use lib.Seq.{drop-cons}
 use lib.Dec.{leb, eqb}
-use borrow.Author.Tests.{ne-eqb}
+use borrow.Author.Tests.{eq-eqb, ne-eqb}
 use Rattle.text.specs.declared.Class.the-variants.{Item, Graphic, Digit}
 use Rattle.text.specs.Scan.{isIn, run}
 use Rattle.text.specs.Pieces.{piecesOf}
@@ -16,10 +16,10 @@ use Rattle.text.proofs.PieceLaws.{pieces-join}
 use Rattle.text.proofs.TextLaws.{All, all-append}
 use Rattle.numbers.specs.declared.Spelt.the-variants.{Means}
 use Rattle.numbers.specs.Numbers.{numberOf, value}
-use Rattle.numbers.specs.Lists.{itemsOf, testItems, valuesOf, openEnd, listTest, listOf}
+use Rattle.numbers.specs.Lists.{itemsOf, testItems, valuesOf, openEnd, listEnd, listOf}
 use Rattle.writing.specs.Digits.{digits, listText}
 use Rattle.writing.specs.Puts.{Put}
-use Rattle.writing.specs.Ranges.{Between, between-none, between-more}
+use Rattle.numbers.specs.Ranges.{Between, between-none, between-more}
 use Rattle.ledger.specs.Limits.{largestPlace}
 use Rattle.writing.proofs.PutLaws.{put-then, Completes, completes-step, completes-done}
 use Rattle.writing.proofs.DigitLaws.{Most, number-digits, value-digits, some-digits, digits-graphic, digits-items}
@@ -69,11 +69,12 @@ unfolding listText
 list-some [] h = absurd (omega arith)
 list-some (v ∷ vs) h = rw length-append (omega arith)
 
--- a written list passes its test, with its number of items, where one further comma is allowed
-pub list-test : (least most : ℕ) (vs : List ℕ) → 0 < length vs → most < Most → Between least most vs → listTest least most true (listText vs) ≡ Means (length vs)
-unfolding listTest openEnd
-list-test least most vs some l h =
-    rw (list-items vs, digit-test least most 0 0 vs l h, ne-eqb (length (listText vs)) 0 (λ e. omega (arith, list-some vs some))) (ap Means (omega arith))
+-- a written list is read as a list of its length, where one further comma is allowed
+pub list-back : (least most n : ℕ) (vs : List ℕ) → 0 < length vs → length vs ≡ n → most < Most → Between least most vs → listOf least most true n (listText vs) ≡ Means n
+unfolding listOf listEnd openEnd
+list-back least most n vs some e l h =
+    let z : 0 + length vs ≡ n = omega arith in
+    rw (list-items vs, digit-test least most 0 0 vs l h, z, ne-eqb (length (listText vs)) 0 (λ e. omega (arith, list-some vs some)), eq-eqb n n refl)
 
 pub list-graphic : (vs : List ℕ) → All Graphic (listText vs)
 unfolding listText run

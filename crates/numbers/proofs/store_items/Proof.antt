@@ -3,16 +3,14 @@ use borrow.Author.Needs.{needs}
 use native.Mathlib.Omega.{arith}
 use Prim.Native.Nat.{_+_, _-_, _≤_}
 use mathlib.Core.Path.{_≡_, refl}
-use mathlib.Core.List.{map}
 use lib.ListN.{length, drop}
 use lib.Seq.{sets}
-use Rattle.numbers.specs.Numbers.{value}
-use Rattle.numbers.specs.Lists.{itemsOf, testItems, valuesOf}
-use Rattle.numbers.proofs.ListLaws.{list-bad, list-more, list-done, stored-more, stored-done}
-use Rattle.numbers.proofs.walk_items.Statement.{statement}
-use Rattle.numbers.proofs.walk_items.Tie as tie
-use Rattle.numbers.proofs.walk_items.Reads as reads
-use Rattle.numbers.proofs.walk_items.Lts as lts
+use Rattle.numbers.specs.Lists.{itemsOf, testItems, goodValues}
+use Rattle.numbers.proofs.ListLaws.{list-bad, list-more, list-done, stored-more, stored-bad, stored-done}
+use Rattle.numbers.proofs.store_items.Statement.{statement}
+use Rattle.numbers.proofs.store_items.Tie as tie
+use Rattle.numbers.proofs.store_items.Reads as reads
+use Rattle.numbers.proofs.store_items.Lts as lts
 use Rattle.numbers.proofs.read_number.Reads as read-number-reads
 use Rattle.numbers.proofs.store.Reads as store-reads
 use Rattle.text.proofs.scan.Reads as scan-reads
@@ -20,13 +18,12 @@ use Rattle.text.proofs.scan.Reads as scan-reads
 abbrev Inv-loop : tie.InvT-loop
 Inv-loop word least most out₀ i₀ n₀ out i n = (n ≤ i) × (i ≤ length word + 1) × (length out ≡ length out₀)
     × (testItems least most n i (itemsOf (drop i word)) ≡ testItems least most 0 0 (itemsOf word))
-    × (sets out n (map value (itemsOf (drop i word))) ≡ sets out₀ 0 (valuesOf word))
+    × (sets out n (goodValues least most (itemsOf (drop i word))) ≡ sets out₀ 0 (goodValues least most (itemsOf word)))
 
 abbrev μ-loop : tie.MeasureT-loop
 μ-loop word least most out₀ i₀ n₀ out i n = length word + 1 - i
 
 loop-holds : tie.Need-loop-holds Inv-loop μ-loop
-unfolding valuesOf
 loop-holds c = (search needs, search needs, refl, refl, refl)
 
 scan-requires : tie.Need-scan-requires Inv-loop μ-loop
@@ -57,7 +54,7 @@ same-length : tie.Need-same-length Inv-loop μ-loop
 same-length c = search needs
 
 returns : tie.Need-returns Inv-loop μ-loop
-returns c = record { is = search list-bad; stored = λ m q. cc; near = search needs }
+returns c = record { is = search list-bad; stored = search stored-bad; near = search needs }
 
 add-n : tie.Need-add-n Inv-loop μ-loop
 add-n c = search needs
@@ -75,10 +72,10 @@ same-length-2 : tie.Need-same-length-2 Inv-loop μ-loop
 same-length-2 c = search needs
 
 returns-2 : tie.Need-returns-2 Inv-loop μ-loop
-returns-2 c = record { is = search list-done; stored = λ m q. search stored-done; near = search needs }
+returns-2 c = record { is = search list-done; stored = search stored-done; near = search needs }
 
-pub walk-items-spec : {M : Type 1} → statement M
-walk-items-spec =
+pub store-items-spec : {M : Type 1} → statement M
+store-items-spec =
     tie.close
     (tie.spec
     Inv-loop
