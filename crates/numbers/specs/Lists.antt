@@ -46,9 +46,9 @@ thenCount (Faulty why at) rest = Faulty why at
 unfoldable pub listEnd : Bool → ℕ → List ℕ → Spelt → Spelt
 listEnd comma n w found =
     thenCount found (λ m.
-      require (not (openEnd comma w)) NumberMisspelt (length w)
-      (require (eqb m n) ListLength 0
-      (Means m)))
+    require (not (openEnd comma w)) NumberMisspelt (length w)
+    (require (eqb m n) ListLength 0
+    (Means m)))
 
 -- a list of n numbers: all items from the left (4, 5), an empty one at the end among them, and then their number (8)
 unfoldable pub listOf : ℕ → ℕ → Bool → ℕ → List ℕ → Spelt

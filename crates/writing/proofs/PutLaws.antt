@@ -18,7 +18,7 @@ use Rattle.writing.specs.Puts.{onward, Put}
 use Rattle.writing.specs.Answers.{pickWriting, roomAnswer, Wrote}
 
 -- stores past a buffer's end change nothing
-sets-out : (b : List ℕ) (at : ℕ) (xs : List ℕ) → length b ≤ at → sets b at xs ≡ b
+pub sets-out : (b : List ℕ) (at : ℕ) (xs : List ℕ) → length b ≤ at → sets b at xs ≡ b
 sets-out b at [] h = refl
 sets-out b at (x ∷ xs) h = rw (set-out b at x h) (sets-out b (suc at) xs (omega arith))
 

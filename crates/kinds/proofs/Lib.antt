@@ -1,0 +1,2 @@
+pub mod SpellLaws
+pub mod WordLaws
