@@ -1,0 +1,79 @@
+-- A line read by its table of columns.
+use Prim.Native.Nat.{ℕ, zero, suc, _+_, _-_, _≤_}
+use mathlib.Core.Path.{_≡_}
+use mathlib.Core.List.{List, [], _∷_, map}
+use lib.ListN.{take}
+use lib.Seq.{sets}
+use Rattle.ledger.specs.declared.Refusal.{Refusal}
+use Rattle.text.specs.declared.Extent.{Extent}
+use Rattle.text.specs.Words.{nextWord, bytesOf}
+use Rattle.numbers.specs.declared.Spelt.{Spelt}
+use Rattle.numbers.specs.declared.Spelt.the-variants.{Means, Faulty}
+use Rattle.kinds.specs.declared.Kind.{Kind}
+use Rattle.columns.specs.declared.Field.{Field}
+use Rattle.columns.specs.declared.Field.the-variants.{Good, Bad}
+use Rattle.columns.specs.declared.Columns.{Columns}
+use Rattle.columns.specs.declared.Columns.the-variants.{Next, Refused}
+use Rattle.kinds.specs.Kinds.{kindOf, spelt, itemsIn, countAfter, baseAfter}
+
+-- a table has at most so many columns; what stands past them is not read
+abbrev pub columnLimit : ℕ
+columnLimit = 64
+
+-- the columns that a table of codes names
+unfoldable pub tableOf : List ℕ → List Kind
+tableOf codes = map kindOf (take columnLimit codes)
+
+abbrev pub fieldOf : Spelt → Extent → Field
+fieldOf (Means v) w = Good v w
+fieldOf (Faulty why at) w = Bad (record { reason = why; place = w .start + at })
+
+-- the word at or after a place, read as a column of a kind: its value and where it stands
+unfoldable pub fieldFrom : Kind → ℕ → List ℕ → ℕ → Field
+fieldFrom k n s at = fieldOf (spelt k n (bytesOf s (nextWord s at))) (nextWord s at)
+
+abbrev pub thenColumns : Field → (ℕ → Extent → Columns) → Columns
+thenColumns (Good v w) rest = rest v w
+thenColumns (Bad x) rest = Refused x
+
+-- the columns of a table from the left, n being the last count: the first refusal, or the place after the last word
+unfoldable pub columnsFrom : List Kind → ℕ → List ℕ → ℕ → Columns
+columnsFrom [] n s at = Next at
+columnsFrom (k ∷ ks) n s at = thenColumns (fieldFrom k n s at) (λ v w. columnsFrom ks (countAfter k v n) s (w .end))
+
+abbrev pub thenNumbers : Field → (ℕ → Extent → List ℕ) → List ℕ
+thenNumbers (Good v w) rest = rest v w
+thenNumbers (Bad x) rest = []
+
+-- what they hold, two numbers for each column: its value, and where its word starts
+unfoldable pub valuesFrom : List Kind → ℕ → List ℕ → ℕ → List ℕ
+valuesFrom [] n s at = []
+valuesFrom (k ∷ ks) n s at = thenNumbers (fieldFrom k n s at) (λ v w. v ∷ w .start ∷ valuesFrom ks (countAfter k v n) s (w .end))
+
+-- and a table of numbers with the lists stored in it from a base on
+unfoldable pub listsFrom : List Kind → ℕ → List ℕ → ℕ → ℕ → List ℕ → List ℕ
+listsFrom [] n s at base d = d
+listsFrom (k ∷ ks) n s at base d =
+    thenNumbers (fieldFrom k n s at) (λ v w. listsFrom ks (countAfter k v n) s (w .end) (baseAfter k base) (sets d base (itemsIn k (bytesOf s w))))
+
+-- what reading one field promises
+pub record FieldRead (k : Kind) (n : ℕ) (s : List ℕ) (at base : ℕ) (before after : List ℕ) (r : Field) : Type 0 where
+  pub result : r ≡ fieldFrom k n s at
+  pub stored : after ≡ sets before base (itemsIn k (bytesOf s (nextWord s at)))
+
+-- what one walk over the columns promises
+pub record ColumnsWalked (table : List Kind) (s : List ℕ) (from : ℕ) (out out′ lists lists′ : List ℕ) (r : Columns) : Type 0 where
+  pub result : r ≡ columnsFrom table 0 s from
+  pub stored : (e : ℕ) → r ≡ Next e → out′ ≡ sets out 0 (valuesFrom table 0 s from)
+  pub held : (e : ℕ) → r ≡ Next e → lists′ ≡ listsFrom table 0 s from 0 lists
+
+-- what a table holds after the columns were read, or refused
+abbrev pub tableAfter : Columns → List ℕ → List ℕ → List ℕ
+tableAfter (Next e) after before = after
+tableAfter (Refused x) after before = before
+
+-- what reading a line by its table promises: the answer, the values and the lists; a refusal leaves both tables as they were
+pub record ColumnsRead (table : List Kind) (s : List ℕ) (from : ℕ) (out out′ lists lists′ : List ℕ) (r : Columns) : Type 0 where
+  pub result : r ≡ columnsFrom table 0 s from
+  pub stored : out′ ≡ tableAfter r (sets out 0 (valuesFrom table 0 s from)) out
+  pub held : lists′ ≡ tableAfter r (listsFrom table 0 s from 0 lists) lists

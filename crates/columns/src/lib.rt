@@ -1,0 +1,148 @@
+// A line by its table of columns: one loop reads a line by any table, and one writes it.
+ghost use mathlib.Core.Path.{_≡_};
+ghost use Prim.Native.Nat.{_+_, _*_, _≤_, min};
+ghost use mathlib.Core.List.{map};
+ghost use lib.ListN.{length, set, getD};
+ghost use Rattle.ledger.specs.Limits.{blockLimit};
+ghost use Rattle.text.specs.Words.{bytesOf};
+ghost use Rattle.writing.specs.Puts.{Put};
+ghost use Rattle.writing.specs.Answers.{Wrote};
+ghost use Rattle.kinds.specs.Kinds.{kindOf, spelt, itemsIn, baseAfter, Spelled};
+ghost use Rattle.columns.specs.Columns.{columnLimit, tableOf, FieldRead, ColumnsWalked, ColumnsRead};
+ghost use Rattle.columns.specs.Lines.{gapOf, lineFrom, lineText, fedLine};
+use kinds::Kind;
+use ledger::Refusal;
+use numbers::Spelt;
+use text::Extent;
+use writing::Writing;
+
+// A table has at most so many columns.
+pub const COLUMN_LIMIT: usize = 64;
+
+// One column read: its value and where its word stands, or the refusal.
+pub enum Field {
+    Good(u64, Extent),
+    Bad(Refusal),
+}
+
+// All columns read: the place after the last word, or the first refusal.
+pub enum Columns {
+    Next(usize),
+    Refused(Refusal),
+}
+
+fn least(a: usize, b: usize) -> usize
+    ensures { λ r. ⌜ r ≡ min a b ⌝ }
+{
+    if a < b { a } else { b }
+}
+
+// What an extent of a text spells. What lies outside the text holds no bytes.
+fn spell_in(
+    kind: Kind,
+    count: u64,
+    text: &[u8],
+    word: Extent,
+    base: usize,
+    lists: &mut [u64],
+) -> Spelt
+    ensures { λ r. ⌜ Spelled (spelt kind count (bytesOf (now (text .entry)) word)) (bytesOf (now (text .entry)) word) (itemsIn kind (bytesOf (now (text .entry)) word)) base (now (lists .entry)) (now (lists .exit)) r ⌝ }
+{
+    let e = least(word.end, text.len());
+    let a = least(word.start, e);
+    kinds::spell(kind, count, &text[a..e], base, lists)
+}
+
+// The word at or after a place, read as a column of a kind.
+fn read_field(
+    kind: Kind,
+    count: u64,
+    text: &[u8],
+    at: usize,
+    base: usize,
+    lists: &mut [u64],
+) -> Field
+    ensures { λ r. ⌜ FieldRead kind count (now (text .entry)) at base (now (lists .entry)) (now (lists .exit)) r ⌝ }
+{
+    let w = text::next_word(text, at);
+    match spell_in(kind, count, text, w, base, lists) {
+        Spelt::Means(v) => Field::Good(v, w),
+        Spelt::Faulty(reason, off) => Field::Bad(Refusal {
+            reason,
+            place: w.start + off,
+        }),
+    }
+}
+
+// Where the next list is stored.
+fn base_after(kind: Kind, base: usize) -> usize
+    requires { ⌜ base ≤ columnLimit * blockLimit ⌝ }
+    ensures { λ r. ⌜ (r ≡ baseAfter kind base) × (r ≤ base + blockLimit) ⌝ }
+{
+    if kinds::is_list(kind) {
+        base + ledger::BLOCK_LIMIT as usize
+    } else {
+        base
+    }
+}
+
+fn store_pair(out: &mut [u64], k: usize, v: u64, p: u64)
+    requires { ⌜ k ≤ columnLimit ⌝ }
+    ensures { λ _. ⌜ now (out .exit) ≡ set (set (now (out .entry)) (2 * k) v) (2 * k + 1) p ⌝ }
+{
+    numbers::store(out, 2 * k, v);
+    numbers::store(out, 2 * k + 1, p);
+}
+
+// One walk over the columns, storing values and lists as it goes.
+fn walk_columns(
+    text: &[u8],
+    from: usize,
+    table: &[u8],
+    out: &mut [u64],
+    lists: &mut [u64],
+) -> Columns
+    requires { ⌜ length (now table) ≤ columnLimit ⌝ }
+    ensures { λ r. ⌜ ColumnsWalked (map kindOf (now (table .entry))) (now (text .entry)) from (now (out .entry)) (now (out .exit)) (now (lists .entry)) (now (lists .exit)) r ⌝ }
+{
+    let mut at = from;
+    let mut count = 0;
+    let mut base = 0;
+    let mut k = 0;
+    while k < table.len() {
+        let kind = kinds::kind_of(table[k]);
+        match read_field(kind, count, text, at, base, lists) {
+            Field::Good(v, w) => {
+                store_pair(out, k, v, w.start as u64);
+                count = kinds::count_after(kind, v, count);
+                base = base_after(kind, base);
+                at = w.end;
+            }
+            Field::Bad(x) => {
+                return Columns::Refused(x);
+            }
+        }
+        k += 1;
+    }
+    Columns::Next(at)
+}
+
+// Reads the words of a line from a place on by a table of columns, in order: for each its value and where its word starts, and the
+// lists, room for a record's blocks each. The first walk stores nothing, so a refusal leaves both tables as they were.
+pub fn read_columns(
+    text: &[u8],
+    from: usize,
+    table: &[u8],
+    out: &mut [u64],
+    lists: &mut [u64],
+) -> Columns
+    ensures { λ r. ⌜ ColumnsRead (tableOf (now (table .entry))) (now (text .entry)) from (now (out .entry)) (now (out .exit)) (now (lists .entry)) (now (lists .exit)) r ⌝ }
+{
+    let n = least(COLUMN_LIMIT, table.len());
+    let mut no_values = [0u64; 0];
+    let mut no_lists = [0u64; 0];
+    match walk_columns(text, from, &table[..n], &mut no_values, &mut no_lists) {
+        Columns::Refused(x) => Columns::Refused(x),
+        Columns::Next(_) => walk_columns(text, from, &table[..n], out, lists),
+    }
+}
