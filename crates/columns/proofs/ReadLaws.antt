@@ -116,9 +116,9 @@ codes-in n codes e =
     rw e
     (either columnLimit (length codes) _ (λ h. let q : min columnLimit (length codes) ≡ columnLimit = omega arith in rw q)
     (λ h.
-      let q : min columnLimit (length codes) ≡ length codes = omega arith in
-      let l : length codes ≤ columnLimit = omega arith in
-      rw (q, take-all (length codes) codes (omega arith), take-all columnLimit codes l)))
+    let q : min columnLimit (length codes) ≡ length codes = omega arith in
+    let l : length codes ≤ columnLimit = omega arith in
+    rw (q, take-all (length codes) codes (omega arith), take-all columnLimit codes l)))
 
 pub codes-length : (n : ℕ) (codes : List ℕ) → n ≡ min columnLimit (length codes) → n ≡ length (take n codes)
 codes-length n codes e = rw length-take (omega arith)

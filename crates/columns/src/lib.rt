@@ -146,3 +146,83 @@ pub fn read_columns(
         Columns::Next(_) => walk_columns(text, from, &table[..n], out, lists),
     }
 }
+
+// What stands before column k: nothing before the first, then the separator.
+fn put_gap(buf: &mut [u8], at: usize, k: usize, sep: u8) -> usize
+    ensures { λ r. ⌜ Put (gapOf k sep) at (now (buf .entry)) (now (buf .exit)) r ⌝ }
+{
+    if k == 0 {
+        return at;
+    }
+    writing::put_byte(buf, at, sep)
+}
+
+fn value_at(values: &[u64], i: usize) -> u64
+    ensures { λ r. ⌜ r ≡ getD (now (values .entry)) i 0 ⌝ }
+{
+    if i < values.len() { values[i] } else { 0 }
+}
+
+// Stores the words of a line by a table of columns, from the values and lists as a reader leaves them and the text that the names stand in.
+fn put_columns(
+    buf: &mut [u8],
+    at: usize,
+    table: &[u8],
+    sep: u8,
+    text: &[u8],
+    values: &[u64],
+    lists: &[u64],
+) -> usize
+    requires { ⌜ length (now table) ≤ columnLimit ⌝ }
+    ensures { λ r. ⌜ Put (lineText (map kindOf (now (table .entry))) sep (now (text .entry)) (now (values .entry)) (now (lists .entry))) at (now (buf .entry)) (now (buf .exit)) r ⌝ }
+{
+    let mut p = at;
+    let mut base = 0;
+    let mut k = 0;
+    while k < table.len() {
+        let kind = kinds::kind_of(table[k]);
+        let v = value_at(values, 2 * k);
+        let start = value_at(values, 2 * k + 1);
+        let q = put_gap(buf, p, k, sep);
+        p = kinds::put_word(buf, q, kind, text, lists, base, v, start);
+        base = base_after(kind, base);
+        k += 1;
+    }
+    p
+}
+
+// Stores a whole line, its line feed too.
+pub fn put_line(
+    buf: &mut [u8],
+    at: usize,
+    table: &[u8],
+    sep: u8,
+    text: &[u8],
+    values: &[u64],
+    lists: &[u64],
+) -> usize
+    ensures { λ r. ⌜ Put (fedLine (tableOf (now (table .entry))) sep (now (text .entry)) (now (values .entry)) (now (lists .entry))) at (now (buf .entry)) (now (buf .exit)) r ⌝ }
+{
+    let n = least(COLUMN_LIMIT, table.len());
+    let p = put_columns(buf, at, &table[..n], sep, text, values, lists);
+    writing::put_byte(buf, p, b'\n')
+}
+
+// Writes a whole line to the front of a buffer: a line over the text limit is refused (1), then one over the room (11).
+pub fn write_line(
+    buf: &mut [u8],
+    table: &[u8],
+    sep: u8,
+    text: &[u8],
+    values: &[u64],
+    lists: &[u64],
+) -> Writing
+    ensures { λ r. ⌜ Wrote (fedLine (tableOf (now (table .entry))) sep (now (text .entry)) (now (values .entry)) (now (lists .entry))) (now (buf .entry)) (now (buf .exit)) r ⌝ }
+{
+    let mut none = [0u8; 0];
+    let n = put_line(&mut none, 0, table, sep, text, values, lists);
+    match writing::room_for(n, buf.len()) {
+        Writing::Refused(x) => Writing::Refused(x),
+        Writing::Written(_) => Writing::Written(put_line(buf, 0, table, sep, text, values, lists)),
+    }
+}
