@@ -1,68 +1,19 @@
--- Which values a column may hold, and when two lines of values say the same: what the round trip speaks of.
-use Prim.Native.Nat.{ℕ, zero, suc, _+_, _*_, _≤_, _<_}
-use mathlib.Core.Bool.{Bool, true, false}
+-- Lines of values: which ones a table may hold, and when two of them say the same. The round trip speaks of these.
+use Prim.Native.Nat.{ℕ, zero, suc, _+_, _*_}
 use mathlib.Core.Path.{_≡_}
 use mathlib.Core.List.{List, [], _∷_}
-use lib.ListN.{length, take, drop, getD}
+use lib.ListN.{getD}
 use lib.Seq.{sets}
-use Rattle.ledger.specs.Limits.{nameLimit, colourLimit}
-use Rattle.text.specs.declared.Class.the-variants.{Graphic}
-use Rattle.text.specs.Scan.{run}
-use Rattle.numbers.specs.Ranges.{Between}
-use Rattle.kinds.specs.declared.Range.the-variants.{BlockCount}
 use Rattle.kinds.specs.declared.Kind.{Kind}
-use Rattle.kinds.specs.declared.Kind.the-variants.{Name, Number, Count, Items, Stranded, Word, Colour}
-use Rattle.kinds.specs.Kinds.{leastOf, mostOf, isStrand, countAfter, baseAfter}
-
--- a name is 1 to 64 graphic bytes of the text t
-pub record NameIn (t : List ℕ) (v p : ℕ) : Type 0 where
-  pub some : 1 ≤ v
-  pub short : v ≤ nameLimit
-  pub there : length (take v (drop p t)) ≡ v
-  pub shows : run Graphic (take v (drop p t)) ≡ v
-
--- a list has as many numbers as the last count n says, at least one, each in its range
-pub record ListIn (least most : ℕ) (ls : List ℕ) (n base v : ℕ) : Type 0 where
-  pub some : 1 ≤ v
-  pub count : v ≡ n
-  pub there : length (take v (drop base ls)) ≡ v
-  pub range : Between least most (take v (drop base ls))
-
--- what a column of a kind may hold
-abbrev pub InRange : Kind → List ℕ → List ℕ → ℕ → ℕ → ℕ → ℕ → Type 0
-InRange Name t ls n base v p = NameIn t v p
-InRange (Number r) t ls n base v p = (leastOf r ≤ v) × (v ≤ mostOf r)
-InRange Count t ls n base v p = (leastOf BlockCount ≤ v) × (v ≤ mostOf BlockCount)
-InRange (Items r) t ls n base v p = ListIn (leastOf r) (mostOf r) ls n base v
-InRange (Stranded dot) t ls n base v p = isStrand dot (v ∷ []) ≡ true
-InRange (Word f) t ls n base v p = v ≡ 0
-InRange Colour t ls n base v p = v < suc colourLimit * suc colourLimit * suc colourLimit
+use Rattle.kinds.specs.Kinds.{countAfter, baseAfter}
+use Rattle.kinds.specs.Words.{wordOf}
+use Rattle.kinds.specs.Ranges.{InRange, nameBytes, listIn}
 
 -- the values of the columns from number k on are in range
 pub data Fit (t ls vs : List ℕ) : ℕ → ℕ → ℕ → List Kind → Type 0 where
   fit-none : {n base k : ℕ} → Fit t ls vs n base k []
   fit-more : {n base k : ℕ} {c : Kind} {cs : List Kind} → InRange c t ls n base (getD vs (2 * k) 0) (getD vs (2 * k + 1) 0)
       → Fit t ls vs (countAfter c (getD vs (2 * k) 0) n) (baseAfter c base) (suc k) cs → Fit t ls vs n base k (c ∷ cs)
-
--- the bytes of a name
-abbrev pub nameBytes : Kind → List ℕ → ℕ → ℕ → List ℕ
-nameBytes Name t v p = take v (drop p t)
-nameBytes (Number r) t v p = []
-nameBytes Count t v p = []
-nameBytes (Items r) t v p = []
-nameBytes (Stranded dot) t v p = []
-nameBytes (Word f) t v p = []
-nameBytes Colour t v p = []
-
--- the numbers of a list
-abbrev pub listIn : Kind → List ℕ → ℕ → ℕ → List ℕ
-listIn Name ls base v = []
-listIn (Number r) ls base v = []
-listIn Count ls base v = []
-listIn (Items r) ls base v = take v (drop base ls)
-listIn (Stranded dot) ls base v = []
-listIn (Word f) ls base v = []
-listIn Colour ls base v = []
 
 -- what was read, got in s, is what was written, vs in t: each value the same, and each name the same bytes
 pub data Same (s t vs : List ℕ) : ℕ → List Kind → List ℕ → Type 0 where
@@ -74,3 +25,8 @@ pub data Same (s t vs : List ℕ) : ℕ → List Kind → List ℕ → Type 0 wh
 unfoldable pub copied : ℕ → ℕ → List Kind → List ℕ → List ℕ → List ℕ → List ℕ
 copied k base [] vs ls d = d
 copied k base (c ∷ cs) vs ls d = copied (suc k) (baseAfter c base) cs vs ls (sets d base (listIn c ls base (getD vs (2 * k) 0)))
+
+-- the words of the columns from number k on
+unfoldable pub wordsFrom : ℕ → ℕ → List Kind → List ℕ → List ℕ → List ℕ → List (List ℕ)
+wordsFrom k base [] t vs ls = []
+wordsFrom k base (c ∷ cs) t vs ls = wordOf c t ls base (getD vs (2 * k) 0) (getD vs (2 * k + 1) 0) ∷ wordsFrom (suc k) (baseAfter c base) cs t vs ls

@@ -16,7 +16,7 @@ use Rattle.text.proofs.PieceLaws.{pieces-join}
 use Rattle.text.proofs.TextLaws.{All, all-append}
 use Rattle.numbers.specs.declared.Spelt.the-variants.{Means}
 use Rattle.numbers.specs.Numbers.{numberOf, value}
-use Rattle.numbers.specs.Lists.{itemsOf, testItems, valuesOf, openEnd, listEnd, listOf}
+use Rattle.numbers.specs.Lists.{itemsOf, testItems, valuesOf, goodValues, openEnd, listEnd, listOf}
 use Rattle.writing.specs.Digits.{digits, listText}
 use Rattle.writing.specs.Puts.{Put}
 use Rattle.numbers.specs.Ranges.{Between, between-none, between-more}
@@ -63,6 +63,15 @@ digit-test least most n at [] l between-none = ap Means (omega arith)
 digit-test least most n at (v ∷ vs) l (between-more low high t) =
     let e : n + 1 + length vs ≡ n + suc (length vs) = omega arith in
     rw (number-digits least most v low high (omega arith)) (digit-test least most (n + 1) (at + length (digits v) + 1) vs l t ∙ ap Means e)
+
+digit-good : (least most : ℕ) (vs : List ℕ) → most < Most → Between least most vs → goodValues least most (map digits vs) ≡ vs
+unfolding goodValues
+digit-good least most [] l between-none = refl
+digit-good least most (v ∷ vs) l (between-more low high t) = rw (number-digits least most v low high (omega arith)) (ap (λ (x : List ℕ). v ∷ x) (digit-good least most vs l t))
+
+-- and all of them are stored
+pub list-good : (least most : ℕ) (vs : List ℕ) → most < Most → Between least most vs → goodValues least most (itemsOf (listText vs)) ≡ vs
+list-good least most vs l h = rw (list-items vs) (digit-good least most vs l h)
 
 pub list-some : (vs : List ℕ) → 0 < length vs → 0 < length (listText vs)
 unfolding listText
