@@ -1,3 +1,4 @@
 pub mod ReadLaws
 pub mod LineLaws
 pub mod BackLaws
+pub mod SpellsLaws

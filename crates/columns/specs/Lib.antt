@@ -1,3 +1,4 @@
 pub mod Columns
+pub mod Spells
 pub mod Lines
 pub mod Ranges

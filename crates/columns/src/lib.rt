@@ -46,7 +46,9 @@ fn spell_in(
     base: usize,
     lists: &mut [u64],
 ) -> Spelt
-    ensures { λ r. ⌜ Spelled (spelt kind count (bytesOf (now (text .entry)) word)) (bytesOf (now (text .entry)) word) (itemsIn kind (bytesOf (now (text .entry)) word)) base (now (lists .entry)) (now (lists .exit)) r ⌝ }
+    ensures { λ r. ⌜ Spelled (spelt kind count (bytesOf (now (text .entry)) word)) (bytesOf
+        (now (text .entry)) word) (itemsIn kind (bytesOf (now (text .entry)) word)) base (now (lists .entry))
+        (now (lists .exit)) r ⌝ }
 {
     let e = least(word.end, text.len());
     let a = least(word.start, e);
@@ -103,7 +105,8 @@ fn walk_columns(
     lists: &mut [u64],
 ) -> Columns
     requires { ⌜ length (now table) ≤ columnLimit ⌝ }
-    ensures { λ r. ⌜ ColumnsWalked (map kindOf (now (table .entry))) (now (text .entry)) from (now (out .entry)) (now (out .exit)) (now (lists .entry)) (now (lists .exit)) r ⌝ }
+    ensures { λ r. ⌜ ColumnsWalked (map kindOf (now (table .entry))) (now (text .entry)) from (now (out .entry)) (now (out .exit))
+        (now (lists .entry)) (now (lists .exit)) r ⌝ }
 {
     let mut at = from;
     let mut count = 0;
@@ -136,7 +139,8 @@ pub fn read_columns(
     out: &mut [u64],
     lists: &mut [u64],
 ) -> Columns
-    ensures { λ r. ⌜ ColumnsRead (tableOf (now (table .entry))) (now (text .entry)) from (now (out .entry)) (now (out .exit)) (now (lists .entry)) (now (lists .exit)) r ⌝ }
+    ensures { λ r. ⌜ ColumnsRead (tableOf (now (table .entry))) (now (text .entry)) from (now (out .entry)) (now (out .exit))
+        (now (lists .entry)) (now (lists .exit)) r ⌝ }
 {
     let n = least(COLUMN_LIMIT, table.len());
     let mut no_values = [0u64; 0];
@@ -174,7 +178,8 @@ fn put_columns(
     lists: &[u64],
 ) -> usize
     requires { ⌜ length (now table) ≤ columnLimit ⌝ }
-    ensures { λ r. ⌜ Put (lineText (map kindOf (now (table .entry))) sep (now (text .entry)) (now (values .entry)) (now (lists .entry))) at (now (buf .entry)) (now (buf .exit)) r ⌝ }
+    ensures { λ r. ⌜ Put (lineText (map kindOf (now (table .entry))) sep (now (text .entry)) (now (values .entry))
+        (now (lists .entry))) at (now (buf .entry)) (now (buf .exit)) r ⌝ }
 {
     let mut p = at;
     let mut base = 0;
@@ -201,7 +206,8 @@ pub fn put_line(
     values: &[u64],
     lists: &[u64],
 ) -> usize
-    ensures { λ r. ⌜ Put (fedLine (tableOf (now (table .entry))) sep (now (text .entry)) (now (values .entry)) (now (lists .entry))) at (now (buf .entry)) (now (buf .exit)) r ⌝ }
+    ensures { λ r. ⌜ Put (fedLine (tableOf (now (table .entry))) sep (now (text .entry)) (now (values .entry))
+        (now (lists .entry))) at (now (buf .entry)) (now (buf .exit)) r ⌝ }
 {
     let n = least(COLUMN_LIMIT, table.len());
     let p = put_columns(buf, at, &table[..n], sep, text, values, lists);
@@ -217,7 +223,8 @@ pub fn write_line(
     values: &[u64],
     lists: &[u64],
 ) -> Writing
-    ensures { λ r. ⌜ Wrote (fedLine (tableOf (now (table .entry))) sep (now (text .entry)) (now (values .entry)) (now (lists .entry))) (now (buf .entry)) (now (buf .exit)) r ⌝ }
+    ensures { λ r. ⌜ Wrote (fedLine (tableOf (now (table .entry))) sep (now (text .entry)) (now (values .entry))
+        (now (lists .entry))) (now (buf .entry)) (now (buf .exit)) r ⌝ }
 {
     let mut none = [0u8; 0];
     let n = put_line(&mut none, 0, table, sep, text, values, lists);

@@ -201,7 +201,9 @@ fn least(a: usize, b: usize) -> usize
 
 // A comma list of so many numbers, stored in a table from a base on.
 fn list_word(r: Range, count: u64, word: &[u8], base: usize, lists: &mut [u64]) -> Spelt
-    ensures { λ x. ⌜ Spelled (listOf (leastOf r) (mostOf r) true count (now (word .entry))) (now (word .entry)) (goodValues (leastOf r) (mostOf r) (itemsOf (now (word .entry)))) base (now (lists .entry)) (now (lists .exit)) x ⌝ }
+    ensures { λ x. ⌜ Spelled (listOf (leastOf r) (mostOf r) true count (now (word .entry)))
+        (now (word .entry)) (goodValues (leastOf r) (mostOf r) (itemsOf (now (word .entry)))) base (now (lists .entry))
+        (now (lists .exit)) x ⌝ }
 {
     let b = least(base, lists.len());
     let found = numbers::store_items(word, least_of(r), most_of(r), &mut lists[b..]);
@@ -210,7 +212,8 @@ fn list_word(r: Range, count: u64, word: &[u8], base: usize, lists: &mut [u64]) 
 
 // What a word of a kind spells; the numbers of a list are stored from a base on, up to its first bad item.
 pub fn spell(kind: Kind, count: u64, word: &[u8], base: usize, lists: &mut [u64]) -> Spelt
-    ensures { λ r. ⌜ Spelled (spelt kind count (now (word .entry))) (now (word .entry)) (itemsIn kind (now (word .entry))) base (now (lists .entry)) (now (lists .exit)) r ⌝ }
+    ensures { λ r. ⌜ Spelled (spelt kind count (now (word .entry))) (now (word .entry)) (itemsIn kind (now (word .entry))) base
+        (now (lists .entry)) (now (lists .exit)) r ⌝ }
 {
     match kind {
         Kind::Name => read_name(word),

@@ -11,14 +11,14 @@ use lib.Seq.{drop-cons, drop-drop, take-all, take-nil}
 use borrow.Author.Tests.{not-true, not-false, eqb-true, leb-true, leb-false, le-leb, lt-leb, lt-ltb, le-ltb}
 use lib.Dec.{leb, eqb}
 use Rattle.ledger.specs.declared.Part.{Part}
-use Rattle.ledger.specs.declared.Reason.the-variants.{TextTooLong, ByteNotAllowed}
+use Rattle.ledger.specs.declared.Reason.the-variants.{TextTooLong, WrongCount, ByteNotAllowed}
 use Rattle.ledger.specs.Limits.{textLimit}
 use Rattle.text.specs.declared.Class.{Class}
 use Rattle.text.specs.Scan.{isIn, oneMore, run, endOf}
 use Rattle.text.specs.declared.Class.the-variants.{Line, Blank, Word, Allowed}
 use Rattle.text.specs.declared.Extent.{Extent}
 use Rattle.text.specs.declared.Check.the-variants.{Holds, Refused}
-use Rattle.text.specs.Checks.{textCheck}
+use Rattle.text.specs.Checks.{textCheck, lastLineCheck}
 use Rattle.text.specs.Parts.{partIn, partBytes}
 use Rattle.text.specs.Words.{nextWord, wordAt, nextLine, lineEnd, bytesOf}
 
@@ -236,3 +236,13 @@ module _ (s : List ℕ) (p : Part) where
   pub part-cut : (r : Part) → r ≡ partIn s p → take (r .start + r .length - r .start) (drop (r .start) s) ≡ partBytes s (partIn s p)
   unfolding partBytes
   part-cut r is = rw (← is, add-sub-cancel-left)
+
+-- a line after the last one
+module _ (s : List ℕ) (line n : ℕ) (en : n ≡ nextLine s line) where
+  pub line-surplus : n < length s → (w : Extent) → w ≡ nextWord s n → Refused (record { reason = WrongCount; place = w .start }) ≡ lastLineCheck s line
+  unfolding lastLineCheck
+  line-surplus h w ew = rw (← en, lt-leb (length s) n h, ew)
+
+  pub line-last : length s ≤ n → Holds ≡ lastLineCheck s line
+  unfolding lastLineCheck
+  line-last h = rw (← en, le-leb (length s) n h)

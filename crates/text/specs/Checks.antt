@@ -5,12 +5,13 @@ use mathlib.Core.List.{List}
 use lib.ListN.{length}
 use lib.Dec.{leb}
 use Rattle.ledger.specs.declared.Reason.{Reason}
-use Rattle.ledger.specs.declared.Reason.the-variants.{TextTooLong, ByteNotAllowed}
+use Rattle.ledger.specs.declared.Reason.the-variants.{TextTooLong, WrongCount, ByteNotAllowed}
 use Rattle.ledger.specs.Limits.{textLimit}
 use Rattle.text.specs.declared.Class.the-variants.{Allowed}
 use Rattle.text.specs.declared.Check.{Check}
 use Rattle.text.specs.declared.Check.the-variants.{Holds, Refused}
 use Rattle.text.specs.Scan.{endOf}
+use Rattle.text.specs.Words.{nextLine, nextWord}
 
 abbrev pub pickCheck : Bool → Check → Check → Check
 pickCheck true a b = a
@@ -23,3 +24,7 @@ require test why at rest = pickCheck test rest (Refused (record { reason = why; 
 -- at most so many bytes, and each of them allowed
 unfoldable pub textCheck : List ℕ → Check
 textCheck s = require (leb (length s) textLimit) TextTooLong 0 (require (leb (length s) (endOf Allowed s 0)) ByteNotAllowed (endOf Allowed s 0) Holds)
+
+-- a text of one line: the first line after the line that begins at a place is surplus, at its first word, or at its end if it is blank (2)
+unfoldable pub lastLineCheck : List ℕ → ℕ → Check
+lastLineCheck s line = require (leb (length s) (nextLine s line)) WrongCount (nextWord s (nextLine s line) .start) Holds

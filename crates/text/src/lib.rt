@@ -4,7 +4,7 @@ ghost use Prim.Native.Nat.{min};
 ghost use Rattle.text.specs.Scan.{isIn, Scanned};
 ghost use Rattle.text.specs.Words.{nextLine, nextWord, wordAt, wordCount, LineEnd, Found};
 ghost use Rattle.text.specs.Parts.{partIn, partBytes, PartIn};
-ghost use Rattle.text.specs.Checks.{textCheck};
+ghost use Rattle.text.specs.Checks.{textCheck, lastLineCheck};
 use ledger::Part;
 use ledger::Reason;
 use ledger::Refusal;
@@ -132,6 +132,21 @@ pub fn count_words(text: &[u8], line: usize) -> usize
         n += 1;
     }
     n
+}
+
+// Whether the line that begins at a place is the text's last: else the line after it is surplus (2).
+pub fn check_last_line(text: &[u8], line: usize) -> Check
+    ensures { λ r. ⌜ r ≡ lastLineCheck (now (text .entry)) line ⌝ }
+{
+    let next = next_line(text, line);
+    if next < text.len() {
+        let w = next_word(text, next);
+        return Check::Refused(Refusal {
+            reason: Reason::WrongCount,
+            place: w.start,
+        });
+    }
+    Check::Holds
 }
 
 // The part itself where it lies in the text, else the empty part at the text's end.
