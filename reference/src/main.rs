@@ -97,18 +97,15 @@ fn strand(word: &[u8], dot_allowed: bool) -> Answer<Vec<u8>> {
 
 /// The standard digits of a number, and the list of that one item.
 fn digits(word: &[u8]) -> Vec<u8> {
-    let number = std::str::from_utf8(word)
-        .ok()
-        .and_then(|digits| digits.parse().ok());
-    match number {
-        Some(number) => [
+    match text::number(word, 0, u64::MAX) {
+        Ok(number) => [
             b"digits ".to_vec(),
             Value::Number(number).standard(),
             b" list ".to_vec(),
             Value::List(vec![number]).standard(),
         ]
         .concat(),
-        None => b"no number".to_vec(),
+        Err(_) => b"no number".to_vec(),
     }
 }
 

@@ -1,0 +1,494 @@
+// The samples program: one case a line on standard input, one answer a line on standard output. A case is its letter, a space and an
+// escaped payload; empty lines and lines that begin with `#` have no answer. Every answer comes from the libraries.
+ghost use mathlib.Core.Path.{_≡_};
+ghost use Prim.Native.Nat.{_≤_, min, max};
+ghost use lib.ListN.{length};
+use columns::Columns;
+use ledger::Position;
+use ledger::Refusal;
+use numbers::Spelt;
+use text::Check;
+use writing::Writing;
+
+// The columns of a BED line, a PSL line and a chain's header, by the codes of kinds::kind_of.
+const BED: [u8; 12] = [0, 1, 1, 0, 3, 10, 1, 1, 13, 6, 7, 8];
+
+const PSL: [u8; 21] = [
+    1,
+    1,
+    1,
+    1,
+    1,
+    1,
+    1,
+    1,
+    9,
+    0,
+    2,
+    1,
+    1,
+    0,
+    2,
+    1,
+    1,
+    6,
+    7,
+    8,
+    8,
+];
+
+const CHAIN: [u8; 13] = [11, 4, 0, 2, 12, 1, 1, 0, 2, 9, 1, 1, 5];
+
+// The code of a letter whose case is not that of one word.
+const NO_CODE: u8 = 255;
+
+fn least(a: usize, b: usize) -> usize
+    ensures { λ r. ⌜ r ≡ min a b ⌝ }
+{
+    if a < b { a } else { b }
+}
+
+// Room for the values of a line's columns, two numbers each, and for three lists of blocks. The contracts tell only the lengths.
+fn value_table() -> [u64; 64]
+    ensures { λ r. ⌜ 64 ≡ length r ⌝ }
+{
+    [0; 64]
+}
+
+fn list_table() -> [u64; 1536]
+    ensures { λ r. ⌜ 1536 ≡ length r ⌝ }
+{
+    [0; 1536]
+}
+
+// What the front of an escaped text stands for: a byte, and how many bytes spell it.
+struct Unescaped {
+    byte: u8,
+    width: usize,
+}
+
+// The byte at a place, or 0 past the end.
+fn byte_at(s: &[u8], i: usize) -> u8 {
+    if i < s.len() { s[i] } else { 0 }
+}
+
+// A lowercase hexadecimal digit, else 16.
+fn hex_digit(b: u8) -> u8
+    ensures { λ r. ⌜ r ≤ 16 ⌝ }
+{
+    match b {
+        b'0'..=b'9' => b - b'0',
+        b'a'..=b'f' => b - b'a' + 10,
+        _ => 16,
+    }
+}
+
+// The byte that a letter after a backslash stands for, else 0.
+fn short_escape(b: u8) -> u8 {
+    match b {
+        b'n' => b'\n',
+        b't' => b'\t',
+        b's' => b' ',
+        b'\\' => b'\\',
+        _ => 0,
+    }
+}
+
+// A text that begins with a backslash and `x`.
+fn coded(s: &[u8]) -> Unescaped
+    ensures { λ r. ⌜ (1 ≤ r .width) × (r .width ≤ max 1 (length (now (s .entry)))) ⌝ }
+{
+    let plain = Unescaped {
+        byte: b'\\',
+        width: 1,
+    };
+    let high = hex_digit(byte_at(s, 2));
+    let low = hex_digit(byte_at(s, 3));
+    if s.len() < 4 {
+        return plain;
+    }
+    if 15 < high {
+        return plain;
+    }
+    if 15 < low {
+        return plain;
+    }
+    Unescaped {
+        byte: high * 16 + low,
+        width: 4,
+    }
+}
+
+// The front of an escaped text. A backslash that begins no escape stands for itself.
+fn front_of(s: &[u8]) -> Unescaped
+    ensures { λ r. ⌜ (1 ≤ r .width) × (r .width ≤ max 1 (length (now (s .entry)))) ⌝ }
+{
+    let first = byte_at(s, 0);
+    let plain = Unescaped {
+        byte: first,
+        width: 1,
+    };
+    if first != b'\\' {
+        return plain;
+    }
+    if s.len() < 2 {
+        return plain;
+    }
+    if s[1] == b'x' {
+        return coded(s);
+    }
+    let byte = short_escape(s[1]);
+    if byte == 0 {
+        return plain;
+    }
+    Unescaped { byte, width: 2 }
+}
+
+// Stores what an escaped text stands for at the front of a buffer, as far as it reaches: the number of bytes there.
+fn unescape(s: &[u8], buf: &mut [u8]) -> usize
+    ensures { λ r. ⌜ r ≤ length (now (buf .exit)) ⌝ }
+{
+    let mut n = 0;
+    let mut i = 0;
+    while i < s.len() {
+        let u = front_of(&s[i..]);
+        n = writing::put_byte(buf, n, u.byte);
+        i += u.width;
+    }
+    least(n, buf.len())
+}
+
+// A label and a number.
+fn put_labelled(out: &mut [u8], at: usize, label: &[u8], v: u64) -> usize {
+    let a = writing::put_bytes(out, at, label);
+    writing::put_number(out, a, v)
+}
+
+// The reason's number and the place.
+fn put_refusal(out: &mut [u8], at: usize, x: Refusal) -> usize {
+    let reason = x.reason;
+    let a = put_labelled(out, at, b"refused ", reason.number());
+    put_labelled(out, a, b" at ", x.place as u64)
+}
+
+// What was written to the front of a buffer.
+fn put_written(out: &mut [u8], at: usize, buf: &[u8], written: Writing) -> usize {
+    match written {
+        Writing::Refused(x) => put_refusal(out, at, x),
+        Writing::Written(n) => {
+            let m = least(n, buf.len());
+            writing::put_bytes(out, at, &buf[0..m])
+        }
+    }
+}
+
+// Case `t`: the checks of a text.
+fn text_case(s: &[u8], out: &mut [u8], at: usize) -> usize {
+    match text::check_text(s) {
+        Check::Holds => writing::put_bytes(out, at, b"fine"),
+        Check::Refused(x) => put_refusal(out, at, x),
+    }
+}
+
+// Where a line or a word stands.
+fn put_extent(out: &mut [u8], at: usize, start: usize, end: usize) -> usize {
+    let a = writing::put_number(out, at, start as u64);
+    let b = writing::put_byte(out, a, b'-');
+    writing::put_number(out, b, end as u64)
+}
+
+fn put_word_place(out: &mut [u8], at: usize, start: usize, end: usize) -> usize {
+    let a = writing::put_byte(out, at, b' ');
+    put_extent(out, a, start, end)
+}
+
+// The words of one line.
+fn put_words(out: &mut [u8], at: usize, s: &[u8], line: usize) -> usize {
+    let mut p = at;
+    let mut w = text::next_word(s, line);
+    while w.start < w.end {
+        p = put_word_place(out, p, w.start, w.end);
+        w = text::next_word(s, w.end);
+    }
+    p
+}
+
+// What stands before a line: nothing before the first.
+fn put_bar(out: &mut [u8], at: usize, line: usize) -> usize {
+    if line == 0 {
+        return at;
+    }
+    writing::put_bytes(out, at, b" | ")
+}
+
+// Where a line stands, and its words.
+fn put_line_place(out: &mut [u8], at: usize, s: &[u8], line: usize) -> usize {
+    let a = put_bar(out, at, line);
+    let b = put_extent(out, a, line, text::line_end(s, line));
+    let c = writing::put_byte(out, b, b':');
+    put_words(out, c, s, line)
+}
+
+// Case `l`: where the lines of a text stand, and their words.
+fn lines_case(s: &[u8], out: &mut [u8], at: usize) -> usize {
+    if s.len() == 0 {
+        return writing::put_bytes(out, at, b"none");
+    }
+    let mut p = at;
+    let mut line = 0;
+    while line < s.len() {
+        p = put_line_place(out, p, s, line);
+        line = text::next_line(s, line);
+    }
+    p
+}
+
+// The kind of word that a case reads, as a code of kinds::kind_of.
+fn code_of(letter: u8) -> u8 {
+    match letter {
+        b'n' => 0,
+        b'c' => 1,
+        b'z' => 2,
+        b'e' => 3,
+        b's' => 4,
+        b'i' => 5,
+        b'b' => 6,
+        b'+' => 9,
+        b'.' => 10,
+        b'k' => 11,
+        b'r' => 13,
+        _ => NO_CODE,
+    }
+}
+
+fn put_strand(out: &mut [u8], at: usize, v: u64) -> usize {
+    let a = writing::put_bytes(out, at, b"strand ");
+    writing::put_byte(out, a, (v % 256) as u8)
+}
+
+fn put_colour(out: &mut [u8], at: usize, v: u64) -> usize {
+    let a = put_labelled(out, at, b"colour ", v / 256 / 256);
+    let b = put_labelled(out, a, b" ", v / 256 % 256);
+    put_labelled(out, b, b" ", v % 256)
+}
+
+// What a word means, by its case.
+fn put_meaning(out: &mut [u8], at: usize, letter: u8, v: u64) -> usize {
+    match letter {
+        b'n' => put_labelled(out, at, b"name ", v),
+        b'+' => put_strand(out, at, v),
+        b'.' => put_strand(out, at, v),
+        b'k' => writing::put_bytes(out, at, b"chain"),
+        b'r' => put_colour(out, at, v),
+        _ => put_labelled(out, at, b"value ", v),
+    }
+}
+
+// The cases of one word: its kind, and what it means.
+fn word_case(letter: u8, word: &[u8], out: &mut [u8], at: usize) -> usize {
+    let code = code_of(letter);
+    if code == NO_CODE {
+        return writing::put_bytes(out, at, b"unknown case");
+    }
+    let mut none = [0u64; 0];
+    match kinds::spell(kinds::kind_of(code), 0, word, 0, &mut none) {
+        Spelt::Means(v) => put_meaning(out, at, letter, v),
+        Spelt::Faulty(reason, place) => put_refusal(out, at, Refusal { reason, place }),
+    }
+}
+
+// The number of items that a list's case asks for: two, or as many as there are.
+fn items_wanted(letter: u8, word: &[u8], low: u64) -> u64 {
+    if letter == b'2' {
+        return 2;
+    }
+    let mut none = [0u64; 0];
+    match numbers::store_items(word, low, Position::LARGEST, &mut none) {
+        Spelt::Means(n) => n,
+        Spelt::Faulty(_, _) => 0,
+    }
+}
+
+fn put_spaced(out: &mut [u8], at: usize, vs: &[u64]) -> usize {
+    let mut p = at;
+    let mut i = 0;
+    while i < vs.len() {
+        p = put_labelled(out, p, b" ", vs[i]);
+        i += 1;
+    }
+    p
+}
+
+fn put_items(out: &mut [u8], at: usize, vs: &[u64], n: u64) -> usize {
+    let a = put_labelled(out, at, b"count ", n);
+    let b = writing::put_byte(out, a, b':');
+    let m = least(n as usize, vs.len());
+    put_spaced(out, b, &vs[0..m])
+}
+
+// Cases `L`, `Z` and `2`: a comma list of coordinates, of sizes, of two coordinates.
+fn list_case(letter: u8, word: &[u8], out: &mut [u8], at: usize) -> usize {
+    let low = if letter == b'Z' { 1 } else { 0 };
+    let wanted = items_wanted(letter, word, low);
+    let mut items = list_table();
+    match numbers::read_list(word, low, Position::LARGEST, true, wanted, &mut items) {
+        Spelt::Means(n) => put_items(out, at, &items, n),
+        Spelt::Faulty(reason, place) => put_refusal(out, at, Refusal { reason, place }),
+    }
+}
+
+fn put_digits(out: &mut [u8], at: usize, v: u64) -> usize {
+    let mut space = [0u8; 32];
+    let a = writing::put_bytes(out, at, b"digits ");
+    let written = writing::write_number(&mut space, v);
+    put_written(out, a, &space, written)
+}
+
+fn put_one_item(out: &mut [u8], at: usize, v: u64) -> usize {
+    let mut space = [0u8; 32];
+    let a = writing::put_bytes(out, at, b" list ");
+    let written = writing::write_list(&mut space, &[v]);
+    put_written(out, a, &space, written)
+}
+
+// Case `d`: a number of the machine, written alone and as a list of one item.
+fn digits_case(word: &[u8], out: &mut [u8], at: usize) -> usize {
+    match numbers::read_number(word, 0, 18446744073709551615) {
+        Spelt::Faulty(_, _) => writing::put_bytes(out, at, b"no number"),
+        Spelt::Means(v) => {
+            let a = put_digits(out, at, v);
+            put_one_item(out, a, v)
+        }
+    }
+}
+
+// One byte of a line, a tab by its escape.
+fn put_shown(out: &mut [u8], at: usize, b: u8) -> usize {
+    if b == b'\t' {
+        writing::put_bytes(out, at, b"\\t")
+    } else {
+        writing::put_byte(out, at, b)
+    }
+}
+
+// A line's bytes, its tabs by their escape.
+fn put_line(out: &mut [u8], at: usize, line: &[u8]) -> usize {
+    let mut p = at;
+    let mut i = 0;
+    while i < line.len() {
+        p = put_shown(out, p, line[i]);
+        i += 1;
+    }
+    p
+}
+
+// The first line of a buffer, without its line feed.
+fn put_first_line(out: &mut [u8], at: usize, buf: &[u8], n: usize) -> usize {
+    let m = least(n, buf.len());
+    let e = text::line_end(&buf[0..m], 0);
+    put_line(out, at, &buf[0..e])
+}
+
+// The standard line of what was read.
+fn put_standard(
+    out: &mut [u8],
+    at: usize,
+    table: &[u8],
+    sep: u8,
+    line: &[u8],
+    values: &[u64],
+    lists: &[u64],
+) -> usize {
+    let mut space = io::large_buffer();
+    match columns::write_line(&mut space, table, sep, line, values, lists) {
+        Writing::Refused(x) => put_refusal(out, at, x),
+        Writing::Written(n) => put_first_line(out, at, &space, n),
+    }
+}
+
+// Cases `B`, `P` and `C`: a line read by its table of columns and written back.
+fn columns_case(line: &[u8], table: &[u8], sep: u8, out: &mut [u8], at: usize) -> usize {
+    let mut values = value_table();
+    let mut lists = list_table();
+    match columns::read_columns(line, 0, table, &mut values, &mut lists) {
+        Columns::Refused(x) => put_refusal(out, at, x),
+        Columns::Next(_) => put_standard(out, at, table, sep, line, &values, &lists),
+    }
+}
+
+// The answer of a case, by its letter.
+fn answer(letter: u8, payload: &[u8], out: &mut [u8], at: usize) -> usize {
+    match letter {
+        b't' => text_case(payload, out, at),
+        b'l' => lines_case(payload, out, at),
+        b'L' => list_case(letter, payload, out, at),
+        b'Z' => list_case(letter, payload, out, at),
+        b'2' => list_case(letter, payload, out, at),
+        b'd' => digits_case(payload, out, at),
+        b'B' => columns_case(payload, &BED, b'\t', out, at),
+        b'P' => columns_case(payload, &PSL, b'\t', out, at),
+        b'C' => columns_case(payload, &CHAIN, b' ', out, at),
+        _ => word_case(letter, payload, out, at),
+    }
+}
+
+// The answer to the case of a letter and an escaped payload, which a buffer takes.
+fn answer_escaped(
+    letter: u8,
+    escaped: &[u8],
+    space: &mut [u8],
+    out: &mut [u8],
+    at: usize,
+) -> usize {
+    let n = unescape(escaped, space);
+    answer(letter, &space[0..n], out, at)
+}
+
+// The answer of a line's case. A line of one byte has an empty payload.
+fn answer_case(line: &[u8], out: &mut [u8], at: usize) -> usize {
+    if 1 < line.len() {
+        if line[1] != b' ' {
+            return writing::put_bytes(out, at, b"unknown case");
+        }
+    }
+    let start = least(2, line.len());
+    let mut space = io::large_buffer();
+    answer_escaped(byte_at(line, 0), &line[start..], &mut space, out, at)
+}
+
+// The answer to one line of the input: its letter again, a space, the answer and a line feed.
+fn answer_line(line: &[u8], out: &mut [u8], at: usize) -> usize {
+    let letter = byte_at(line, 0);
+    if (line.len() == 0) | (letter == b'#') {
+        return at;
+    }
+    let a = writing::put_byte(out, at, letter);
+    let b = writing::put_byte(out, a, b' ');
+    let c = answer_case(line, out, b);
+    writing::put_byte(out, c, b'\n')
+}
+
+fn answer_lines(input: &[u8], out: &mut [u8]) -> usize {
+    let mut p = 0;
+    let mut line = 0;
+    while line < input.len() {
+        let e = text::line_end(input, line);
+        p = answer_line(&input[line..e], out, p);
+        line = text::next_line(input, line);
+    }
+    p
+}
+
+// Writes the front of a buffer to standard output.
+fn print(buf: &[u8], n: usize) {
+    let m = least(n, buf.len());
+    io::write_all(1, &buf[0..m]);
+}
+
+fn main() {
+    let mut input = io::large_buffer();
+    let n = io::read_full(0, &mut input);
+    let mut out = io::large_buffer();
+    let m = answer_lines(&input[..n], &mut out);
+    print(&out, m);
+}
