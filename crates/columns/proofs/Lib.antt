@@ -2,3 +2,4 @@ pub mod ReadLaws
 pub mod LineLaws
 pub mod BackLaws
 pub mod SpellsLaws
+pub mod PlaceLaws

@@ -82,7 +82,7 @@ spells-length spells-none = (refl, refl)
 spells-length (spells-more p t) = let r = spells-length t in (ap suc (r .0), ap suc (r .1))
 
 -- a word's place, by its number
-word-later : (s : List ℕ) (at k : ℕ) → wordAt s at (suc k) ≡ wordAt s (nextWord s at .end) k
+pub word-later : (s : List ℕ) (at k : ℕ) → wordAt s at (suc k) ≡ wordAt s (nextWord s at .end) k
 unfolding wordAt
 word-later s at zero = refl
 word-later s at (suc k) = ap (λ (w : Extent). nextWord s (w .end)) (word-later s at k)

@@ -2,3 +2,4 @@ pub mod Columns
 pub mod Spells
 pub mod Lines
 pub mod Ranges
+pub mod Places

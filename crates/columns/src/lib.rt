@@ -161,7 +161,8 @@ fn put_gap(buf: &mut [u8], at: usize, k: usize, sep: u8) -> usize
     writing::put_byte(buf, at, sep)
 }
 
-fn value_at(values: &[u64], i: usize) -> u64
+// The number at a place of a table; 0 past its end.
+pub fn value_at(values: &[u64], i: usize) -> u64
     ensures { λ r. ⌜ r ≡ getD (now (values .entry)) i 0 ⌝ }
 {
     if i < values.len() { values[i] } else { 0 }

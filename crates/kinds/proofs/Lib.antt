@@ -1,3 +1,4 @@
 pub mod SpellLaws
 pub mod WordLaws
 pub mod BackLaws
+pub mod RangeLaws

@@ -39,6 +39,10 @@ colourLimit = 255
 abbrev pub largestPlace : ℕ
 largestPlace = 18446744073709551615
 
+-- the largest number that a word of the machine holds
+abbrev pub largestNumber : ℕ
+largestNumber = largestPlace
+
 -- whether a number is a coordinate
 abbrev pub inCoordinates : ℕ → Bool
 inCoordinates n = leb n largestPosition

@@ -28,6 +28,9 @@ pub const COLOUR_LIMIT: u64 = 255;
 // The largest place that a word of the machine holds.
 pub const LARGEST_PLACE: usize = 18446744073709551615;
 
+// The largest number that a word of the machine holds.
+pub const LARGEST_NUMBER: u64 = 18446744073709551615;
+
 // A position in a sequence, a size or a count: 01's coordinate.
 pub struct Position {
     pub base: u64,

@@ -1,0 +1,155 @@
+// The rules of blocks over flat slices: order, span, sums and ranges; and moving blocks between tables.
+ghost use mathlib.Core.Path.{_≡_};
+ghost use Prim.Native.Nat.{min};
+ghost use lib.ListN.{take};
+ghost use lib.Seq.{sets};
+ghost use Rattle.ledger.specs.Limits.{largestNumber};
+ghost use Rattle.blocks.specs.Blocks.{blocksFill, areSums, sumsWithin, allBetween, countFits, rowsOf};
+
+// How many of the first so many rows a slice of some length has.
+fn reach(len: usize, count: usize) -> usize
+    ensures { λ r. ⌜ r ≡ min count len ⌝ }
+{
+    if len < count { len } else { count }
+}
+
+// Whether the first so many blocks fill the span from first to last: in order, touching allowed. Where one slice ends before the other, they do not.
+pub fn blocks_fill(starts: &[u64], sizes: &[u64], count: usize, first: u64, last: u64) -> bool
+    ensures { λ r. ⌜ r ≡ blocksFill first last (take count (now (starts .entry))) (take count (now (sizes .entry))) ⌝ }
+{
+    let n = reach(starts.len(), count);
+    if reach(sizes.len(), count) != n {
+        return false;
+    }
+    if n == 0 {
+        return false;
+    }
+    let mut s = starts[0];
+    let mut z = sizes[0];
+    if s != first {
+        return false;
+    }
+    let mut i = 1;
+    while i < n {
+        let x = starts[i];
+        if x < s {
+            return false;
+        }
+        if x - s < z {
+            return false;
+        }
+        s = x;
+        z = sizes[i];
+        i += 1;
+    }
+    if last < s {
+        return false;
+    }
+    last - s == z
+}
+
+// Whether the first so many numbers are the sums of the earlier sizes. Where one slice ends before the other, they are not.
+pub fn are_sums(queries: &[u64], sizes: &[u64], count: usize) -> bool
+    ensures { λ r. ⌜ r ≡ areSums 0 (take count (now (queries .entry))) (take count (now (sizes .entry))) ⌝ }
+{
+    let n = reach(queries.len(), count);
+    if reach(sizes.len(), count) != n {
+        return false;
+    }
+    if n == 0 {
+        return true;
+    }
+    let mut q = queries[0];
+    let mut z = sizes[0];
+    if q != 0 {
+        return false;
+    }
+    let mut i = 1;
+    while i < n {
+        let x = queries[i];
+        if x < q {
+            return false;
+        }
+        if x - q != z {
+            return false;
+        }
+        q = x;
+        z = sizes[i];
+        i += 1;
+    }
+    true
+}
+
+// Whether the first so many numbers lie in a range.
+pub fn all_between(values: &[u64], count: usize, least: u64, most: u64) -> bool
+    ensures { λ r. ⌜ r ≡ allBetween least most (take count (now (values .entry))) ⌝ }
+{
+    let n = reach(values.len(), count);
+    let mut i = 0;
+    while i < n {
+        if values[i] < least {
+            return false;
+        }
+        if most < values[i] {
+            return false;
+        }
+        i += 1;
+    }
+    true
+}
+
+// Copies the first so many numbers to the front of a table, as far as both reach.
+pub fn copy_numbers(from: &[u64], count: usize, to: &mut [u64])
+    ensures { λ _. ⌜ now (to .exit) ≡ sets (now (to .entry)) 0 (take count (now (from .entry))) ⌝ }
+{
+    let n = reach(from.len(), count);
+    let mut i = 0;
+    while i < n {
+        numbers::store(to, i, from[i]);
+        i += 1;
+    }
+}
+
+// Puts the sums of the earlier sizes at the front of a table, as far as it reaches, for the first so many sizes. A sum that 64 bits do not hold ends them.
+pub fn put_sums(sizes: &[u64], count: usize, to: &mut [u64])
+    ensures { λ _. ⌜ now (to .exit) ≡ sets (now (to .entry)) 0 (sumsWithin largestNumber 0 (take count (now (sizes .entry)))) ⌝ }
+{
+    let n = reach(sizes.len(), count);
+    let mut sum: u64 = 0;
+    let mut i = 0;
+    while i < n {
+        numbers::store(to, i, sum);
+        let z = sizes[i];
+        if ledger::LARGEST_NUMBER - sum < z {
+            return;
+        }
+        sum += z;
+        i += 1;
+    }
+}
+
+// The number of rows of a table of three slices.
+pub fn rows_of(targets: &[u64], queries: &[u64], sizes: &[u64]) -> usize
+    ensures { λ r. ⌜ r ≡ rowsOf (now (targets .entry)) (now (queries .entry)) (now (sizes .entry)) ⌝ }
+{
+    let a = targets.len();
+    let b = queries.len();
+    let c = sizes.len();
+    if b < c {
+        if a < b {
+            return a;
+        }
+        return b;
+    }
+    if a < c {
+        return a;
+    }
+    c
+}
+
+// Whether a count of blocks is one: 1 to the limit, and not past the table.
+pub fn count_fits(count: u64, rows: usize) -> bool
+    ensures { λ r. ⌜ r ≡ countFits count rows ⌝ }
+{
+    (1 <= count) & ((count <= ledger::BLOCK_LIMIT) & (count <= rows as u64))
+}
