@@ -1,0 +1,266 @@
+-- From BED's table of columns to its record: what the columns read hold. Assumes nothing.
+use mathlib.Core.Path.{_≡_, refl, sym, ap, _∙_}
+use mathlib.Core.Bool.{Bool, true, false, not, _&&_, _||_}
+use mathlib.Core.List.{List, [], _∷_, _++_, map}
+use Prim.Native.Nat.{ℕ, zero, suc, _+_, _-_, _*_, _≤_, _<_, min}
+use native.Mathlib.Omega.{arith}
+use lib.ListN.{length, replicate, getD, take, drop, length-take, List·getD-append, List·getD-eq-default}
+use lib.Seq.{sets, sets-eq, take-all, getD-append-add, getD-drop}
+use lib.Dec.{leb, ltb, eqb}
+use borrow.Author.Tests.{lt-ltb, le-ltb, leb-true, leb-false, eqb-true, eqb-false, eq-eqb, ne-eqb}
+use Rattle.ledger.specs.Limits.{blockLimit, largestPosition}
+use Rattle.ledger.specs.declared.Refusal.{Refusal}
+use Rattle.text.specs.declared.Check.{Check}
+use Rattle.text.specs.declared.Check.the-variants.{Holds}
+use Rattle.text.specs.declared.Check.the-variants as check
+use Rattle.text.specs.Checks.{pickCheck, textCheck}
+use Rattle.text.specs.Words.{wordAt, wordCount, bytesOf}
+use Rattle.text.specs.Pieces.{wordsOf, lineOf}
+use Rattle.text.proofs.PieceLaws.{word-bytes}
+use Rattle.text.proofs.Laws.{either}
+use Rattle.numbers.specs.declared.Spelt.the-variants.{Means}
+use Rattle.numbers.specs.Ranges.{Between}
+use Rattle.numbers.specs.Lists.{valuesOf}
+use Rattle.kinds.specs.declared.Kind.{Kind}
+use Rattle.kinds.specs.declared.Range.the-variants.{Coordinate, Size}
+use Rattle.kinds.specs.Kinds.{kindOf, spelt, itemsIn}
+use Rattle.kinds.proofs.RangeLaws.{count-spelt, items-spelt}
+use Rattle.columns.specs.declared.Columns.{Columns}
+use Rattle.columns.specs.declared.Columns.the-variants.{Next}
+use Rattle.columns.specs.declared.Columns.the-variants as columns
+use Rattle.columns.specs.Columns.{columnLimit, tableOf, columnsFrom, valuesFrom, listsFrom, ColumnsRead}
+use Rattle.columns.specs.Spells.{Spells, firsts}
+use Rattle.columns.specs.Places.{kindAt, countBefore, baseBefore}
+use Rattle.columns.proofs.SpellsLaws.{columns-spell}
+use Rattle.columns.proofs.PlaceLaws.{spelt-at, value-first, values-length, lists-length, lists-at}
+use Rattle.bed.specs.declared.Bed.{Bed}
+use Rattle.bed.specs.declared.BedAnswer.{BedAnswer}
+use Rattle.bed.specs.declared.BedAnswer.the-variants.{Accepted, Refused}
+use Rattle.bed.specs.Table.{bedColumns}
+use Rattle.bed.specs.Records.{isWordCount, valueOr, bedRecord}
+use Rattle.bed.specs.Read.{wordsCheck, spanCheck, afterSpans, afterLines, afterColumns, afterWords, afterText, bedCheck, Counted, Listed, Staged}
+
+-- the codes of the table in the code
+abbrev bedCodes : List ℕ
+bedCodes = 0 ∷ 1 ∷ 1 ∷ 0 ∷ 3 ∷ 10 ∷ 1 ∷ 1 ∷ 13 ∷ 6 ∷ 7 ∷ 8 ∷ []
+
+map-take : (f : ℕ → Kind) (n : ℕ) (xs : List ℕ) → map f (take n xs) ≡ take n (map f xs)
+map-take f zero xs = refl
+map-take f (suc n) [] = refl
+map-take f (suc n) (x ∷ xs) = ap (λ (l : List Kind). f x ∷ l) (map-take f n xs)
+
+pub table-is : (n : ℕ) → n ≤ 12 → tableOf (take n bedCodes) ≡ take n bedColumns
+unfolding tableOf kindOf bedColumns
+table-is n h =
+    let z : length (take n bedCodes) ≤ columnLimit = rw length-take (omega arith) in
+    rw (take-all columnLimit (take n bedCodes) z) (map-take kindOf n bedCodes)
+
+pub codes-length : (n : ℕ) → n ≤ 12 → n ≡ length (take n bedCodes)
+codes-length n h = rw length-take (omega arith)
+
+-- a good number of words is 3 to 9, or 12
+count-split : (n : ℕ) → isWordCount n ≡ true → (P : Type 0) → (3 ≤ n → n ≤ 9 → P) → (n ≡ 12 → P) → P
+count-split n h P a b = go (leb 3 n) (leb n 9) (eqb n 12) refl refl refl h
+  where
+    go : (x y z : Bool) → leb 3 n ≡ x → leb n 9 ≡ y → eqb n 12 ≡ z → (x && (y || z)) ≡ true → P
+    go true true z e f g k = a (leb-true 3 n e) (leb-true n 9 f)
+    go true false true e f g k = b (eqb-true n 12 g)
+    go true false false e f g k = absurd (let q : _≡_ {A = ℕ} 0 1 = cc in omega arith)
+    go false y z e f g k = absurd (let q : _≡_ {A = ℕ} 0 1 = cc in omega arith)
+
+pub count-most : (n : ℕ) → isWordCount n ≡ true → n ≤ 12
+count-most n h = count-split n h (n ≤ 12) (λ a b. omega arith) (λ e. omega arith)
+
+-- values stored in a table of zeros read as the values
+stored-at : (z vs : List ℕ) → ((i : ℕ) → getD z i 0 ≡ 0) → length vs ≤ length z → (i : ℕ) → getD (sets z 0 vs) i 0 ≡ getD vs i 0
+stored-at z vs zeros h i =
+    let e : sets z 0 vs ≡ vs ++ drop (0 + length vs) z = sets-eq vs z 0 (omega arith) in
+    rw e
+    (either (length vs) i _ (λ l.
+    let q : i ≡ length vs + (i - length vs) = omega arith in
+    let x : getD (vs ++ drop (0 + length vs) z) (length vs + (i - length vs)) 0 ≡ getD (drop (0 + length vs) z) (i - length vs) 0 = getD-append-add vs (drop (0 + length vs) z) (i - length vs) 0 in
+    let y : getD (drop (0 + length vs) z) (i - length vs) 0 ≡ getD z (0 + length vs + (i - length vs)) 0 = getD-drop (0 + length vs) z (i - length vs) 0 in
+    (rw (← q) at (x ∙ y ∙ zeros (0 + length vs + (i - length vs)))) ∙ sym (List·getD-eq-default vs 0 l))
+    (λ l. List·getD-append vs (drop (0 + length vs) z) 0 i l))
+
+-- a record and its checks depend on the values at their places alone
+module _ (n : ℕ) (a b : List ℕ) (same : (i : ℕ) → getD a i 0 ≡ getD b i 0) where
+  pub record-same : (len : ℕ) → bedRecord n len a ≡ bedRecord n len b
+  unfolding bedRecord
+  record-same len = rw (
+    same 0,
+    same 1,
+    same 2,
+    same 4,
+    same 6,
+    same 7,
+    same 8,
+    same 10,
+    same 12,
+    same 14,
+    same 16,
+    same 18,
+  )
+
+  pub columns-same : (s : List ℕ) → afterColumns s n a ≡ afterColumns s n b
+  unfolding afterColumns afterLines spanCheck
+  columns-same s = rw (record-same (length s), same 5, same 13, same 15)
+
+-- the lists of a line of twelve words
+module _ (s : List ℕ) (e : ℕ) (read : columnsFrom bedColumns 0 s 0 ≡ Next e) (count : wordCount s 0 ≡ 12) where
+  twelve : wordCount s 0 ≡ length bedColumns
+  unfolding bedColumns
+  twelve = count
+
+  abbrev vs : List ℕ
+  vs = valuesFrom bedColumns 0 s 0
+
+  spells : Spells bedColumns 0 (wordsOf (lineOf s)) (firsts vs)
+  spells = columns-spell bedColumns 0 s 0 e twelve read
+
+  word : (k : ℕ) → getD (wordsOf (lineOf s)) k [] ≡ bytesOf s (wordAt s 0 k)
+  word k = sym (word-bytes s 0 k)
+
+  pub block-count : (1 ≤ getD vs 18 0) × (getD vs 18 0 ≤ blockLimit)
+  unfolding bedColumns
+  block-count =
+      let p = spelt-at spells 9 (omega arith) in
+      let c = count-spelt 0 (getD (wordsOf (lineOf s)) 9 []) (getD (firsts vs) 9 0) p in
+      rw (value-first vs 9) at c
+
+  -- what the two lists hold
+  pub block-sizes : (itemsIn (kindAt bedColumns 10) (bytesOf s (wordAt s 0 10)) ≡ valuesOf (bytesOf s (wordAt s 0 10))) × Between 1 largestPosition (valuesOf (bytesOf s (wordAt s 0 10)))
+      × (length (valuesOf (bytesOf s (wordAt s 0 10))) ≡ getD vs 18 0)
+  unfolding bedColumns
+  block-sizes =
+      let p = spelt-at spells 10 (omega arith) in
+      let c = items-spelt Size (getD (firsts vs) 9 0) (getD (wordsOf (lineOf s)) 10 []) (getD (firsts vs) 10 0) p in
+      let d = rw (value-first vs 9, word 10) at c in
+      (d .0, d .1, d .2)
+
+  pub block-starts : (itemsIn (kindAt bedColumns 11) (bytesOf s (wordAt s 0 11)) ≡ valuesOf (bytesOf s (wordAt s 0 11))) × Between 0 largestPosition (valuesOf (bytesOf s (wordAt s 0 11)))
+      × (length (valuesOf (bytesOf s (wordAt s 0 11))) ≡ getD vs 18 0)
+  unfolding bedColumns
+  block-starts =
+      let p = spelt-at spells 11 (omega arith) in
+      let c = items-spelt Coordinate (getD (firsts vs) 9 0) (getD (wordsOf (lineOf s)) 11 []) (getD (firsts vs) 11 0) p in
+      let d = rw (value-first vs 9, word 11) at c in
+      (d .0, d .1, d .2)
+
+  module _ (d : List ℕ) (long : length d ≡ 2 * blockLimit) where
+    pub sizes-held : take (getD vs 18 0) (listsFrom bedColumns 0 s 0 0 d) ≡ valuesOf (bytesOf s (wordAt s 0 10))
+    unfolding bedColumns
+    sizes-held =
+        let z = block-sizes in
+        let m : length (itemsIn (kindAt bedColumns 10) (bytesOf s (wordAt s 0 10))) ≡ getD vs 18 0 = ap length (z .0) ∙ z .2 in
+        lists-at bedColumns 0 s 0 e 0 d read 10 (omega arith) refl (getD vs 18 0) m (block-count .1) (omega (arith, block-count .1)) ∙ z .0
+
+    pub starts-held : take (getD vs 18 0) (drop blockLimit (listsFrom bedColumns 0 s 0 0 d)) ≡ valuesOf (bytesOf s (wordAt s 0 11))
+    unfolding bedColumns
+    starts-held =
+        let z = block-starts in
+        let m : length (itemsIn (kindAt bedColumns 11) (bytesOf s (wordAt s 0 11))) ≡ getD vs 18 0 = ap length (z .0) ∙ z .2 in
+        lists-at bedColumns 0 s 0 e 0 d read 11 (omega arith) refl (getD vs 18 0) m (block-count .1) (omega (arith, block-count .1)) ∙ z .0
+
+all-columns : take 12 bedColumns ≡ bedColumns
+unfolding bedColumns
+all-columns = refl
+
+-- the working room after the columns
+module _ (s : List ℕ) (n e : ℕ) (d : List ℕ) (counted : Counted s n d) (read : columnsFrom (take n bedColumns) 0 s 0 ≡ Next e) where
+  abbrev us : List ℕ
+  us = valuesFrom (take n bedColumns) 0 s 0
+
+  pub lists-listed : (len : ℕ) → Listed s (bedRecord n len us) (listsFrom (take n bedColumns) 0 s 0 0 d)
+  unfolding bedRecord
+  lists-listed len =
+      count-split n (counted .good) _ (λ l h. record {
+        long = lists-length (take n bedColumns) 0 s 0 e 0 d read ∙ counted .long;
+        few = rw (le-ltb 9 n h) (omega arith);
+        one = λ w. rw (le-ltb 9 n h);
+        sizes = λ w. absurd (omega arith);
+        starts = λ w. absurd (omega arith);
+      })
+      (λ w.
+      let t : take n bedColumns ≡ bedColumns = rw w all-columns in
+      let r : columnsFrom bedColumns 0 s 0 ≡ Next e = rw t at read in
+      let c : wordCount s 0 ≡ 12 = sym (counted .count) ∙ w in
+      let v : valueOr n us 9 1 ≡ getD (valuesFrom bedColumns 0 s 0) 18 0 = rw (lt-ltb 9 n (omega arith), t) in
+      record {
+        long = lists-length (take n bedColumns) 0 s 0 e 0 d read ∙ counted .long;
+        few = rw v (block-count s e r c .1);
+        one = λ k. absurd (k w);
+        sizes = λ k. rw (v, t) (sizes-held s e r c d (counted .long));
+        starts = λ k. rw (v, t) (starts-held s e r c d (counted .long));
+      })
+
+-- the columns read, and on
+zeros : (m i : ℕ) → _≡_ {A = ℕ} (getD {A = ℕ} (replicate m 0) i 0) 0
+zeros zero i = refl
+zeros (suc m) zero = refl
+zeros (suc m) (suc i) = zeros m i
+
+module _ (s : List ℕ) (n : ℕ) (b′ d d′ : List ℕ) (counted : Counted s n d) (x : Columns) (read : ColumnsRead (tableOf (take n bedCodes)) s 0 (replicate 24 0) b′ d d′ x) where
+  read-is : x ≡ columnsFrom (take n bedColumns) 0 s 0
+  read-is = rw (table-is n (count-most n (counted .good))) at (read .result)
+
+  module _ (e : ℕ) (q : x ≡ Next e) where
+    next : columnsFrom (take n bedColumns) 0 s 0 ≡ Next e
+    next = sym read-is ∙ q
+
+    values-same : (i : ℕ) → getD b′ i 0 ≡ getD (valuesFrom (take n bedColumns) 0 s 0) i 0
+    values-same i =
+        let t = table-is n (count-most n (counted .good)) in
+        let st : b′ ≡ sets (replicate 24 0) 0 (valuesFrom (take n bedColumns) 0 s 0) = rw (q, t) at (read .stored) in
+        let l : length (valuesFrom (take n bedColumns) 0 s 0) ≤ 24 = rw (values-length (take n bedColumns) 0 s 0 e next, length-take) (omega (arith, count-most n (counted .good))) in
+        rw st (stored-at (replicate 24 0) (valuesFrom (take n bedColumns) 0 s 0) (zeros 24) l i)
+
+    pub words-listed : Listed s (bedRecord n (length s) b′) d′
+    words-listed =
+        let t = table-is n (count-most n (counted .good)) in
+        let h : d′ ≡ listsFrom (take n bedColumns) 0 s 0 0 d = rw (q, t) at (read .held) in
+        rw (record-same n b′ (valuesFrom (take n bedColumns) 0 s 0) values-same (length s), h) (lists-listed s n e d counted next (length s))
+
+    pub words-on : (l : List ℕ) (a : BedAnswer) → Staged s (afterColumns s n b′) l a → Staged s (afterWords s n) l a
+    unfolding afterWords
+    words-on l a h = record { is = rw (next, ← columns-same n b′ (valuesFrom (take n bedColumns) 0 s 0) values-same s) (h .is); held = h .held }
+
+  pub words-refused : (l : List ℕ) (y : Refusal) → x ≡ columns.Refused y → Staged s (afterWords s n) l (Refused y)
+  unfolding afterWords
+  words-refused l y q =
+      let z : columnsFrom (take n bedColumns) 0 s 0 ≡ columns.Refused y = sym read-is ∙ q in
+      record { is = rw z; held = λ b e. absurd (let k : _≡_ {A = ℕ} 0 1 = cc in omega arith) }
+
+pub words-few : (s : List ℕ) (n : ℕ) (d : List ℕ) → Counted s n d → n ≤ 12
+words-few s n d h = count-most n (h .good)
+
+pub words-length : (s : List ℕ) (n : ℕ) (d : List ℕ) → Counted s n d → n ≡ length (take n bedCodes)
+words-length s n d h = codes-length n (count-most n (h .good))
+
+-- a number of words that passes its check
+passed : (a b : Bool) (x y : Refusal) → pickCheck a (pickCheck b Holds (check.Refused x)) (check.Refused y) ≡ Holds → b ≡ true
+passed true true x y e = refl
+passed true false x y e = absurd (let q : _≡_ {A = ℕ} 0 1 = cc in omega arith)
+passed false b x y e = absurd (let q : _≡_ {A = ℕ} 0 1 = cc in omega arith)
+
+module _ (s : List ℕ) (n : ℕ) (en : n ≡ wordCount s 0) (c : Check) (ec : c ≡ wordsCheck s n) where
+  pub words-counted : (d : List ℕ) → length d ≡ 2 * blockLimit → c ≡ Holds → Counted s n d
+  unfolding wordsCheck
+  words-counted d l q = record { long = l; count = en; good = passed (leb n 12) (isWordCount n) _ _ (sym ec ∙ q) }
+
+  pub text-refused : (l : List ℕ) (x : Refusal) → c ≡ check.Refused x → Staged s (afterText s) l (Refused x)
+  unfolding afterText
+  text-refused l x q = record { is = rw (← en, ← ec, q); held = λ b e. absurd (let k : _≡_ {A = ℕ} 0 1 = cc in omega arith) }
+
+  pub text-on : (l : List ℕ) (a : BedAnswer) → c ≡ Holds → Staged s (afterWords s n) l a → Staged s (afterText s) l a
+  unfolding afterText
+  text-on l a q h = record { is = rw (← en, ← ec, q) (h .is); held = h .held }
+
+module _ (s : List ℕ) (c : Check) (ec : c ≡ textCheck s) where
+  pub check-refused : (l : List ℕ) (x : Refusal) → c ≡ check.Refused x → Staged s (bedCheck s) l (Refused x)
+  unfolding bedCheck
+  check-refused l x q = record { is = rw (← ec, q); held = λ b e. absurd (let k : _≡_ {A = ℕ} 0 1 = cc in omega arith) }
+
+  pub check-on : (l : List ℕ) (a : BedAnswer) → c ≡ Holds → Staged s (afterText s) l a → Staged s (bedCheck s) l a
+  unfolding bedCheck
+  check-on l a q h = record { is = rw (← ec, q) (h .is); held = h .held }

@@ -1,0 +1,217 @@
+-- What each step of reading a BED line shows, on plain values. Assumes nothing.
+use mathlib.Core.Path.{_≡_, refl, sym, ap, _∙_}
+use mathlib.Core.Bool.{Bool, true, false, not, _&&_, _||_}
+use mathlib.Core.List.{List, [], _∷_, map}
+use Prim.Native.Nat.{ℕ, zero, suc, _+_, _-_, _*_, _≤_, _<_, min}
+use native.Mathlib.Omega.{arith}
+use lib.ListN.{length, set, getD, take, drop, length-take, length-drop, length-set}
+use lib.Seq.{sets, take-all}
+use lib.Dec.{leb, ltb, eqb}
+use borrow.Author.Tests.{le-leb, lt-leb, lt-ltb, le-ltb, ne-eqb, eq-eqb, not-true, not-false, eqb-true, eqb-false}
+use Rattle.ledger.specs.Limits.{blockLimit}
+use Rattle.ledger.specs.Strands.{strandOf, pickLettered}
+use Rattle.ledger.specs.declared.Lettered.the-variants.{Is, NoStrand}
+use Rattle.ledger.specs.declared.Strand.{Strand}
+use Rattle.ledger.specs.declared.Strand.the-variants.{Plus, Minus, Dot}
+use Rattle.ledger.specs.declared.Part.{Part}
+use Rattle.ledger.specs.declared.Reason.the-variants.{WrongCount, SpanDisagrees, BlockRules}
+use Rattle.ledger.specs.declared.Refusal.{Refusal}
+use Rattle.text.specs.declared.Check.{Check}
+use Rattle.text.specs.declared.Check.the-variants.{Holds}
+use Rattle.text.specs.declared.Check.the-variants as check
+use Rattle.text.specs.declared.Extent.{Extent}
+use Rattle.text.specs.Checks.{textCheck, lastLineCheck}
+use Rattle.text.specs.Words.{lineEnd, wordAt, wordCount, bytesOf}
+use Rattle.numbers.specs.Lists.{valuesOf}
+use Rattle.blocks.specs.Blocks.{blocksFill}
+use Rattle.bed.specs.declared.Bed.{Bed}
+use Rattle.bed.specs.declared.BedAnswer.{BedAnswer}
+use Rattle.bed.specs.declared.BedAnswer.the-variants.{Accepted, Refused}
+use Rattle.bed.specs.Records.{isWordCount, pickNumber, valueOr, placeOr, partAt, strandIs, bedRecord, bedSizes, bedStarts}
+use Rattle.bed.specs.Read.{wordsCheck, thickFits, thickPlace, spanCheck, blockCheck, withDefault, afterSpans, afterLines, afterColumns, afterWords, bedCheck, Listed, Blocked, Staged}
+
+-- the number of words
+module _ (s : List ℕ) (n : ℕ) where
+  pub words-many : (w : Extent) → 12 < n → w ≡ wordAt s 0 12 → check.Refused (record { reason = WrongCount; place = w .start }) ≡ wordsCheck s n
+  unfolding wordsCheck
+  words-many w h e = rw (lt-leb n 12 h, e)
+
+  pub words-few : (t : Bool) (e : ℕ) → n ≤ 12 → t ≡ isWordCount n → not t ≡ true → e ≡ lineEnd s 0 → check.Refused (record { reason = WrongCount; place = e }) ≡ wordsCheck s n
+  unfolding wordsCheck
+  words-few t e h et q ee = rw (le-leb n 12 h, ← et, not-true t q, ee)
+
+  pub words-good : (t : Bool) → n ≤ 12 → t ≡ isWordCount n → not t ≡ false → Holds ≡ wordsCheck s n
+  unfolding wordsCheck
+  words-good t h et q = rw (le-leb n 12 h, ← et, not-false t q)
+
+-- a column or its default
+module _ (n : ℕ) (vs : List ℕ) (k d : ℕ) where
+  pub value-there : (r : ℕ) → k < n → r ≡ getD vs (2 * k) 0 → r ≡ valueOr n vs k d
+  value-there r h e = rw (lt-ltb k n h) e
+
+  pub value-left : n ≤ k → d ≡ valueOr n vs k d
+  value-left h = rw (le-ltb k n h)
+
+  pub place-there : (r : ℕ) → k < n → r ≡ getD vs (2 * k + 1) 0 → r ≡ placeOr n vs k d
+  place-there r h e = rw (lt-ltb k n h) e
+
+  pub place-left : n ≤ k → d ≡ placeOr n vs k d
+  place-left h = rw (le-ltb k n h)
+
+module _ (v : ℕ) where
+  pub strand-plus : v ≡ 43 → Plus ≡ strandIs (strandOf v)
+  strand-plus e = rw e
+
+  pub strand-minus : v ≡ 45 → Minus ≡ strandIs (strandOf v)
+  strand-minus e = rw e
+
+  pub strand-dot : (v ≡ 43 → ⊥) → (v ≡ 45 → ⊥) → Dot ≡ strandIs (strandOf v)
+  strand-dot h k = rw (ne-eqb v 43 h, ne-eqb v 45 k) (go (eqb v 46))
+    where
+      go : (t : Bool) → Dot ≡ strandIs (pickLettered t (Is Dot) NoStrand)
+      go true = refl
+      go false = refl
+
+-- the place of a thick breach
+module _ (n : ℕ) (vs : List ℕ) (r : ℕ) where
+  pub thick-end : 8 ≤ n → r ≡ getD vs 15 0 → r ≡ thickPlace n vs
+  thick-end h e = rw (le-leb 8 n h) e
+
+  pub thick-start : n < 8 → r ≡ getD vs 13 0 → r ≡ thickPlace n vs
+  thick-start h e = rw (lt-leb 8 n h) e
+
+-- the spans
+module _ (r : Bed) (vs : List ℕ) where
+  pub span-empty : (p : ℕ) → r .chromEnd ≤ r .chromStart → p ≡ getD vs 5 0 → check.Refused (record { reason = SpanDisagrees; place = p }) ≡ spanCheck r vs
+  unfolding spanCheck
+  span-empty p h e = rw (le-ltb (r .chromStart) (r .chromEnd) h, e)
+
+  pub span-thick : (t : Bool) (p : ℕ) → r .chromStart < r .chromEnd → t ≡ thickFits r → not t ≡ true → p ≡ thickPlace (r .words) vs → check.Refused (record { reason = SpanDisagrees; place = p }) ≡ spanCheck r vs
+  unfolding spanCheck
+  span-thick t p h et q e = rw (lt-ltb (r .chromStart) (r .chromEnd) h, ← et, not-true t q, e)
+
+  pub span-good : (t : Bool) → r .chromStart < r .chromEnd → t ≡ thickFits r → not t ≡ false → Holds ≡ spanCheck r vs
+  unfolding spanCheck
+  span-good t h et q = rw (lt-ltb (r .chromStart) (r .chromEnd) h, ← et, not-false t q)
+
+pub ruleset spans = (span-empty, span-thick, span-good)
+
+-- the default block
+module _ (r : Bed) (l : List ℕ) where
+  pub block-given : r .words ≡ 12 → l ≡ withDefault r l
+  block-given e = rw (eq-eqb (r .words) 12 e)
+
+  pub block-default : (v : ℕ) (l₁ l₂ : List ℕ) → (r .words ≡ 12 → ⊥) → v ≡ r .chromEnd - r .chromStart → l₁ ≡ set l 0 v → l₂ ≡ set l₁ blockLimit 0 → l₂ ≡ withDefault r l
+  block-default v l₁ l₂ h e e₁ e₂ = rw (ne-eqb (r .words) 12 h, e₂, e₁, e)
+
+-- the blocks, tested in the working room
+module _ (s : List ℕ) (r : Bed) (l : List ℕ) (held : Blocked s r l) (t : Bool) (v : ℕ) (ev : v ≡ r .chromEnd - r .chromStart)
+    (et : t ≡ blocksFill 0 v (take (r .blockCount) (take (length l - blockLimit) (drop blockLimit l))) (take (r .blockCount) l)) where
+  rest-all : take (length l - blockLimit) (drop blockLimit l) ≡ drop blockLimit l
+  rest-all = take-all (length l - blockLimit) (drop blockLimit l) (rw length-drop (omega arith))
+
+  tested : t ≡ blocksFill 0 (r .chromEnd - r .chromStart) (bedStarts s r) (bedSizes s r)
+  tested = rw (← ev, ← (held .starts), ← (held .sizes)) (rw rest-all at et)
+
+  pub blocks-good : t ≡ true → Holds ≡ blockCheck s r
+  unfolding blockCheck
+  blocks-good q = rw (← tested, q)
+
+  pub blocks-bad : t ≡ false → check.Refused (record { reason = BlockRules; place = length s }) ≡ blockCheck s r
+  unfolding blockCheck
+  blocks-bad q = rw (← tested, q)
+
+-- the blocks of a record in the working room, the default one too
+split : (n m : ℕ) (P : Type 0) → (n ≡ m → P) → ((n ≡ m → ⊥) → P) → P
+split n m P a b = go (eqb n m) refl
+  where
+    go : (t : Bool) → eqb n m ≡ t → P
+    go true e = a (eqb-true n m e)
+    go false e = b (eqb-false n m e)
+
+first-set : (l : List ℕ) (v : ℕ) → 0 < length l → take 1 (set l 0 v) ≡ v ∷ []
+first-set [] v h = absurd (omega arith)
+first-set (x ∷ l) v h = refl
+
+take-set-past : (l : List ℕ) (i v n : ℕ) → n ≤ i → take n (set l i v) ≡ take n l
+take-set-past [] i v n h = refl
+take-set-past (x ∷ l) i v zero h = refl
+take-set-past (x ∷ l) zero v (suc n) h = absurd (omega arith)
+take-set-past (x ∷ l) (suc i) v (suc n) h = ap (λ (y : List ℕ). x ∷ y) (take-set-past l i v n (omega arith))
+
+drop-set-at : (l : List ℕ) (i v : ℕ) → i < length l → take 1 (drop i (set l i v)) ≡ v ∷ []
+drop-set-at [] i v h = absurd (omega arith)
+drop-set-at (x ∷ l) zero v h = refl
+drop-set-at (x ∷ l) (suc i) v h = drop-set-at l i v (omega arith)
+
+pub block-held : (s : List ℕ) (r : Bed) (l l′ : List ℕ) → Listed s r l → l′ ≡ withDefault r l → Blocked s r l′
+unfolding bedSizes bedStarts
+block-held s r l l′ h e =
+    split (r .words) 12 _ (λ w.
+    let q : l′ ≡ l = e ∙ rw (eq-eqb (r .words) 12 w) in
+    record { long = rw q (h .long); few = h .few; sizes = rw (q, eq-eqb (r .words) 12 w) (h .sizes w); starts = rw (q, eq-eqb (r .words) 12 w) (h .starts w) })
+    (λ w.
+    let v = r .chromEnd - r .chromStart in
+    let q : l′ ≡ set (set l 0 v) blockLimit 0 = e ∙ rw (ne-eqb (r .words) 12 w) in
+    let one = h .one w in
+    let z : length (set l 0 v) ≡ 2 * blockLimit = length-set l 0 v ∙ h .long in
+    record {
+      long = rw q (length-set (set l 0 v) blockLimit 0 ∙ z);
+      few = h .few;
+      sizes = rw (q, ne-eqb (r .words) 12 w, one) (take-set-past (set l 0 v) blockLimit 0 1 (omega arith) ∙ first-set l v (omega (arith, h .long)));
+      starts = rw (q, ne-eqb (r .words) 12 w, one) (drop-set-at (set l 0 v) blockLimit 0 (omega (arith, z)));
+    })
+
+-- a stage that refuses, and one that goes on
+module _ (s : List ℕ) (l : List ℕ) (c : Check) where
+  module _ (r : Bed) (ec : c ≡ blockCheck s r) (held : Blocked s r l) where
+    pub spans-refused : (x : Refusal) → c ≡ check.Refused x → Staged s (afterSpans s r) l (Refused x)
+    unfolding afterSpans
+    spans-refused x q = record { is = rw (← ec, q); held = λ b e. absurd (let z : _≡_ {A = ℕ} 0 1 = cc in omega arith) }
+
+    pub spans-accepted : c ≡ Holds → Staged s (afterSpans s r) l (Accepted r)
+    unfolding afterSpans
+    spans-accepted q = record { is = rw (← ec, q); held = λ b e. let p : r ≡ b = cc in rw p at held }
+
+  module _ (n : ℕ) (vs : List ℕ) where
+    module _ (r : Bed) (er : r ≡ bedRecord n (length s) vs) (ec : c ≡ spanCheck r vs) where
+      pub lines-refused : (x : Refusal) → c ≡ check.Refused x → Staged s (afterLines s n vs) l (Refused x)
+      unfolding afterLines
+      lines-refused x q = record { is = rw (← er, ← ec, q); held = λ b e. absurd (let z : _≡_ {A = ℕ} 0 1 = cc in omega arith) }
+
+      pub lines-on : (l′ : List ℕ) (a : BedAnswer) → c ≡ Holds → Staged s (afterSpans s r) l′ a → Staged s (afterLines s n vs) l′ a
+      unfolding afterLines
+      lines-on l′ a q h = record { is = rw (← er, ← ec, q) (h .is); held = h .held }
+
+    module _ (ec : c ≡ lastLineCheck s 0) where
+      pub columns-refused : (x : Refusal) → c ≡ check.Refused x → Staged s (afterColumns s n vs) l (Refused x)
+      unfolding afterColumns
+      columns-refused x q = record { is = rw (← ec, q); held = λ b e. absurd (let z : _≡_ {A = ℕ} 0 1 = cc in omega arith) }
+
+      pub columns-on : (l′ : List ℕ) (a : BedAnswer) → c ≡ Holds → Staged s (afterLines s n vs) l′ a → Staged s (afterColumns s n vs) l′ a
+      unfolding afterColumns
+      columns-on l′ a q h = record { is = rw (← ec, q) (h .is); held = h .held }
+
+pub listed-as : (s : List ℕ) (r b : Bed) (l : List ℕ) → r ≡ b → Listed s b l → Listed s r l
+listed-as s r b l e h = rw e h
+
+-- a record from its columns
+pub record-is : (n len : ℕ) (vs : List ℕ) (start end chromPlace chromLength namePlace nameLength score letter thickStart thickEnd rgb count : ℕ) (chrom name : Part) (strand : Strand) → start ≡ getD vs 2 0 → end ≡ getD vs 4 0
+    → chromPlace ≡ getD vs 1 0 → chromLength ≡ getD vs 0 0 → chrom ≡ partAt chromPlace chromLength → namePlace ≡ placeOr n vs 3 len → nameLength ≡ valueOr n vs 3 0 → name ≡ partAt namePlace nameLength
+    → score ≡ valueOr n vs 4 0 → letter ≡ valueOr n vs 5 46 → strand ≡ strandIs (strandOf letter) → thickStart ≡ valueOr n vs 6 start → thickEnd ≡ valueOr n vs 7 end → rgb ≡ valueOr n vs 8 0 → count ≡ valueOr n vs 9 1
+    → record {
+      words = n;
+      chrom = chrom;
+      chromStart = start;
+      chromEnd = end;
+      name = name;
+      score = score;
+      strand = strand;
+      thickStart = thickStart;
+      thickEnd = thickEnd;
+      itemRgb = rgb;
+      blockCount = count;
+    } ≡ bedRecord n len vs
+unfolding bedRecord
+record-is n len vs start end cp cl np nl score letter ts te rgb count chrom name strand e₁ e₂ e₃ e₄ e₅ e₆ e₇ e₈ e₉ e₁₀ e₁₁ e₁₂ e₁₃ e₁₄ e₁₅ =
+    rw (e₁₂, e₁₃, e₅, e₈, e₁₁, e₁, e₂, e₃, e₄, e₆, e₇, e₉, e₁₀, e₁₄, e₁₅)

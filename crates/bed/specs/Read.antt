@@ -1,0 +1,137 @@
+-- Reading a BED line: the checks in the ledger's order. Each stage names what is tested from there on; the last one, `bedRead`, is the reader.
+use Prim.Native.Nat.{ℕ, _+_, _-_, _*_, _≤_}
+use mathlib.Core.Path.{_≡_}
+use mathlib.Core.Bool.{Bool, true, false, _&&_, _||_}
+use mathlib.Core.List.{List, [], _∷_}
+use lib.ListN.{length, take, drop, getD, set}
+use lib.Seq.{sets}
+use lib.Dec.{leb, ltb, eqb}
+use Rattle.ledger.specs.declared.Reason.the-variants.{WrongCount, SpanDisagrees, BlockRules, NoRoom}
+use Rattle.ledger.specs.declared.Refusal.{Refusal}
+use Rattle.ledger.specs.Limits.{blockLimit}
+use Rattle.text.specs.declared.Check.{Check}
+use Rattle.text.specs.declared.Check.the-variants.{Holds}
+use Rattle.text.specs.declared.Check.the-variants as check
+use Rattle.text.specs.Checks.{require, textCheck, lastLineCheck}
+use Rattle.text.specs.Words.{lineEnd, wordAt, wordCount, bytesOf}
+use Rattle.numbers.specs.Lists.{valuesOf}
+use Rattle.columns.specs.declared.Columns.{Columns}
+use Rattle.columns.specs.declared.Columns.the-variants.{Next}
+use Rattle.columns.specs.declared.Columns.the-variants as columns
+use Rattle.columns.specs.Columns.{columnsFrom, valuesFrom}
+use Rattle.blocks.specs.Blocks.{blocksFill, rowsOf}
+use Rattle.bed.specs.declared.Bed.{Bed}
+use Rattle.bed.specs.declared.BedAnswer.{BedAnswer}
+use Rattle.bed.specs.declared.BedAnswer.the-variants.{Accepted, Refused}
+use Rattle.bed.specs.Table.{bedColumns}
+use Rattle.bed.specs.Records.{isWordCount, pickNumber, pickList, bedRecord, bedSizes, bedStarts, bedTargets, bedQueries}
+
+-- where a check holds go on, else stop with its refusal
+abbrev pub thenCheck : Check → BedAnswer → BedAnswer
+thenCheck Holds rest = rest
+thenCheck (check.Refused x) rest = Refused x
+
+abbrev pub thenRead : Columns → BedAnswer → BedAnswer
+thenRead (Next e) rest = rest
+thenRead (columns.Refused x) rest = Refused x
+
+-- the number of words: more than 12 at the first surplus word, any other wrong number at the line's end (2)
+unfoldable pub wordsCheck : List ℕ → ℕ → Check
+wordsCheck s n =
+    require (leb n 12) WrongCount (wordAt s 0 12 .start)
+    (require (isWordCount n) WrongCount (lineEnd s 0) Holds)
+
+-- chromStart ≤ thickStart ≤ thickEnd ≤ chromEnd
+abbrev pub thickFits : Bed → Bool
+thickFits r = leb (r .chromStart) (r .thickStart) && (leb (r .thickStart) (r .thickEnd) && leb (r .thickEnd) (r .chromEnd))
+
+abbrev pub thickPlace : ℕ → List ℕ → ℕ
+thickPlace n vs = pickNumber (leb 8 n) (getD vs 15 0) (getD vs 13 0)
+
+-- the spans (7): chromStart < chromEnd, at chromEnd; then the thick span, at thickEnd, or with 7 words at thickStart
+unfoldable pub spanCheck : Bed → List ℕ → Check
+spanCheck r vs =
+    require (ltb (r .chromStart) (r .chromEnd)) SpanDisagrees (getD vs 5 0)
+    (require (thickFits r) SpanDisagrees (thickPlace (r .words) vs) Holds)
+
+-- the blocks (9): first start 0, in order, last end the span's, at the text's end
+unfoldable pub blockCheck : List ℕ → Bed → Check
+blockCheck s r = require (blocksFill 0 (r .chromEnd - r .chromStart) (bedStarts s r) (bedSizes s r)) BlockRules (length s) Holds
+
+-- the room (11), last, at the text's end
+unfoldable pub roomCheck : List ℕ → Bed → ℕ → Check
+roomCheck s r room = require (leb (r .blockCount) room) NoRoom (length s) Holds
+
+-- after the spans: the blocks
+unfoldable pub afterSpans : List ℕ → Bed → BedAnswer
+afterSpans s r = thenCheck (blockCheck s r) (Accepted r)
+
+-- after the lines: the spans
+unfoldable pub afterLines : List ℕ → ℕ → List ℕ → BedAnswer
+afterLines s n vs = thenCheck (spanCheck (bedRecord n (length s) vs) vs) (afterSpans s (bedRecord n (length s) vs))
+
+-- after the columns: a surplus line (2)
+unfoldable pub afterColumns : List ℕ → ℕ → List ℕ → BedAnswer
+afterColumns s n vs = thenCheck (lastLineCheck s 0) (afterLines s n vs)
+
+-- after the number of words: the columns from the left (4, 5, 6, 8)
+unfoldable pub afterWords : List ℕ → ℕ → BedAnswer
+afterWords s n = thenRead (columnsFrom (take n bedColumns) 0 s 0) (afterColumns s n (valuesFrom (take n bedColumns) 0 s 0))
+
+-- after the text's length and bytes: the number of words (2)
+unfoldable pub afterText : List ℕ → BedAnswer
+afterText s = thenCheck (wordsCheck s (wordCount s 0)) (afterWords s (wordCount s 0))
+
+-- THE TEXT CHECKER: the reader without room
+unfoldable pub bedCheck : List ℕ → BedAnswer
+bedCheck s = thenCheck (textCheck s) (afterText s)
+
+abbrev pub thenRoom : BedAnswer → List ℕ → ℕ → BedAnswer
+thenRoom (Accepted r) s room = thenCheck (roomCheck s r room) (Accepted r)
+thenRoom (Refused x) s room = Refused x
+
+-- THE READER: room last
+unfoldable pub bedRead : List ℕ → ℕ → BedAnswer
+bedRead s room = thenRoom (bedCheck s) s room
+
+-- what a lent table holds then: the rows of an accepted line from its front, or what it held
+abbrev pub rowsAfter : BedAnswer → (Bed → List ℕ) → List ℕ → List ℕ
+rowsAfter (Accepted r) rows before = sets before 0 (rows r)
+rowsAfter (Refused x) rows before = before
+
+-- what the reader promises: the answer, and the three columns of rows
+pub record BedRead (s ts ts′ qs qs′ zs zs′ : List ℕ) (r : BedAnswer) : Type 0 where
+  pub is : r ≡ bedRead s (rowsOf ts qs zs)
+  pub targets : ts′ ≡ rowsAfter r (bedTargets s) ts
+  pub queries : qs′ ≡ rowsAfter r (bedQueries s) qs
+  pub sizes : zs′ ≡ rowsAfter r (bedSizes s) zs
+
+-- the working room with the one block of a line without block columns
+abbrev pub withDefault : Bed → List ℕ → List ℕ
+withDefault r lists = pickList (eqb (r .words) 12) lists (set (set lists 0 (r .chromEnd - r .chromStart)) blockLimit 0)
+
+-- the working room of a reader holds the lists of the block columns: sizes at its front, starts after the room for a record's blocks
+pub record Listed (s : List ℕ) (r : Bed) (lists : List ℕ) : Type 0 where
+  pub long : length lists ≡ 2 * blockLimit
+  pub few : r .blockCount ≤ blockLimit
+  pub one : (r .words ≡ 12 → ⊥) → r .blockCount ≡ 1
+  pub sizes : r .words ≡ 12 → take (r .blockCount) lists ≡ valuesOf (bytesOf s (wordAt s 0 10))
+  pub starts : r .words ≡ 12 → take (r .blockCount) (drop blockLimit lists) ≡ valuesOf (bytesOf s (wordAt s 0 11))
+
+-- a line of a good number of words, before its columns are read
+pub record Counted (s : List ℕ) (n : ℕ) (lists : List ℕ) : Type 0 where
+  pub long : length lists ≡ 2 * blockLimit
+  pub count : n ≡ wordCount s 0
+  pub good : isWordCount n ≡ true
+
+-- the blocks of a record, in the working room
+pub record Blocked (s : List ℕ) (r : Bed) (lists : List ℕ) : Type 0 where
+  pub long : length lists ≡ 2 * blockLimit
+  pub few : r .blockCount ≤ blockLimit
+  pub sizes : take (r .blockCount) lists ≡ bedSizes s r
+  pub starts : take (r .blockCount) (drop blockLimit lists) ≡ bedStarts s r
+
+-- what a stage promises: its answer, and the blocks of an accepted line in the working room
+pub record Staged (s : List ℕ) (answer : BedAnswer) (lists′ : List ℕ) (r : BedAnswer) : Type 0 where
+  pub is : r ≡ answer
+  pub held : (b : Bed) → r ≡ Accepted b → Blocked s b lists′

@@ -1,0 +1,294 @@
+// One BED line: reader, text checker, record checker, writer, over three flat slices of blocks.
+ghost use mathlib.Core.Path.{_≡_};
+ghost use mathlib.Core.Bool.{true};
+ghost use Prim.Native.Nat.{_+_, _-_, _*_, _≤_};
+ghost use lib.ListN.{length, getD, take, drop};
+ghost use Rattle.ledger.specs.Limits.{blockLimit, largestPosition};
+ghost use Rattle.bed.specs.Records.{isWordCount, valueOr, placeOr, partAt, strandIs, bedRecord};
+ghost use Rattle.ledger.specs.Strands.{strandOf};
+ghost use Rattle.bed.specs.Read.{wordsCheck, thickFits, thickPlace, spanCheck, blockCheck, withDefault, afterSpans, afterLines, afterColumns, afterWords, afterText, bedCheck, Counted, Listed, Blocked, Staged, BedRead};
+use columns::Columns;
+use ledger::Part;
+use ledger::Reason;
+use ledger::Refusal;
+use ledger::Strand;
+use text::Check;
+
+// The record of a BED line. A name is a part of the text; a colour is one number, (red × 256 + green) × 256 + blue.
+pub struct Bed {
+    pub words: u64,
+    pub chrom: Part,
+    pub chromStart: u64,
+    pub chromEnd: u64,
+    pub name: Part,
+    pub score: u64,
+    pub strand: Strand,
+    pub thickStart: u64,
+    pub thickEnd: u64,
+    pub itemRgb: u64,
+    pub blockCount: u64,
+}
+
+pub enum BedAnswer {
+    Accepted(Bed),
+    Refused(Refusal),
+}
+
+// The codes of specs/Table.antt's columns.
+const BED: [u8; 12] = [0, 1, 1, 0, 3, 10, 1, 1, 13, 6, 7, 8];
+
+// Whether a line may have so many words.
+fn is_word_count(n: u64) -> bool
+    ensures { λ r. ⌜ r ≡ isWordCount n ⌝ }
+{
+    (3 <= n) & ((n <= 9) | (n == 12))
+}
+
+// The number of words (2).
+fn check_words(text: &[u8], n: usize) -> Check
+    ensures { λ r. ⌜ r ≡ wordsCheck (now (text .entry)) n ⌝ }
+{
+    if 12 < n {
+        let w = text::word_at(text, 0, 12);
+        return Check::Refused(Refusal {
+            reason: Reason::WrongCount,
+            place: w.start,
+        });
+    }
+    if !is_word_count(n as u64) {
+        let e = text::line_end(text, 0);
+        return Check::Refused(Refusal {
+            reason: Reason::WrongCount,
+            place: e,
+        });
+    }
+    Check::Holds
+}
+
+// A column's value, or a default where the column is left out.
+fn value_or(values: &[u64], n: u64, k: usize, d: u64) -> u64
+    requires { ⌜ k ≤ 12 ⌝ }
+    ensures { λ r. ⌜ r ≡ valueOr n (now (values .entry)) k d ⌝ }
+{
+    if (k as u64) < n {
+        return columns::value_at(values, 2 * k);
+    }
+    d
+}
+
+// Where a column's word starts, or a default.
+fn place_or(values: &[u64], n: u64, k: usize, d: u64) -> u64
+    requires { ⌜ k ≤ 12 ⌝ }
+    ensures { λ r. ⌜ r ≡ placeOr n (now (values .entry)) k d ⌝ }
+{
+    if (k as u64) < n {
+        return columns::value_at(values, 2 * k + 1);
+    }
+    d
+}
+
+// The strand of a letter.
+fn strand_of(v: u64) -> Strand
+    ensures { λ r. ⌜ r ≡ strandIs (strandOf v) ⌝ }
+{
+    if v == 43 {
+        return Strand::Plus;
+    }
+    if v == 45 {
+        return Strand::Minus;
+    }
+    Strand::Dot
+}
+
+// A name by its first byte and length.
+fn part_of(start: u64, length: u64) -> Part
+    ensures { λ r. ⌜ r ≡ partAt start length ⌝ }
+{
+    Part {
+        start: start as usize,
+        length: length as usize,
+    }
+}
+
+// The record of a line of n words, from its columns' values.
+fn record_of(values: &[u64], n: u64, len: usize) -> Bed
+    ensures { λ r. ⌜ r ≡ bedRecord n len (now (values .entry)) ⌝ }
+{
+    let start = columns::value_at(values, 2);
+    let end = columns::value_at(values, 4);
+    Bed {
+        words: n,
+        chrom: part_of(columns::value_at(values, 1), columns::value_at(values, 0)),
+        chromStart: start,
+        chromEnd: end,
+        name: part_of(
+            place_or(values, n, 3, len as u64),
+            value_or(values, n, 3, 0),
+        ),
+        score: value_or(values, n, 4, 0),
+        strand: strand_of(value_or(values, n, 5, 46)),
+        thickStart: value_or(values, n, 6, start),
+        thickEnd: value_or(values, n, 7, end),
+        itemRgb: value_or(values, n, 8, 0),
+        blockCount: value_or(values, n, 9, 1),
+    }
+}
+
+fn thick_fits(r: Bed) -> bool
+    ensures { λ x. ⌜ x ≡ thickFits r ⌝ }
+{
+    (r.chromStart <= r.thickStart) & ((r.thickStart <= r.thickEnd) & (r.thickEnd <= r.chromEnd))
+}
+
+// Where a breach of the thick span stands.
+fn thick_place(values: &[u64], n: u64) -> usize
+    ensures { λ r. ⌜ r ≡ thickPlace n (now (values .entry)) ⌝ }
+{
+    if 8 <= n {
+        return columns::value_at(values, 15) as usize;
+    }
+    columns::value_at(values, 13) as usize
+}
+
+// The spans (7).
+fn check_spans(r: Bed, values: &[u64]) -> Check
+    ensures { λ x. ⌜ x ≡ spanCheck r (now (values .entry)) ⌝ }
+{
+    if r.chromEnd <= r.chromStart {
+        let end = columns::value_at(values, 5) as usize;
+        return Check::Refused(Refusal {
+            reason: Reason::SpanDisagrees,
+            place: end,
+        });
+    }
+    if !thick_fits(r) {
+        let at = thick_place(values, r.words);
+        return Check::Refused(Refusal {
+            reason: Reason::SpanDisagrees,
+            place: at,
+        });
+    }
+    Check::Holds
+}
+
+// The length of the span; 0 where start and end disagree.
+fn span_of(r: Bed) -> u64
+    ensures { λ x. ⌜ x ≡ r .chromEnd - r .chromStart ⌝ }
+{
+    if r.chromEnd < r.chromStart {
+        return 0;
+    }
+    r.chromEnd - r.chromStart
+}
+
+// The one block of a line without block columns.
+fn default_block(r: Bed, lists: &mut [u64])
+    ensures { λ _. ⌜ now (lists .exit) ≡ withDefault r (now (lists .entry)) ⌝ }
+{
+    if r.words == 12 {
+        return;
+    }
+    numbers::store(lists, 0, span_of(r));
+    numbers::store(lists, ledger::BLOCK_LIMIT as usize, 0);
+}
+
+// The blocks (9).
+fn check_blocks(text: &[u8], r: Bed, lists: &[u64]) -> Check
+    requires { ⌜ Blocked (now text) r (now lists) ⌝ }
+    ensures { λ x. ⌜ x ≡ blockCheck (now (text .entry)) r ⌝ }
+{
+    let b = ledger::BLOCK_LIMIT as usize;
+    if blocks::blocks_fill(&lists[b..], lists, r.blockCount as usize, 0, span_of(r)) {
+        return Check::Holds;
+    }
+    Check::Refused(Refusal {
+        reason: Reason::BlockRules,
+        place: text.len(),
+    })
+}
+
+// The default block, then the blocks.
+fn after_spans(text: &[u8], r: Bed, lists: &mut [u64]) -> BedAnswer
+    requires { ⌜ Listed (now text) r (now lists) ⌝ }
+    ensures { λ x. ⌜ Staged (now (text .entry)) (afterSpans (now (text .entry)) r) (now (lists .exit)) x ⌝ }
+{
+    default_block(r, lists);
+    match check_blocks(text, r, lists) {
+        Check::Refused(x) => BedAnswer::Refused(x),
+        Check::Holds => BedAnswer::Accepted(r),
+    }
+}
+
+// The spans, and on.
+fn after_lines(text: &[u8], n: u64, values: &[u64], lists: &mut [u64]) -> BedAnswer
+    requires { ⌜ Listed (now text) (bedRecord n (length (now text)) (now values)) (now lists) ⌝ }
+    ensures { λ x. ⌜ Staged (now (text .entry)) (afterLines (now (text .entry)) n (now (values .entry))) (now (lists .exit)) x ⌝ }
+{
+    let r = record_of(values, n, text.len());
+    match check_spans(r, values) {
+        Check::Refused(x) => BedAnswer::Refused(x),
+        Check::Holds => after_spans(text, r, lists),
+    }
+}
+
+// A surplus line, and on.
+fn after_columns(text: &[u8], n: u64, values: &[u64], lists: &mut [u64]) -> BedAnswer
+    requires { ⌜ Listed (now text) (bedRecord n (length (now text)) (now values)) (now lists) ⌝ }
+    ensures { λ x. ⌜ Staged (now (text .entry)) (afterColumns (now (text .entry)) n (now (values .entry))) (now (lists .exit)) x ⌝ }
+{
+    match text::check_last_line(text, 0) {
+        Check::Refused(x) => BedAnswer::Refused(x),
+        Check::Holds => after_lines(text, n, values, lists),
+    }
+}
+
+// The columns from the left, and on.
+fn after_words(text: &[u8], n: usize, lists: &mut [u64]) -> BedAnswer
+    requires { ⌜ Counted (now text) n (now lists) ⌝ }
+    ensures { λ x. ⌜ Staged (now (text .entry)) (afterWords (now (text .entry)) n) (now (lists .exit)) x ⌝ }
+{
+    let table = BED;
+    let mut values = [0u64; 24];
+    match columns::read_columns(text, 0, &table[..n], &mut values, lists) {
+        Columns::Refused(x) => BedAnswer::Refused(x),
+        Columns::Next(_) => after_columns(text, n as u64, &values, lists),
+    }
+}
+
+// The number of words, and on.
+fn after_text(text: &[u8], lists: &mut [u64]) -> BedAnswer
+    requires { ⌜ length (now lists) ≡ 2 * blockLimit ⌝ }
+    ensures { λ x. ⌜ Staged (now (text .entry)) (afterText (now (text .entry))) (now (lists .exit)) x ⌝ }
+{
+    let n = text::count_words(text, 0);
+    match check_words(text, n) {
+        Check::Refused(x) => BedAnswer::Refused(x),
+        Check::Holds => after_words(text, n, lists),
+    }
+}
+
+// All checks of a text, the blocks of an accepted line in the working room.
+fn stage(text: &[u8], lists: &mut [u64]) -> BedAnswer
+    requires { ⌜ length (now lists) ≡ 2 * blockLimit ⌝ }
+    ensures { λ x. ⌜ Staged (now (text .entry)) (bedCheck (now (text .entry))) (now (lists .exit)) x ⌝ }
+{
+    match text::check_text(text) {
+        Check::Refused(x) => BedAnswer::Refused(x),
+        Check::Holds => after_text(text, lists),
+    }
+}
+
+// Working room for the sizes and the starts of a record's blocks.
+fn working_room() -> [u64; 1024]
+    ensures { λ r. ⌜ length r ≡ 2 * blockLimit ⌝ }
+{
+    [0; 1024]
+}
+
+// THE TEXT CHECKER: what the reader answers, given room.
+pub fn check_bed_text(text: &[u8]) -> BedAnswer
+    ensures { λ r. ⌜ r ≡ bedCheck (now (text .entry)) ⌝ }
+{
+    let mut lists = working_room();
+    stage(text, &mut lists)
+}
