@@ -9,7 +9,7 @@ use lib.ListN.{length, take, drop, getD, set, length-take, drop-of-length-le}
 use lib.Seq.{drop-cons, getD-take, sets}
 use lib.Dec.{leb, eqb}
 use borrow.Author.Tests.{eq-eqb, ne-eqb, le-leb, lt-leb, eqb-true, eqb-false}
-use Rattle.blocks.specs.Blocks.{orderFrom, blocksFill, areSums, sumsWithin, allBetween}
+use Rattle.blocks.specs.Blocks.{shiftedWithin, subtracted, orderFrom, blocksFill, areSums, sumsWithin, allBetween}
 
 -- the first k rows from a place on: the next one and the rest, or none
 row : (l : List ℕ) (k n i : ℕ) → n ≡ min k (length l) → i < n → drop i (take k l) ≡ getD l i 0 ∷ drop (i + 1) (take k l)
@@ -174,3 +174,28 @@ module _ (l : List ℕ) (k n i : ℕ) (en : n ≡ min k (length l)) where
     pub put-done : n ≤ i → to ≡ sets before 0 (sumsWithin most 0 (take k l))
     unfolding sumsWithin
     put-done h = rw (rows-done l k n i en h) at inv
+
+-- numbers moved up or down, one by one
+module _ (l : List ℕ) (k n : ℕ) (en : n ≡ min k (length l)) (by i : ℕ) (before to : List ℕ) where
+  module _ (most : ℕ) (inv : sets to i (shiftedWithin most by (drop i (take k l))) ≡ sets before 0 (shiftedWithin most by (take k l))) where
+    module _ (h : i < n) where
+      pub shift-over : most - by < getD l i 0 → to ≡ sets before 0 (shiftedWithin most by (take k l))
+      unfolding shiftedWithin
+      shift-over p = rw (row l k n i en h, lt-leb (by + getD l i 0) most (omega arith)) at inv
+
+      pub shift-more : (to′ : List ℕ) → by ≤ most → getD l i 0 ≤ most - by → to′ ≡ set to i (by + getD l i 0) → sets to′ (i + 1) (shiftedWithin most by (drop (i + 1) (take k l))) ≡ sets before 0 (shiftedWithin most by (take k l))
+      unfolding shiftedWithin
+      shift-more to′ q p e = rw (e, add-one i) (rw (row l k n i en h, le-leb (by + getD l i 0) most (omega arith), add-one i) at inv)
+
+    pub shift-done : n ≤ i → to ≡ sets before 0 (shiftedWithin most by (take k l))
+    unfolding shiftedWithin
+    shift-done h = rw (rows-done l k n i en h) at inv
+
+  module _ (inv : sets to i (subtracted by (drop i (take k l))) ≡ sets before 0 (subtracted by (take k l))) where
+    pub less-more : i < n → (to′ : List ℕ) (v : ℕ) → to′ ≡ set to i v → v ≡ getD l i 0 - by → sets to′ (i + 1) (subtracted by (drop (i + 1) (take k l))) ≡ sets before 0 (subtracted by (take k l))
+    unfolding subtracted
+    less-more h to′ v e ev = rw (e, ev, add-one i) (rw (row l k n i en h, add-one i) at inv)
+
+    pub less-done : n ≤ i → to ≡ sets before 0 (subtracted by (take k l))
+    unfolding subtracted
+    less-done h = rw (rows-done l k n i en h) at inv

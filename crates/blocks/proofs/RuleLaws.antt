@@ -10,7 +10,7 @@ use lib.ListN.{length, getD}
 use lib.Dec.{leb, eqb}
 use borrow.Author.Tests.{eq-eqb, ne-eqb, eqb-true, eqb-false, le-leb, lt-leb, leb-true, leb-false}
 use Rattle.numbers.specs.Ranges.{Between, between-none, between-more}
-use Rattle.blocks.specs.Blocks.{orderFrom, blocksFill, sumsFrom, sumsWithin, sumOf, areSums, allBetween, shifted, subtracted}
+use Rattle.blocks.specs.Blocks.{shiftedWithin, orderFrom, blocksFill, sumsFrom, sumsWithin, sumOf, areSums, allBetween, shifted, subtracted}
 use Rattle.blocks.specs.Rules.{Fills, Sums, Ranged}
 
 both : (t u : Bool) → (t && u) ≡ true → (t ≡ true) × (u ≡ true)
@@ -253,3 +253,12 @@ back-shifted a most (x ∷ xs) e =
     let h = leb-true a x (both (leb a x) (leb x most) (b .0) .0) in
     let q : a + (x - a) ≡ x = omega arith in
     rw (q, back-shifted a most xs (b .1))
+
+-- where all of them fit, all numbers moved up are within a number
+pub shifted-within : (most a high : ℕ) (xs : List ℕ) → allBetween 0 high xs ≡ true → a + high ≤ most → shiftedWithin most a xs ≡ shifted a xs
+unfolding shiftedWithin shifted allBetween
+shifted-within most a high [] e h = refl
+shifted-within most a high (x ∷ xs) e h =
+    let b = both (leb 0 x && leb x high) (allBetween 0 high xs) e in
+    let l = leb-true x high (both (leb 0 x) (leb x high) (b .0) .1) in
+    rw (le-leb (a + x) most (omega arith), shifted-within most a high xs (b .1) h)

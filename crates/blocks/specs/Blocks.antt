@@ -56,6 +56,11 @@ unfoldable pub shifted : ℕ → List ℕ → List ℕ
 shifted a [] = []
 shifted a (x ∷ xs) = (a + x) ∷ shifted a xs
 
+-- numbers moved up by a, as long as they are no more than a number
+unfoldable pub shiftedWithin : ℕ → ℕ → List ℕ → List ℕ
+shiftedWithin most a [] = []
+shiftedWithin most a (x ∷ xs) = onlyIf (leb (a + x) most) ((a + x) ∷ shiftedWithin most a xs)
+
 unfoldable pub subtracted : ℕ → List ℕ → List ℕ
 subtracted a [] = []
 subtracted a (x ∷ xs) = (x - a) ∷ subtracted a xs

@@ -1,10 +1,10 @@
 // The rules of blocks over flat slices: order, span, sums and ranges; and moving blocks between tables.
 ghost use mathlib.Core.Path.{_≡_};
-ghost use Prim.Native.Nat.{min};
+ghost use Prim.Native.Nat.{_-_, min};
 ghost use lib.ListN.{take};
 ghost use lib.Seq.{sets};
 ghost use Rattle.ledger.specs.Limits.{largestNumber};
-ghost use Rattle.blocks.specs.Blocks.{blocksFill, areSums, sumsWithin, allBetween, countFits, rowsOf};
+ghost use Rattle.blocks.specs.Blocks.{blocksFill, areSums, sumsWithin, shiftedWithin, subtracted, allBetween, countFits, rowsOf};
 
 // How many of the first so many rows a slice of some length has.
 fn reach(len: usize, count: usize) -> usize
@@ -124,6 +124,41 @@ pub fn put_sums(sizes: &[u64], count: usize, to: &mut [u64])
             return;
         }
         sum += z;
+        i += 1;
+    }
+}
+
+// Puts the first so many numbers, moved up, at the front of a table, as far as it reaches. A sum that 64 bits do not hold ends them.
+pub fn put_shifted(from: &[u64], count: usize, by: u64, to: &mut [u64])
+    ensures { λ _. ⌜ now (to .exit) ≡ sets (now (to .entry)) 0 (shiftedWithin largestNumber by (take count (now (from .entry)))) ⌝ }
+{
+    let n = reach(from.len(), count);
+    let mut i = 0;
+    while i < n {
+        let x = from[i];
+        if ledger::LARGEST_NUMBER - by < x {
+            return;
+        }
+        numbers::store(to, i, by + x);
+        i += 1;
+    }
+}
+
+// The difference of two numbers, or 0.
+fn less(x: u64, by: u64) -> u64
+    ensures { λ r. ⌜ r ≡ x - by ⌝ }
+{
+    if x < by { 0 } else { x - by }
+}
+
+// Puts the first so many numbers, moved down, at the front of a table, as far as it reaches; none goes below 0.
+pub fn put_subtracted(from: &[u64], count: usize, by: u64, to: &mut [u64])
+    ensures { λ _. ⌜ now (to .exit) ≡ sets (now (to .entry)) 0 (subtracted by (take count (now (from .entry)))) ⌝ }
+{
+    let n = reach(from.len(), count);
+    let mut i = 0;
+    while i < n {
+        numbers::store(to, i, less(from[i], by));
         i += 1;
     }
 }

@@ -1,0 +1,76 @@
+-- The rules of a BED record with its rows, as tests. The record checker asks for all of them; the writer asks for them in its order.
+use Prim.Native.Nat.{ℕ, suc, _+_, _-_, _*_}
+use mathlib.Core.Bool.{Bool, true, false, _&&_, _||_}
+use mathlib.Core.List.{List}
+use lib.ListN.{length, take}
+use lib.Dec.{leb, ltb, eqb}
+use Rattle.ledger.specs.declared.Strand.{Strand}
+use Rattle.ledger.specs.declared.Strand.the-variants.{Plus, Minus, Dot}
+use Rattle.ledger.specs.Limits.{nameLimit, largestPosition, bedScoreLimit, colourLimit}
+use Rattle.text.specs.declared.Class.the-variants.{Graphic}
+use Rattle.text.specs.Scan.{endOf}
+use Rattle.blocks.specs.Blocks.{blocksFill, areSums, allBetween, countFits, rowsOf}
+use Rattle.bed.specs.declared.Bed.{Bed}
+use Rattle.bed.specs.Records.{isWordCount}
+use Rattle.bed.specs.Read.{thickFits}
+
+abbrev pub pickTest : Bool → Bool → Bool → Bool
+pickTest true a b = a
+pickTest false a b = b
+
+-- of column k, counted from 0: a test where it is there, and another where it is left out, past the word count
+abbrev pub ifThere : ℕ → ℕ → Bool → Bool → Bool
+ifThere n k there left = pickTest (ltb k n) there left
+
+-- a name's length
+abbrev pub lengthFits : ℕ → Bool
+lengthFits n = leb 1 n && leb n nameLimit
+
+-- the two names by their lengths; a name left out is empty
+unfoldable pub namesFit : ℕ → ℕ → ℕ → Bool
+namesFit n chrom name = lengthFits chrom && ifThere n 3 (lengthFits name) (eqb name 0)
+
+-- bytes that all show: 33 to 126
+abbrev pub allGraphic : List ℕ → Bool
+allGraphic w = leb (length w) (endOf Graphic w 0)
+
+abbrev pub isDot : Strand → Bool
+isDot Plus = false
+isDot Minus = false
+isDot Dot = true
+
+-- a strand left out is `.`
+unfoldable pub strandFits : Bed → Bool
+strandFits r = ifThere (r .words) 5 true (isDot (r .strand))
+
+-- the number of words, and the numbers of the record in their ranges; a number left out holds its default
+unfoldable pub fieldsFit : Bed → Bool
+fieldsFit r =
+    isWordCount (r .words) && (leb (r .chromStart) largestPosition && (leb (r .chromEnd) largestPosition
+    && (ifThere (r .words) 4 (leb (r .score) bedScoreLimit) (eqb (r .score) 0)
+    && (ifThere (r .words) 6 (leb (r .thickStart) largestPosition) (eqb (r .thickStart) (r .chromStart))
+    && (ifThere (r .words) 7 (leb (r .thickEnd) largestPosition) (eqb (r .thickEnd) (r .chromEnd))
+    && ifThere (r .words) 8 (ltb (r .itemRgb) (suc colourLimit * suc colourLimit * suc colourLimit)) (eqb (r .itemRgb) 0))))))
+
+-- the numbers of the used rows in their ranges
+unfoldable pub rowNumbersFit : List ℕ → List ℕ → List ℕ → Bool
+rowNumbersFit ts qs zs = allBetween 0 largestPosition ts && (allBetween 0 largestPosition qs && allBetween 1 largestPosition zs)
+
+-- the spans
+unfoldable pub spansFit : Bed → Bool
+spansFit r = ltb (r .chromStart) (r .chromEnd) && thickFits r
+
+-- the blocks: where the block columns are left out there is one; they fill the span, and each query start is the sum of the earlier sizes
+unfoldable pub rowsFit : Bed → List ℕ → List ℕ → List ℕ → Bool
+rowsFit r ts qs zs = ifThere (r .words) 9 true (eqb (r .blockCount) 1) && (blocksFill (r .chromStart) (r .chromEnd) ts zs && areSums 0 qs zs)
+
+-- a valid record with its rows: the first blockCount rows of the three slices
+unfoldable pub bedValid : Bed → List ℕ → List ℕ → List ℕ → Bool
+bedValid r ts qs zs =
+    countFits (r .blockCount) (rowsOf ts qs zs)
+    && (namesFit (r .words) (r .chrom .length) (r .name .length)
+    && (strandFits r
+    && (fieldsFit r
+    && (rowNumbersFit (take (r .blockCount) ts) (take (r .blockCount) qs) (take (r .blockCount) zs)
+    && (spansFit r
+    && rowsFit r (take (r .blockCount) ts) (take (r .blockCount) qs) (take (r .blockCount) zs))))))
