@@ -1,2 +1,4 @@
 pub mod ReadLaws
 pub mod ColumnLaws
+pub mod AcceptLaws
+pub mod StoreLaws

@@ -1,5 +1,5 @@
 -- Reading a BED line: the checks in the ledger's order. Each stage names what is tested from there on; the last one, `bedRead`, is the reader.
-use Prim.Native.Nat.{ℕ, _+_, _-_, _*_, _≤_}
+use Prim.Native.Nat.{ℕ, _+_, _-_, _*_, _≤_, _<_}
 use mathlib.Core.Path.{_≡_}
 use mathlib.Core.Bool.{Bool, true, false, _&&_, _||_}
 use mathlib.Core.List.{List, [], _∷_}
@@ -8,7 +8,7 @@ use lib.Seq.{sets}
 use lib.Dec.{leb, ltb, eqb}
 use Rattle.ledger.specs.declared.Reason.the-variants.{WrongCount, SpanDisagrees, BlockRules, NoRoom}
 use Rattle.ledger.specs.declared.Refusal.{Refusal}
-use Rattle.ledger.specs.Limits.{blockLimit}
+use Rattle.ledger.specs.Limits.{blockLimit, largestPosition}
 use Rattle.text.specs.declared.Check.{Check}
 use Rattle.text.specs.declared.Check.the-variants.{Holds}
 use Rattle.text.specs.declared.Check.the-variants as check
@@ -135,3 +135,17 @@ pub record Blocked (s : List ℕ) (r : Bed) (lists : List ℕ) : Type 0 where
 pub record Staged (s : List ℕ) (answer : BedAnswer) (lists′ : List ℕ) (r : BedAnswer) : Type 0 where
   pub is : r ≡ answer
   pub held : (b : Bed) → r ≡ Accepted b → Blocked s b lists′
+
+-- an accepted line's blocks in the working room, and that they fill its span: before the rows are stored
+pub record Stored (s : List ℕ) (r : Bed) (lists : List ℕ) : Type 0 where
+  pub held : Blocked s r lists
+  pub fill : blocksFill 0 (r .chromEnd - r .chromStart) (bedStarts s r) (bedSizes s r) ≡ true
+  pub span : r .chromStart < r .chromEnd
+  pub high : r .chromEnd ≤ largestPosition
+
+-- what storing the rows of an accepted line promises
+pub record RowsStored (s : List ℕ) (r : Bed) (ts ts′ qs qs′ zs zs′ : List ℕ) (x : BedAnswer) : Type 0 where
+  pub is : x ≡ thenCheck (roomCheck s r (rowsOf ts qs zs)) (Accepted r)
+  pub targets : ts′ ≡ rowsAfter x (bedTargets s) ts
+  pub queries : qs′ ≡ rowsAfter x (bedQueries s) qs
+  pub sizes : zs′ ≡ rowsAfter x (bedSizes s) zs

@@ -6,7 +6,7 @@ ghost use lib.ListN.{length, getD, take, drop};
 ghost use Rattle.ledger.specs.Limits.{blockLimit, largestPosition};
 ghost use Rattle.bed.specs.Records.{isWordCount, valueOr, placeOr, partAt, strandIs, bedRecord};
 ghost use Rattle.ledger.specs.Strands.{strandOf};
-ghost use Rattle.bed.specs.Read.{wordsCheck, thickFits, thickPlace, spanCheck, blockCheck, withDefault, afterSpans, afterLines, afterColumns, afterWords, afterText, bedCheck, Counted, Listed, Blocked, Staged, BedRead};
+ghost use Rattle.bed.specs.Read.{wordsCheck, thickFits, thickPlace, spanCheck, blockCheck, withDefault, afterSpans, afterLines, afterColumns, afterWords, afterText, bedCheck, Counted, Listed, Blocked, Staged, Stored, RowsStored, BedRead};
 use columns::Columns;
 use ledger::Part;
 use ledger::Reason;
@@ -291,4 +291,49 @@ pub fn check_bed_text(text: &[u8]) -> BedAnswer
 {
     let mut lists = working_room();
     stage(text, &mut lists)
+}
+
+// The room (11), then the rows into the lent slices.
+fn store_rows(
+    text: &[u8],
+    r: Bed,
+    lists: &[u64],
+    targets: &mut [u64],
+    queries: &mut [u64],
+    sizes: &mut [u64],
+) -> BedAnswer
+    requires { ⌜ Stored (now text) r (now lists) ⌝ }
+    ensures { λ x. ⌜ RowsStored (now (text .entry)) r (now (targets .entry)) (now (targets .exit)) (now (queries .entry))
+        (now (queries .exit)) (now (sizes .entry)) (now (sizes .exit)) x ⌝ }
+{
+    let room = blocks::rows_of(targets, queries, sizes);
+    let count = r.blockCount as usize;
+    if room < count {
+        return BedAnswer::Refused(Refusal {
+            reason: Reason::NoRoom,
+            place: text.len(),
+        });
+    }
+    let b = ledger::BLOCK_LIMIT as usize;
+    blocks::put_shifted(&lists[b..], count, r.chromStart, targets);
+    blocks::put_sums(lists, count, queries);
+    blocks::copy_numbers(lists, count, sizes);
+    BedAnswer::Accepted(r)
+}
+
+// THE READER: one BED line, its blocks to the front of three lent slices. A refusal leaves them as they were, and rows past the blocks stay.
+pub fn read_bed(
+    text: &[u8],
+    targets: &mut [u64],
+    queries: &mut [u64],
+    sizes: &mut [u64],
+) -> BedAnswer
+    ensures { λ x. ⌜ BedRead (now (text .entry)) (now (targets .entry)) (now (targets .exit)) (now (queries .entry))
+        (now (queries .exit)) (now (sizes .entry)) (now (sizes .exit)) x ⌝ }
+{
+    let mut lists = working_room();
+    match stage(text, &mut lists) {
+        BedAnswer::Refused(x) => BedAnswer::Refused(x),
+        BedAnswer::Accepted(r) => store_rows(text, r, &lists, targets, queries, sizes),
+    }
 }
