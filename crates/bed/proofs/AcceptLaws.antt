@@ -1,8 +1,8 @@
 -- What an accepted BED line passed, check by check; and what follows of its span, its blocks and their number. Assumes nothing.
-use mathlib.Core.Path.{_≡_, refl, sym, ap, _∙_}
+use mathlib.Core.Path.{_≡_, refl, sym}
 use mathlib.Core.Bool.{Bool, true, false, _&&_, _||_}
 use mathlib.Core.List.{List, [], _∷_}
-use Prim.Native.Nat.{ℕ, zero, suc, _+_, _-_, _*_, _≤_, _<_}
+use Prim.Native.Nat.{ℕ, _-_, _≤_, _<_}
 use native.Mathlib.Omega.{arith}
 use lib.ListN.{length, getD, take}
 use lib.Dec.{leb, ltb, eqb}
@@ -23,7 +23,7 @@ use Rattle.bed.specs.declared.Bed.{Bed}
 use Rattle.bed.specs.declared.BedAnswer.{BedAnswer}
 use Rattle.bed.specs.declared.BedAnswer.the-variants.{Accepted, Refused}
 use Rattle.bed.specs.Table.{bedColumns}
-use Rattle.bed.specs.Records.{isWordCount, valueOr, bedRecord, bedSizes, bedStarts}
+use Rattle.bed.specs.Records.{isWordCount, bedRecord, bedSizes, bedStarts}
 use Rattle.bed.specs.Read.{thenCheck, thenRead, wordsCheck, thickFits, spanCheck, blockCheck, afterSpans, afterLines, afterColumns, afterWords, afterText, bedCheck}
 use Rattle.bed.specs.Rules.{WordNumber, three-to-nine, twelve}
 use Rattle.bed.proofs.ColumnLaws.{block-sizes, block-starts}
@@ -77,7 +77,7 @@ module _ (s : List ℕ) (r : Bed) where
   accepts-is a = rw (a .text, a .number, a .read, a .line, ← (a .is), a .spans, a .blocks)
 
 -- a check that holds: its test is true, and what follows it holds
-require-holds : (t : Bool) (rest : Check) (x : Refusal) → pickCheck t rest (check.Refused x) ≡ Holds → (t ≡ true) × (rest ≡ Holds)
+pub require-holds : (t : Bool) (rest : Check) (x : Refusal) → pickCheck t rest (check.Refused x) ≡ Holds → (t ≡ true) × (rest ≡ Holds)
 require-holds true rest x e = (refl, e)
 require-holds false rest x e = absurd (let z : _≡_ {A = ℕ} 0 1 = cc in omega arith)
 

@@ -1,4 +1,7 @@
 pub mod ReadLaws
 pub mod ColumnLaws
 pub mod AcceptLaws
+pub mod LineLaws
+pub mod ValidLaws
 pub mod StoreLaws
+pub mod RuleLaws

@@ -28,6 +28,8 @@ use Rattle.bed.specs.declared.Bed.{Bed}
 use Rattle.bed.specs.declared.BedAnswer.{BedAnswer}
 use Rattle.bed.specs.declared.BedAnswer.the-variants.{Accepted, Refused}
 use Rattle.bed.specs.Records.{isWordCount, pickNumber, valueOr, placeOr, partAt, strandIs, bedRecord, bedSizes, bedStarts}
+use Rattle.bed.specs.Tests.{ifThere, bedValid}
+use Rattle.bed.specs.Write.{recordCheck}
 use Rattle.bed.specs.Read.{wordsCheck, thickFits, thickPlace, spanCheck, blockCheck, withDefault, afterSpans, afterLines, afterColumns, afterWords, bedCheck, Listed, Blocked, Staged}
 
 -- the number of words
@@ -215,3 +217,20 @@ pub record-is : (n len : ℕ) (vs : List ℕ) (start end chromPlace chromLength 
 unfolding bedRecord
 record-is n len vs start end cp cl np nl score letter ts te rgb count chrom name strand e₁ e₂ e₃ e₄ e₅ e₆ e₇ e₈ e₉ e₁₀ e₁₁ e₁₂ e₁₃ e₁₄ e₁₅ =
     rw (e₁₂, e₁₃, e₅, e₈, e₁₁, e₁, e₂, e₃, e₄, e₆, e₇, e₉, e₁₀, e₁₄, e₁₅)
+
+-- of a column that is there, and of one that is left out
+pub there-is : (n k : ℕ) (a b : Bool) → k < n → a ≡ ifThere n k a b
+there-is n k a b h = rw (lt-ltb k n h)
+
+pub left-is : (n k : ℕ) (a b : Bool) → n ≤ k → b ≡ ifThere n k a b
+left-is n k a b h = rw (le-ltb k n h)
+
+-- the record checker
+module _ (r : Bed) (ts qs zs : List ℕ) (t : Bool) (et : t ≡ bedValid r ts qs zs) where
+  pub record-good : t ≡ true → Holds ≡ recordCheck r ts qs zs
+  unfolding recordCheck
+  record-good q = rw (← et, q)
+
+  pub record-bad : t ≡ false → check.Refused (record { reason = BlockRules; place = 0 }) ≡ recordCheck r ts qs zs
+  unfolding recordCheck
+  record-bad q = rw (← et, q)

@@ -4,57 +4,22 @@ use mathlib.Core.Bool.{Bool, true, false}
 use mathlib.Core.List.{List, [], _∷_}
 use Prim.Native.Nat.{ℕ, _+_, _-_, _*_, _≤_, _<_}
 use native.Mathlib.Omega.{arith}
-use lib.ListN.{length, getD, take, drop, length-take, length-drop}
-use lib.Seq.{sets, take-all, getD-take}
+use lib.ListN.{length, take, drop, length-drop}
+use lib.Seq.{sets, take-all}
 use lib.Dec.{leb}
 use borrow.Author.Tests.{le-leb, lt-leb}
-use Rattle.ledger.specs.Limits.{blockLimit, largestPosition, largestNumber}
+use Rattle.ledger.specs.Limits.{blockLimit, largestNumber}
 use Rattle.ledger.specs.declared.Reason.the-variants.{NoRoom}
 use Rattle.ledger.specs.declared.Refusal.{Refusal}
-use Rattle.text.specs.Words.{wordCount}
-use Rattle.text.specs.Pieces.{wordsOf, lineOf}
-use Rattle.kinds.specs.declared.Kind.the-variants.{Name, Number}
-use Rattle.kinds.specs.declared.Range.the-variants.{Coordinate}
-use Rattle.kinds.proofs.RangeLaws.{number-spelt}
-use Rattle.columns.specs.Spells.{firsts}
-use Rattle.columns.specs.Places.{kindAt, countBefore}
-use Rattle.columns.proofs.SpellsLaws.{columns-spell}
-use Rattle.columns.proofs.PlaceLaws.{spelt-at, value-first}
 use Rattle.blocks.specs.Blocks.{shifted, shiftedWithin, sumsFrom, sumsWithin, rowsOf, blocksFill, allBetween, sumOf}
 use Rattle.blocks.proofs.RuleLaws.{shifted-within, sums-within, total-fits, fill-low}
 use Rattle.bed.specs.declared.Bed.{Bed}
 use Rattle.bed.specs.declared.BedAnswer.{BedAnswer}
 use Rattle.bed.specs.declared.BedAnswer.the-variants.{Accepted, Refused}
-use Rattle.bed.specs.Table.{bedColumns}
-use Rattle.bed.specs.Rules.{WordNumber, three-to-nine, twelve}
-use Rattle.bed.specs.Records.{bedRecord, bedSizes, bedStarts, bedTargets, bedQueries}
+use Rattle.bed.specs.Records.{bedSizes, bedStarts, bedTargets, bedQueries}
 use Rattle.bed.specs.Read.{thenCheck, roomCheck, rowsAfter, bedCheck, bedRead, Blocked, Staged, Stored, RowsStored, BedRead}
-use Rattle.bed.proofs.AcceptLaws.{lineValues, accepts-of, accepted-number, accepted-fills, accepted-span}
-
--- the end of an accepted line is a coordinate
-number-range : {n : ℕ} → WordNumber n → (3 ≤ n) × (n ≤ 12)
-number-range (three-to-nine a b) = (a, omega arith)
-number-range twelve = (omega arith, omega arith)
-
-columns-length : length bedColumns ≡ 12
-unfolding bedColumns
-columns-length = refl
-
-third-kind : kindAt bedColumns 2 ≡ Number Coordinate
-unfolding bedColumns
-third-kind = refl
-
-pub accepted-end : (s : List ℕ) (r : Bed) → bedCheck s ≡ Accepted r → r .chromEnd ≤ largestPosition
-unfolding bedRecord
-accepted-end s r ok =
-    let a = accepts-of s r ok in
-    let n = wordCount s 0 in
-    let b = number-range (accepted-number s r ok) in
-    let l : length (take n bedColumns) ≡ n = rw length-take (omega (arith, columns-length, b .1)) in
-    let p = spelt-at (columns-spell (take n bedColumns) 0 s 0 (a .end) (sym l) (a .read)) 2 (omega (arith, b .0, l)) in
-    let k : kindAt (take n bedColumns) 2 ≡ Number Coordinate = getD-take n bedColumns 2 Name (omega (arith, b .0)) ∙ third-kind in
-    let q = number-spelt Coordinate (countBefore (take n bedColumns) 0 (firsts (lineValues s)) 0 2) (getD (wordsOf (lineOf s)) 2 []) (getD (firsts (lineValues s)) 2 0) (rw k at p) in
-    rw (a .is, ← value-first (lineValues s) 2) (q .1)
+use Rattle.bed.proofs.AcceptLaws.{accepted-fills, accepted-span}
+use Rattle.bed.proofs.ValidLaws.{accepted-fields}
 
 module _ (s : List ℕ) (r : Bed) (l ts qs zs : List ℕ) (held : Stored s r l) (room : ℕ) (er : room ≡ rowsOf ts qs zs) where
   pub rows-short : room < r .blockCount → RowsStored s r ts ts qs qs zs zs (Refused (record { reason = NoRoom; place = length s }))
@@ -97,7 +62,7 @@ module _ (s ts qs zs l : List ℕ) (x : BedAnswer) (staged : Staged s (bedCheck 
   pub read-staged : (r : Bed) → x ≡ Accepted r → Stored s r l
   read-staged r q =
       let e : bedCheck s ≡ Accepted r = sym (staged .is) ∙ q in
-      record { held = staged .held r q; fill = accepted-fills s r e; span = accepted-span s r e; high = accepted-end s r e }
+      record { held = staged .held r q; fill = accepted-fills s r e; span = accepted-span s r e; high = accepted-fields s r e .endRange }
 
   pub read-stored : (r : Bed) (ts′ qs′ zs′ : List ℕ) (a : BedAnswer) → x ≡ Accepted r → RowsStored s r ts ts′ qs qs′ zs zs′ a → BedRead s ts ts′ qs qs′ zs zs′ a
   unfolding bedRead

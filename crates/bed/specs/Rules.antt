@@ -2,6 +2,8 @@
 use Prim.Native.Nat.{ℕ, suc, _+_, _-_, _*_, _≤_, _<_}
 use mathlib.Core.Path.{_≡_}
 use mathlib.Core.List.{List, [], _∷_}
+use mathlib.Core.Bool.{Bool, true, false}
+use lib.Dec.{ltb}
 use lib.ListN.{length, take, getD}
 use Rattle.ledger.specs.declared.Part.{Part}
 use Rattle.ledger.specs.declared.Strand.the-variants.{Dot}
@@ -104,3 +106,23 @@ pub record BedRules (r : Bed) (ts qs zs : List ℕ) : Type 0 where
   -- the blocks
   pub blocks : Fills (r .chromStart) (r .chromEnd) (r .blockCount) ts zs
   pub sums : Sums (r .blockCount) qs zs
+
+abbrev pub pickPart : Bool → Part → Part → Part
+pickPart true a b = a
+pickPart false a b = b
+
+-- the record with its names where they stand in a text: what the reader makes of the record's standard text
+unfoldable pub placed : List ℕ → Bed → Bed
+placed s r = record {
+  words = r .words;
+  chrom = partOf (wordAt s 0 0);
+  chromStart = r .chromStart;
+  chromEnd = r .chromEnd;
+  name = pickPart (ltb 3 (r .words)) (partOf (wordAt s 0 3)) (record { start = length s; length = 0 });
+  score = r .score;
+  strand = r .strand;
+  thickStart = r .thickStart;
+  thickEnd = r .thickEnd;
+  itemRgb = r .itemRgb;
+  blockCount = r .blockCount;
+}

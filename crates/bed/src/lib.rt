@@ -6,6 +6,8 @@ ghost use lib.ListN.{length, getD, take, drop};
 ghost use Rattle.ledger.specs.Limits.{blockLimit, largestPosition};
 ghost use Rattle.bed.specs.Records.{isWordCount, valueOr, placeOr, partAt, strandIs, bedRecord};
 ghost use Rattle.ledger.specs.Strands.{strandOf};
+ghost use Rattle.bed.specs.Tests.{ifThere, lengthFits, namesFit, isDot, strandFits, fieldsFit, rowNumbersFit, spansFit, rowsFit, bedValid};
+ghost use Rattle.bed.specs.Write.{recordCheck};
 ghost use Rattle.bed.specs.Read.{wordsCheck, thickFits, thickPlace, spanCheck, blockCheck, withDefault, afterSpans, afterLines, afterColumns, afterWords, afterText, bedCheck, Counted, Listed, Blocked, Staged, Stored, RowsStored, BedRead};
 use columns::Columns;
 use ledger::Part;
@@ -36,6 +38,11 @@ pub enum BedAnswer {
 
 // The codes of specs/Table.antt's columns.
 const BED: [u8; 12] = [0, 1, 1, 0, 3, 10, 1, 1, 13, 6, 7, 8];
+
+// The number of colours.
+const COLOURS: u64 = (ledger::COLOUR_LIMIT + 1)
+    * (ledger::COLOUR_LIMIT + 1)
+    * (ledger::COLOUR_LIMIT + 1);
 
 // Whether a line may have so many words.
 fn is_word_count(n: u64) -> bool
@@ -336,4 +343,111 @@ pub fn read_bed(
         BedAnswer::Refused(x) => BedAnswer::Refused(x),
         BedAnswer::Accepted(r) => store_rows(text, r, &lists, targets, queries, sizes),
     }
+}
+
+// Of column k: a test where it is there, and another where it is left out.
+fn if_there(n: u64, k: u64, there: bool, left: bool) -> bool
+    ensures { λ r. ⌜ r ≡ ifThere n k there left ⌝ }
+{
+    if k < n { there } else { left }
+}
+
+fn length_fits(n: usize) -> bool
+    ensures { λ r. ⌜ r ≡ lengthFits n ⌝ }
+{
+    (1 <= n) & (n <= ledger::NAME_LIMIT)
+}
+
+// The two names by their lengths.
+fn names_fit(n: u64, chrom: usize, name: usize) -> bool
+    ensures { λ r. ⌜ r ≡ namesFit n chrom name ⌝ }
+{
+    length_fits(chrom) & if_there(n, 3, length_fits(name), name == 0)
+}
+
+fn is_dot(s: Strand) -> bool
+    ensures { λ r. ⌜ r ≡ isDot s ⌝ }
+{
+    match s {
+        Strand::Plus => false,
+        Strand::Minus => false,
+        Strand::Dot => true,
+    }
+}
+
+fn strand_fits(r: Bed) -> bool
+    ensures { λ x. ⌜ x ≡ strandFits r ⌝ }
+{
+    let strand = r.strand;
+    if_there(r.words, 5, true, is_dot(strand))
+}
+
+// The number of words, and the numbers of the record: in range, or left out.
+fn fields_fit(r: Bed) -> bool
+    ensures { λ x. ⌜ x ≡ fieldsFit r ⌝ }
+{
+    let most = ledger::Position::LARGEST;
+    let score = if_there(r.words, 4, r.score <= ledger::BED_SCORE_LIMIT, r.score == 0);
+    let start = if_there(
+        r.words,
+        6,
+        r.thickStart <= most,
+        r.thickStart == r.chromStart,
+    );
+    let end = if_there(r.words, 7, r.thickEnd <= most, r.thickEnd == r.chromEnd);
+    let colour = if_there(r.words, 8, r.itemRgb < COLOURS, r.itemRgb == 0);
+    is_word_count(r.words)
+        & ((r.chromStart <= most) & ((r.chromEnd <= most) & (score & (start & (end & colour)))))
+}
+
+// The numbers of the used rows.
+fn row_numbers_fit(targets: &[u64], queries: &[u64], sizes: &[u64], count: usize) -> bool
+    ensures { λ x. ⌜ x ≡ rowNumbersFit (take count (now (targets .entry))) (take count (now (queries .entry))) (take count (now (sizes .entry))) ⌝ }
+{
+    let most = ledger::Position::LARGEST;
+    blocks::all_between(targets, count, 0, most)
+        & (blocks::all_between(queries, count, 0, most)
+            & blocks::all_between(sizes, count, 1, most))
+}
+
+fn spans_fit(r: Bed) -> bool
+    ensures { λ x. ⌜ x ≡ spansFit r ⌝ }
+{
+    (r.chromStart < r.chromEnd) & thick_fits(r)
+}
+
+// The blocks of the used rows.
+fn rows_fit(r: Bed, targets: &[u64], queries: &[u64], sizes: &[u64], count: usize) -> bool
+    ensures { λ x. ⌜ x ≡ rowsFit r (take count (now (targets .entry))) (take count (now (queries .entry))) (take count (now (sizes .entry))) ⌝ }
+{
+    if_there(r.words, 9, true, r.blockCount == 1)
+        & (blocks::blocks_fill(targets, sizes, count, r.chromStart, r.chromEnd)
+            & blocks::are_sums(queries, sizes, count))
+}
+
+// All rules of a record with its rows.
+fn record_fits(r: Bed, targets: &[u64], queries: &[u64], sizes: &[u64]) -> bool
+    ensures { λ x. ⌜ x ≡ bedValid r (now (targets .entry)) (now (queries .entry)) (now (sizes .entry)) ⌝ }
+{
+    let rows = blocks::rows_of(targets, queries, sizes);
+    let count = r.blockCount as usize;
+    blocks::count_fits(r.blockCount, rows)
+        & (names_fit(r.words, r.chrom.length, r.name.length)
+            & (strand_fits(r)
+                & (fields_fit(r)
+                    & (row_numbers_fit(targets, queries, sizes, count)
+                        & (spans_fit(r) & rows_fit(r, targets, queries, sizes, count))))))
+}
+
+// THE RECORD CHECKER: a record with the first blockCount rows of three slices; any breach is 9.
+pub fn check_bed(r: Bed, targets: &[u64], queries: &[u64], sizes: &[u64]) -> Check
+    ensures { λ x. ⌜ x ≡ recordCheck r (now (targets .entry)) (now (queries .entry)) (now (sizes .entry)) ⌝ }
+{
+    if record_fits(r, targets, queries, sizes) {
+        return Check::Holds;
+    }
+    Check::Refused(Refusal {
+        reason: Reason::BlockRules,
+        place: 0,
+    })
 }

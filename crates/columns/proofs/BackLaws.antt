@@ -4,7 +4,7 @@ use mathlib.Core.Bool.{Bool, true, false, _||_}
 use mathlib.Core.List.{List, [], _∷_, _++_, append-assoc, append-nil}
 use Prim.Native.Nat.{ℕ, zero, suc, _+_, _*_, _≤_, _<_}
 use native.Mathlib.Omega.{arith}
-use lib.ListN.{length, drop, getD, length-append}
+use lib.ListN.{length, take, drop, getD, length-append}
 use lib.Seq.{sets}
 use lib.Dec.{eqb}
 use borrow.Author.Tests.{eqb-true}
@@ -22,6 +22,7 @@ use Rattle.kinds.proofs.BackLaws.{Written, written, name-same}
 use Rattle.columns.specs.declared.Field.the-variants.{Good}
 use Rattle.columns.specs.declared.Columns.the-variants.{Next}
 use Rattle.columns.specs.Columns.{fieldFrom, columnsFrom, valuesFrom, listsFrom}
+use Rattle.columns.specs.Spells.{Spells, spells-none, spells-more}
 use Rattle.columns.specs.Lines.{gapOf, lineFrom, lineText, fedLine}
 use Rattle.columns.specs.Ranges.{Fit, fit-none, fit-more, Same, same-none, same-more, copied, wordsFrom}
 
@@ -102,7 +103,8 @@ module _ (sep : ℕ) (t vs ls : List ℕ) where
   line-tail k base c [] = ap (λ (x : List ℕ). sep ∷ x) (append-nil (wordOf c t ls base (getD vs (2 * suc k) 0) (getD vs (2 * suc k + 1) 0)))
   line-tail k base c (d ∷ cs) = rw (line-tail (suc k) (baseAfter c base) d cs)
 
-  line-joins : (cs : List Kind) → lineFrom 0 0 cs sep t vs ls ≡ joined sep (wordsFrom 0 0 cs t vs ls)
+  -- a line is its words joined
+  pub line-joins : (cs : List Kind) → lineFrom 0 0 cs sep t vs ls ≡ joined sep (wordsFrom 0 0 cs t vs ls)
   unfolding lineFrom wordsFrom joined
   line-joins [] = refl
   line-joins (c ∷ []) = append-nil (wordOf c t ls 0 (getD vs 0 0) (getD vs 1 0))
@@ -128,3 +130,24 @@ module _ (sep : ℕ) (t vs ls : List ℕ) where
     pub fed-count : (rest : List ℕ) → wordCount (fedLine cs sep t vs ls ++ rest) 0 ≡ length cs
     unfolding wordCount
     fed-count rest = ap length (fed-words rest) ∙ words-length 0 0 cs
+
+-- the first words of a table are the words of its first columns
+pub words-take : (n k base : ℕ) (cs : List Kind) (t vs ls : List ℕ) → wordsFrom k base (take n cs) t vs ls ≡ take n (wordsFrom k base cs t vs ls)
+unfolding wordsFrom
+words-take zero k base cs t vs ls = refl
+words-take (suc n) k base [] t vs ls = refl
+words-take (suc n) k base (c ∷ cs) t vs ls =
+    ap (λ (x : List (List ℕ)). wordOf c t ls base (getD vs (2 * k) 0) (getD vs (2 * k + 1) 0) ∷ x) (words-take n (suc k) (baseAfter c base) cs t vs ls)
+
+-- the values of a table from column k on
+pub valuesAt : ℕ → List Kind → List ℕ → List ℕ
+valuesAt k [] vs = []
+valuesAt k (c ∷ cs) vs = getD vs (2 * k) 0 ∷ valuesAt (suc k) cs vs
+
+-- values in range are spelt by the words that are written of them
+pub fit-spells : (t ls vs : List ℕ) (n k base : ℕ) (cs : List Kind) → Fit t ls vs n base k cs → Spells cs n (wordsFrom k base cs t vs ls) (valuesAt k cs vs)
+unfolding wordsFrom valuesAt
+fit-spells t ls vs n k base [] fit-none = spells-none
+fit-spells t ls vs n k base (c ∷ cs) (fit-more fit fits) =
+    let v = getD vs (2 * k) 0 in
+    spells-more (written c t ls n base v (getD vs (2 * k + 1) 0) fit .back) (fit-spells t ls vs (countAfter c v n) (suc k) (baseAfter c base) cs fits)

@@ -1,0 +1,326 @@
+-- A text is accepted exactly when it is a BED line, and then with the record that it says. Assumes nothing.
+use mathlib.Core.Path.{_≡_, refl, sym, ap, _∙_}
+use mathlib.Core.Bool.{Bool, true, false, _||_}
+use mathlib.Core.List.{List, [], _∷_}
+use Prim.Native.Nat.{ℕ, suc, _+_, _-_, _*_, _≤_, _<_}
+use native.Mathlib.Omega.{arith}
+use lib.ListN.{length, getD, take, drop, length-take, drop-of-length-le}
+use lib.Seq.{getD-take}
+use lib.Dec.{leb, eqb}
+use borrow.Author.Tests.{lt-ltb, le-ltb, le-leb, leb-true, eqb-true}
+use Rattle.ledger.specs.declared.Part.{Part}
+use Rattle.ledger.specs.declared.Strand.{Strand}
+use Rattle.ledger.specs.Limits.{textLimit}
+use Rattle.ledger.specs.Strands.{strandOf, strandLetter}
+use Rattle.ledger.proofs.Laws.{strand-of-letter}
+use Rattle.text.specs.declared.Class.{Class}
+use Rattle.text.specs.declared.Class.the-variants.{Word, Line, Allowed}
+use Rattle.text.specs.declared.Check.the-variants.{Holds}
+use Rattle.text.specs.Scan.{isIn, oneMore, run, endOf}
+use Rattle.text.specs.Checks.{textCheck, lastLineCheck}
+use Rattle.text.specs.Pieces.{piecesOf, nonEmpty, linesOf, lineOf, wordsOf}
+use Rattle.text.specs.Words.{lineEnd, nextLine, wordAt, wordCount, bytesOf}
+use Rattle.text.proofs.Laws.{either, word-ends, text-good, line-last}
+use Rattle.text.proofs.TextLaws.{both}
+use Rattle.text.proofs.PieceLaws.{lines-none, lines-step, word-bytes}
+use Rattle.numbers.specs.declared.Spelt.the-variants.{Means}
+use Rattle.kinds.specs.declared.Kind.the-variants.{Name}
+use Rattle.kinds.specs.Kinds.{spelt, isStrand}
+use Rattle.kinds.proofs.RangeLaws.{name-spelt, strand-spelt}
+use Rattle.columns.specs.declared.Columns.the-variants.{Next}
+use Rattle.columns.specs.Columns.{columnsFrom, valuesFrom}
+use Rattle.columns.specs.Spells.{Spells, firsts}
+use Rattle.columns.specs.Places.{kindAt, countBefore}
+use Rattle.columns.proofs.SpellsLaws.{columns-spell, Reads, spells-read, place-is}
+use Rattle.columns.proofs.PlaceLaws.{spelt-at, value-first, value-second}
+use Rattle.blocks.specs.Rules.{Fills}
+use Rattle.blocks.proofs.RuleLaws.{fills-of, fills-is}
+use Rattle.bed.specs.declared.Bed.{Bed}
+use Rattle.bed.specs.declared.BedAnswer.the-variants.{Accepted}
+use Rattle.bed.specs.Table.{bedColumns}
+use Rattle.bed.specs.Records.{valueOr, placeOr, partAt, strandIs, bedRecord, bedSizes, bedStarts}
+use Rattle.bed.specs.Read.{wordsCheck, thickFits, spanCheck, blockCheck, bedCheck}
+use Rattle.bed.specs.Rules.{WordNumber, three-to-nine, twelve, partOf, BedLine}
+use Rattle.bed.proofs.ReadLaws.{value-there, value-left}
+use Rattle.bed.proofs.AcceptLaws.{lineValues, Accepts, accepts-of, accepts-is, require-holds, number-is, words-of, span-of, thick-of, sizes-count, starts-count, accepted-count, accepted-starts, accepted-fills}
+
+-- a scan ends in the text
+run-most : (c : Class) (s : List ℕ) → run c s ≤ length s
+unfolding run
+run-most c [] = omega arith
+run-most c (b ∷ s) = go (isIn c b) (run-most c s)
+  where
+    go : (t : Bool) → run c s ≤ length s → oneMore t (run c s) ≤ suc (length s)
+    go true h = omega arith
+    go false h = omega arith
+
+empty-none : wordCount [] 0 ≡ 0
+unfolding wordCount lineOf wordsOf nonEmpty piecesOf run
+empty-none = refl
+
+-- the text's length and bytes
+module _ (s : List ℕ) where
+  text-of : textCheck s ≡ Holds → (length s ≤ textLimit) × (run Allowed s ≡ length s)
+  unfolding textCheck endOf
+  text-of e =
+      let a = require-holds (leb (length s) textLimit) _ _ e in
+      let b = require-holds (leb (length s) (endOf Allowed s 0)) _ _ (a .1) in
+      let l : length s ≤ 0 + run Allowed s = leb-true (length s) (endOf Allowed s 0) (b .0) in
+      (leb-true (length s) textLimit (a .0), omega (arith, run-most Allowed s))
+
+  text-is : length s ≤ textLimit → run Allowed s ≡ length s → textCheck s ≡ Holds
+  unfolding endOf
+  text-is h e = sym (text-good s (endOf Allowed s 0) h refl (omega arith))
+
+  -- its one line
+  line-is-first : take (lineEnd s 0 - 0) (drop 0 s) ≡ lineOf s
+  unfolding lineEnd endOf lineOf
+  line-is-first =
+      let q : 0 + run Line s - 0 ≡ run Line s = omega arith in
+      rw q
+
+  lines-split : 0 < length s → linesOf s ≡ lineOf s ∷ linesOf (drop (nextLine s 0) s)
+  lines-split h = lines-step s 0 h ∙ ap (λ (l : List ℕ). l ∷ linesOf (drop (nextLine s 0) s)) line-is-first
+
+  one-of : 0 < length s → lastLineCheck s 0 ≡ Holds → linesOf s ≡ lineOf s ∷ []
+  unfolding lastLineCheck
+  one-of h e =
+      let l = leb-true (length s) (nextLine s 0) (require-holds (leb (length s) (nextLine s 0)) _ _ e .0) in
+      lines-split h ∙ rw (drop-of-length-le s l, lines-none)
+
+  one-is : linesOf s ≡ lineOf s ∷ [] → lastLineCheck s 0 ≡ Holds
+  one-is e =
+      sym (line-last s 0 (nextLine s 0) refl (either (length s) (nextLine s 0) _ (λ h. h) (λ h.
+      let p = lines-split (omega arith) in
+      let q = lines-step s (nextLine s 0) h in
+      absurd (let z : _≡_ {A = ℕ} 0 1 = cc in omega arith))))
+
+  some-text : 1 ≤ wordCount s 0 → 0 < length s
+  some-text h = go s h
+    where
+      go : (t : List ℕ) → 1 ≤ wordCount t 0 → 0 < length t
+      go [] k = absurd (omega (arith, empty-none))
+      go (x ∷ t) k = omega arith
+
+-- the number of words
+pub most-words : {n : ℕ} → WordNumber n → n ≤ 12
+most-words (three-to-nine a b) = omega arith
+most-words twelve = omega arith
+
+pub least-words : {n : ℕ} → WordNumber n → 3 ≤ n
+least-words (three-to-nine a b) = a
+least-words twelve = omega arith
+
+words-is : (s : List ℕ) (n : ℕ) → WordNumber n → wordsCheck s n ≡ Holds
+unfolding wordsCheck
+words-is s n w = rw (le-leb n 12 (most-words w), number-is w)
+
+-- the spans
+pub thick-order : (r : Bed) → thickFits r ≡ true → (r .chromStart ≤ r .thickStart) × (r .thickStart ≤ r .thickEnd) × (r .thickEnd ≤ r .chromEnd)
+thick-order r e =
+    let a = both (leb (r .chromStart) (r .thickStart)) _ e in
+    let b = both (leb (r .thickStart) (r .thickEnd)) _ (a .1) in
+    (leb-true _ _ (a .0), leb-true _ _ (b .0), leb-true _ _ (b .1))
+
+span-is : (r : Bed) (vs : List ℕ) → r .chromStart < r .chromEnd → r .chromStart ≤ r .thickStart → r .thickStart ≤ r .thickEnd → r .thickEnd ≤ r .chromEnd → spanCheck r vs ≡ Holds
+unfolding spanCheck
+span-is r vs h a b c = rw (lt-ltb (r .chromStart) (r .chromEnd) h, le-leb (r .chromStart) (r .thickStart) a, le-leb (r .thickStart) (r .thickEnd) b, le-leb (r .thickEnd) (r .chromEnd) c)
+
+block-is : (s : List ℕ) (r : Bed) → length (bedStarts s r) ≡ r .blockCount → length (bedSizes s r) ≡ r .blockCount → Fills 0 (r .chromEnd - r .chromStart) (r .blockCount) (bedStarts s r) (bedSizes s r) → blockCheck s r ≡ Holds
+unfolding blockCheck
+block-is s r a b f = rw (fills-is 0 (r .chromEnd - r .chromStart) (r .blockCount) (bedStarts s r) (bedSizes s r) a b f)
+
+-- a word's bytes are as many as its extent says
+pub word-length : (s : List ℕ) (k : ℕ) → length (bytesOf s (wordAt s 0 k)) ≡ wordAt s 0 k .end - wordAt s 0 k .start
+unfolding bytesOf endOf
+word-length s k =
+    let w = wordAt s 0 k in
+    let a : w .end ≡ w .start + run Word (drop (w .start) s) = word-ends s 0 k in
+    let b = run-most Word (drop (w .start) s) in
+    rw length-take (omega arith)
+
+-- the columns of a line that is read, by their numbers
+module _ (s : List ℕ) (e : ℕ) (number : WordNumber (wordCount s 0)) (read : columnsFrom (take (wordCount s 0) bedColumns) 0 s 0 ≡ Next e) where
+  columns-count : wordCount s 0 ≡ length (take (wordCount s 0) bedColumns)
+  unfolding bedColumns
+  columns-count = rw length-take (omega (arith, most-words number))
+
+  pub line-spells : Spells (take (wordCount s 0) bedColumns) 0 (wordsOf (lineOf s)) (firsts (lineValues s))
+  line-spells = columns-spell (take (wordCount s 0) bedColumns) 0 s 0 e columns-count read
+
+  module _ (k : ℕ) (h : k < wordCount s 0) where
+    -- word k spells value k
+    pub value-spelt : spelt (kindAt bedColumns k) (countBefore (take (wordCount s 0) bedColumns) 0 (firsts (lineValues s)) 0 k) (bytesOf s (wordAt s 0 k)) ≡ Means (getD (lineValues s) (2 * k) 0)
+    value-spelt =
+        let p = spelt-at line-spells k (omega (arith, columns-count)) in
+        rw (word-bytes s 0 k, ← value-first (lineValues s) k, ← getD-take (wordCount s 0) bedColumns k Name h) p
+
+    -- and stands at place k
+    pub place-spelt : getD (lineValues s) (2 * k + 1) 0 ≡ wordAt s 0 k .start
+    place-spelt = sym (value-second (lineValues s) k) ∙ place-is (take (wordCount s 0) bedColumns) 0 s 0 e read k (omega (arith, columns-count))
+
+    pub name-part : kindAt bedColumns k ≡ Name → partAt (getD (lineValues s) (2 * k + 1) 0) (getD (lineValues s) (2 * k) 0) ≡ partOf (wordAt s 0 k)
+    name-part q =
+        let p = name-spelt _ (bytesOf s (wordAt s 0 k)) (getD (lineValues s) (2 * k) 0) (rw q at value-spelt) in
+        let v : getD (lineValues s) (2 * k) 0 ≡ wordAt s 0 k .end - wordAt s 0 k .start = p .0 ∙ word-length s k in
+        rw (place-spelt, v)
+
+-- a column or its default
+module _ (n : ℕ) (us : List ℕ) (k : ℕ) where
+  value-is : (d v : ℕ) → (k < n → v ≡ getD us (2 * k) 0) → (n ≤ k → v ≡ d) → v ≡ valueOr n us k d
+  value-is d v there left = either n k _ (λ h. left h ∙ value-left n us k d h) (λ h. value-there n us k d v h (there h))
+
+  part-is : (len : ℕ) (p : Part) → (k < n → p ≡ partAt (getD us (2 * k + 1) 0) (getD us (2 * k) 0)) → (n ≤ k → p ≡ partAt len 0) → p ≡ partAt (placeOr n us k len) (valueOr n us k 0)
+  part-is len p there left = either n k _ (λ h. rw (le-ltb k n h) (left h)) (λ h. rw (lt-ltb k n h) (there h))
+
+  value-got : (d : ℕ) → k < n → valueOr n us k d ≡ getD us (2 * k) 0
+  value-got d h = rw (lt-ltb k n h)
+
+  value-none : (d : ℕ) → n ≤ k → valueOr n us k d ≡ d
+  value-none d h = rw (le-ltb k n h)
+
+-- a strand is read from its letter, and a letter from its strand
+strand-is : (t : Strand) (v : ℕ) → strandLetter t ≡ v → t ≡ strandIs (strandOf v)
+strand-is t v e = rw (← e, strand-of-letter t)
+
+letter-is : (v : ℕ) → isStrand true (v ∷ []) ≡ true → strandLetter (strandIs (strandOf v)) ≡ v
+letter-is v h = go (eqb v 43) (eqb v 45) (eqb v 46) refl refl refl h
+  where
+    go : (x y z : Bool) → eqb v 43 ≡ x → eqb v 45 ≡ y → eqb v 46 ≡ z → (x || (y || z)) ≡ true → strandLetter (strandIs (strandOf v)) ≡ v
+    go true y z e f g k = rw e (sym (eqb-true v 43 e))
+    go false true z e f g k = rw (e, f) (sym (eqb-true v 45 f))
+    go false false true e f g k = rw (e, f, g) (sym (eqb-true v 46 g))
+    go false false false e f g k = absurd (let q : _≡_ {A = ℕ} 0 1 = cc in omega arith)
+
+-- two records with the same fields are the same
+bed-same : (r q : Bed) → r .words ≡ q .words → r .chrom ≡ q .chrom → r .chromStart ≡ q .chromStart → r .chromEnd ≡ q .chromEnd → r .name ≡ q .name → r .score ≡ q .score → r .strand ≡ q .strand → r .thickStart ≡ q .thickStart → r .thickEnd ≡ q .thickEnd → r .itemRgb ≡ q .itemRgb → r .blockCount ≡ q .blockCount → r ≡ q
+bed-same r q a b c d e f g h i j k =
+    let z : _≡_ {A = Bed} (record {
+      words = r .words;
+      chrom = r .chrom;
+      chromStart = r .chromStart;
+      chromEnd = r .chromEnd;
+      name = r .name;
+      score = r .score;
+      strand = r .strand;
+      thickStart = r .thickStart;
+      thickEnd = r .thickEnd;
+      itemRgb = r .itemRgb;
+      blockCount = r .blockCount;
+    }) q = rw (a, b, c, d, e, f, g, h, i, j, k) in
+    z
+
+-- an accepted line is a BED line that says its record
+module _ (s : List ℕ) (r : Bed) (ok : bedCheck s ≡ Accepted r) where
+  abbrev a : Accepts s r
+  a = accepts-of s r ok
+
+  abbrev n : ℕ
+  n = wordCount s 0
+
+  abbrev us : List ℕ
+  us = lineValues s
+
+  number : WordNumber n
+  number = words-of s n (a .number)
+
+  name-at : (k : ℕ) → k < n → kindAt bedColumns k ≡ Name → partAt (getD us (2 * k + 1) 0) (getD us (2 * k) 0) ≡ partOf (wordAt s 0 k)
+  name-at k h q = name-part s (a .end) number (a .read) k h q
+
+  first-at : (k : ℕ) → getD us (2 * k) 0 ≡ getD (firsts us) k 0
+  first-at k = sym (value-first us k)
+
+  letter-at : 5 < n → strandLetter (strandIs (strandOf (getD us 10 0))) ≡ getD us 10 0
+  unfolding bedColumns
+  letter-at h = letter-is (getD us 10 0) (strand-spelt true _ (bytesOf s (wordAt s 0 5)) (getD us 10 0) (value-spelt s (a .end) number (a .read) 5 h) .0)
+
+  pub line-of : BedLine s (firsts (valuesFrom (take (wordCount s 0) bedColumns) 0 s 0)) r
+  unfolding bedRecord bedColumns
+  line-of =
+      let t = text-of s (a .text) in
+      let o = thick-order r (thick-of r us (a .spans)) in
+      let i = a .is in
+      let three = least-words number in
+      record {
+        short = t .0;
+        allowed = t .1;
+        oneLine = one-of s (some-text s (omega arith)) (a .line);
+        number = number;
+        spelt = line-spells s (a .end) number (a .read);
+        words = rw i;
+        chrom = rw i (name-at 0 (omega arith) refl);
+        chromStart = rw i (first-at 1);
+        chromEnd = rw i (first-at 2);
+        name = rw i (λ h. rw (lt-ltb 3 n h) (name-at 3 h refl));
+        score = rw i (λ h. value-got n us 4 0 h ∙ first-at 4);
+        strand = rw i (λ h. rw (lt-ltb 5 n h) (letter-at h ∙ first-at 5));
+        thickStart = rw i (λ h. value-got n us 6 (getD us 2 0) h ∙ first-at 6);
+        thickEnd = rw i (λ h. value-got n us 7 (getD us 4 0) h ∙ first-at 7);
+        itemRgb = rw i (λ h. value-got n us 8 0 h ∙ first-at 8);
+        blockCount = rw i (λ h. value-got n us 9 1 h ∙ first-at 9);
+        noName = rw i (λ h. rw (le-ltb 3 n h));
+        noScore = rw i (λ h. value-none n us 4 0 h);
+        noStrand = rw i (λ h. rw (le-ltb 5 n h));
+        noThickStart = rw i (λ h. value-none n us 6 (getD us 2 0) h);
+        noThickEnd = rw i (λ h. value-none n us 7 (getD us 4 0) h);
+        noItemRgb = rw i (λ h. value-none n us 8 0 h);
+        noBlocks = rw i (λ h. value-none n us 9 1 h);
+        span = span-of r us (a .spans);
+        thickLow = o .0;
+        thickOrder = o .1;
+        thickHigh = o .2;
+        blocks = fills-of 0 (r .chromEnd - r .chromStart) (r .blockCount) (bedStarts s r) (bedSizes s r) (accepted-starts s r ok) (accepted-count s r ok) (accepted-fills s r ok);
+      }
+
+-- and a BED line is accepted, with the record that it says
+module _ (s : List ℕ) (r : Bed) (vs : List ℕ) (line : BedLine s vs r) where
+  reads : Reads (take (wordCount s 0) bedColumns) 0 s 0 vs
+  unfolding bedColumns
+  reads = spells-read (take (wordCount s 0) bedColumns) 0 s 0 (wordsOf (lineOf s)) vs (rw length-take (omega (arith, most-words (line .number)))) refl (line .spelt)
+
+  value-at : (k : ℕ) → getD vs k 0 ≡ getD (lineValues s) (2 * k) 0
+  value-at k = sym (ap (λ (l : List ℕ). getD l k 0) (reads .values)) ∙ value-first (lineValues s) k
+
+  part-at : (k : ℕ) → k < wordCount s 0 → kindAt bedColumns k ≡ Name → partOf (wordAt s 0 k) ≡ partAt (getD (lineValues s) (2 * k + 1) 0) (getD (lineValues s) (2 * k) 0)
+  part-at k h q = sym (name-part s (reads .end) (line .number) (reads .read) k h q)
+
+  there : (k : ℕ) → k < wordCount s 0 → k < r .words
+  there k h = omega (arith, line .words)
+
+  left : (k : ℕ) → wordCount s 0 ≤ k → r .words ≤ k
+  left k h = omega (arith, line .words)
+
+  said : r ≡ bedRecord (wordCount s 0) (length s) (lineValues s)
+  unfolding bedRecord bedColumns
+  said =
+      let n = wordCount s 0 in
+      let us = lineValues s in
+      let start : r .chromStart ≡ getD us 2 0 = line .chromStart ∙ value-at 1 in
+      let end : r .chromEnd ≡ getD us 4 0 = line .chromEnd ∙ value-at 2 in
+      bed-same r (bedRecord n (length s) us) (line .words) (line .chrom ∙ part-at 0 (omega (arith, least-words (line .number))) refl) start end
+      (part-is n us 3 (length s) (r .name) (λ h. line .name (there 3 h) ∙ part-at 3 h refl) (λ h. line .noName (left 3 h)))
+      (value-is n us 4 0 (r .score) (λ h. line .score (there 4 h) ∙ value-at 4) (λ h. line .noScore (left 4 h)))
+      (strand-is (r .strand) (valueOr n us 5 46) (value-is n us 5 46 (strandLetter (r .strand)) (λ h. line .strand (there 5 h) ∙ value-at 5) (λ h. ap strandLetter (line .noStrand (left 5 h)))))
+      (value-is n us 6 (getD us 2 0) (r .thickStart) (λ h. line .thickStart (there 6 h) ∙ value-at 6) (λ h. line .noThickStart (left 6 h) ∙ start))
+      (value-is n us 7 (getD us 4 0) (r .thickEnd) (λ h. line .thickEnd (there 7 h) ∙ value-at 7) (λ h. line .noThickEnd (left 7 h) ∙ end))
+      (value-is n us 8 0 (r .itemRgb) (λ h. line .itemRgb (there 8 h) ∙ value-at 8) (λ h. line .noItemRgb (left 8 h)))
+      (value-is n us 9 1 (r .blockCount) (λ h. line .blockCount (there 9 h) ∙ value-at 9) (λ h. line .noBlocks (left 9 h)))
+
+  line-accepts : Accepts s r
+  line-accepts =
+      let q = said in
+      let starts : length (bedStarts s r) ≡ r .blockCount = rw q (starts-count s (reads .end) (reads .read) (length s) (line .number)) in
+      let sizes : length (bedSizes s r) ≡ r .blockCount = rw q (sizes-count s (reads .end) (reads .read) (length s) (line .number)) in
+      record {
+        text = text-is s (line .short) (line .allowed);
+        number = words-is s (wordCount s 0) (line .number);
+        end = reads .end;
+        read = reads .read;
+        line = one-is s (line .oneLine);
+        is = q;
+        spans = span-is r (lineValues s) (line .span) (line .thickLow) (line .thickOrder) (line .thickHigh);
+        blocks = block-is s r starts sizes (line .blocks);
+      }
+
+pub line-is : (s : List ℕ) (r : Bed) (vs : List ℕ) → BedLine s vs r → bedCheck s ≡ Accepted r
+line-is s r vs line = accepts-is s r (line-accepts s r vs line)

@@ -1,0 +1,64 @@
+-- Writing a BED record: the writers' refusals in their order, and the standard text.
+use Prim.Native.Nat.{ℕ, suc, _+_, _-_, _<_, _≤_}
+use mathlib.Core.Path.{_≡_}
+use mathlib.Core.Bool.{Bool, true, false, _&&_}
+use mathlib.Core.List.{List, [], _∷_, _++_}
+use lib.ListN.{length, take}
+use Rattle.ledger.specs.declared.Reason.the-variants.{NumberOutOfRange, BadWord, SpanDisagrees, BlockRules}
+use Rattle.ledger.specs.declared.Refusal.{Refusal}
+use Rattle.ledger.specs.Strands.{strandLetter}
+use Rattle.text.specs.declared.Check.{Check}
+use Rattle.text.specs.declared.Check.the-variants.{Holds}
+use Rattle.text.specs.declared.Check.the-variants as check
+use Rattle.text.specs.Checks.{require}
+use Rattle.text.specs.Pieces.{joined}
+use Rattle.text.specs.Words.{wordAt}
+use Rattle.writing.specs.Digits.{digits, listText}
+use Rattle.writing.specs.declared.Writing.{Writing}
+use Rattle.writing.specs.declared.Writing.the-variants as writing
+use Rattle.writing.specs.Answers.{roomAnswer, leftAfter}
+use Rattle.kinds.specs.Words.{colourText}
+use Rattle.blocks.specs.Blocks.{countFits, rowsOf, subtracted}
+use Rattle.bed.specs.declared.Bed.{Bed}
+use Rattle.bed.specs.Tests.{namesFit, allGraphic, strandFits, fieldsFit, rowNumbersFit, spansFit, rowsFit, bedValid, ifThere}
+
+-- the names that are handed in: their lengths, and that all their bytes show
+unfoldable pub namesShow : Bed → List ℕ → List ℕ → Bool
+namesShow r chrom name = namesFit (r .words) (length chrom) (length name) && (allGraphic chrom && allGraphic name)
+
+-- the refusals, each at place 0: a bad row count (9); names and strand (6); the word count and numbers, a row's too (5); spans (7); blocks (9)
+unfoldable pub writeCheck : Bed → List ℕ → List ℕ → List ℕ → List ℕ → List ℕ → Check
+writeCheck r chrom name ts qs zs =
+    require (countFits (r .blockCount) (rowsOf ts qs zs)) BlockRules 0
+    (require (namesShow r chrom name && strandFits r) BadWord 0
+    (require (fieldsFit r && rowNumbersFit (take (r .blockCount) ts) (take (r .blockCount) qs) (take (r .blockCount) zs)) NumberOutOfRange 0
+    (require (spansFit r) SpanDisagrees 0
+    (require (rowsFit r (take (r .blockCount) ts) (take (r .blockCount) qs) (take (r .blockCount) zs)) BlockRules 0
+    Holds))))
+
+-- the twelve words of a record: ts and zs are the targets and sizes of its rows
+unfoldable pub bedWords : Bed → List ℕ → List ℕ → List ℕ → List ℕ → List (List ℕ)
+bedWords r chrom name ts zs =
+    chrom ∷ digits (r .chromStart) ∷ digits (r .chromEnd) ∷ name ∷ digits (r .score) ∷ (strandLetter (r .strand) ∷ []) ∷ digits (r .thickStart) ∷ digits (r .thickEnd) ∷ colourText (r .itemRgb) ∷ digits (r .blockCount)
+    ∷ listText (take (r .blockCount) zs) ∷ listText (subtracted (r .chromStart) (take (r .blockCount) ts)) ∷ []
+
+-- THE STANDARD TEXT: the words up to the word count, a tab between them, and a line feed
+unfoldable pub bedText : Bed → List ℕ → List ℕ → List ℕ → List ℕ → List ℕ
+bedText r chrom name ts zs = joined 9 (take (r .words) (bedWords r chrom name ts zs)) ++ (10 ∷ [])
+
+abbrev pub thenWrite : Check → Writing → Writing
+thenWrite Holds rest = rest
+thenWrite (check.Refused x) rest = writing.Refused x
+
+-- THE WRITER: the checks, then the text's length (1), then the room (11)
+unfoldable pub bedWrite : Bed → List ℕ → List ℕ → List ℕ → List ℕ → List ℕ → ℕ → Writing
+bedWrite r chrom name ts qs zs room = thenWrite (writeCheck r chrom name ts qs zs) (roomAnswer (length (bedText r chrom name ts zs)) room)
+
+-- what the writer promises: the answer, and the buffer with the text at its front, or as it was
+pub record BedWrote (r : Bed) (chrom name ts qs zs before after : List ℕ) (x : Writing) : Type 0 where
+  pub is : x ≡ bedWrite r chrom name ts qs zs (length before)
+  pub left : after ≡ leftAfter x (bedText r chrom name ts zs) before
+
+-- THE RECORD CHECKER: any breach is 9, at place 0
+unfoldable pub recordCheck : Bed → List ℕ → List ℕ → List ℕ → Check
+recordCheck r ts qs zs = require (bedValid r ts qs zs) BlockRules 0 Holds
