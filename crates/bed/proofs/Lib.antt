@@ -5,3 +5,4 @@ pub mod LineLaws
 pub mod ValidLaws
 pub mod StoreLaws
 pub mod RuleLaws
+pub mod WriteLaws

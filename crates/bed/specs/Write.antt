@@ -1,11 +1,12 @@
 -- Writing a BED record: the writers' refusals in their order, and the standard text.
-use Prim.Native.Nat.{ℕ, suc, _+_, _-_, _<_, _≤_}
+use Prim.Native.Nat.{ℕ, suc, _+_, _-_, _*_, _<_, _≤_}
 use mathlib.Core.Path.{_≡_}
 use mathlib.Core.Bool.{Bool, true, false, _&&_}
 use mathlib.Core.List.{List, [], _∷_, _++_}
-use lib.ListN.{length, take}
+use lib.ListN.{length, take, drop}
 use Rattle.ledger.specs.declared.Reason.the-variants.{NumberOutOfRange, BadWord, SpanDisagrees, BlockRules}
 use Rattle.ledger.specs.declared.Refusal.{Refusal}
+use Rattle.ledger.specs.Limits.{nameLimit, blockLimit}
 use Rattle.ledger.specs.Strands.{strandLetter}
 use Rattle.text.specs.declared.Check.{Check}
 use Rattle.text.specs.declared.Check.the-variants.{Holds}
@@ -46,6 +47,11 @@ bedWords r chrom name ts zs =
 unfoldable pub bedText : Bed → List ℕ → List ℕ → List ℕ → List ℕ → List ℕ
 bedText r chrom name ts zs = joined 9 (take (r .words) (bedWords r chrom name ts zs)) ++ (10 ∷ [])
 
+-- the same as values by column, for the line writer: two numbers a column, a name's length and where it stands in a text of names
+unfoldable pub bedValues : Bed → ℕ → ℕ → List ℕ
+bedValues r chrom name =
+    chrom ∷ 0 ∷ r .chromStart ∷ 0 ∷ r .chromEnd ∷ 0 ∷ name ∷ nameLimit ∷ r .score ∷ 0 ∷ strandLetter (r .strand) ∷ 0 ∷ r .thickStart ∷ 0 ∷ r .thickEnd ∷ 0 ∷ r .itemRgb ∷ 0 ∷ r .blockCount ∷ 0 ∷ r .blockCount ∷ 0 ∷ r .blockCount ∷ 0 ∷ []
+
 abbrev pub thenWrite : Check → Writing → Writing
 thenWrite Holds rest = rest
 thenWrite (check.Refused x) rest = writing.Refused x
@@ -62,3 +68,31 @@ pub record BedWrote (r : Bed) (chrom name ts qs zs before after : List ℕ) (x :
 -- THE RECORD CHECKER: any breach is 9, at place 0
 unfoldable pub recordCheck : Bed → List ℕ → List ℕ → List ℕ → Check
 recordCheck r ts qs zs = require (bedValid r ts qs zs) BlockRules 0 Holds
+
+-- the stages of writing a record that passed the checks: two names in a text of their own, and the two lists of its blocks
+pub record NamesShort (chrom name names : List ℕ) : Type 0 where
+  pub long : length names ≡ 2 * nameLimit
+  pub chromShort : length chrom ≤ nameLimit
+  pub nameShort : length name ≤ nameLimit
+
+pub record NamesPut (chrom name names : List ℕ) : Type 0 where
+  pub chromAt : take (length chrom) (drop 0 names) ≡ chrom
+  pub nameAt : take (length name) (drop nameLimit names) ≡ name
+
+pub record RowsThere (r : Bed) (ts zs lists : List ℕ) : Type 0 where
+  pub long : length lists ≡ 2 * blockLimit
+  pub few : r .blockCount ≤ blockLimit
+  pub targets : r .blockCount ≤ length ts
+  pub sizes : r .blockCount ≤ length zs
+
+pub record ListsPut (r : Bed) (ts zs lists : List ℕ) : Type 0 where
+  pub sizes : take (r .blockCount) (drop 0 lists) ≡ take (r .blockCount) zs
+  pub starts : take (r .blockCount) (drop blockLimit lists) ≡ subtracted (r .chromStart) (take (r .blockCount) ts)
+
+pub record Writable (r : Bed) (chrom name ts zs : List ℕ) : Type 0 where
+  pub words : r .words ≤ 12
+  pub chromShort : length chrom ≤ nameLimit
+  pub nameShort : length name ≤ nameLimit
+  pub few : r .blockCount ≤ blockLimit
+  pub targets : r .blockCount ≤ length ts
+  pub sizes : r .blockCount ≤ length zs

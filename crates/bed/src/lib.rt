@@ -3,11 +3,13 @@ ghost use mathlib.Core.Path.{_≡_};
 ghost use mathlib.Core.Bool.{true};
 ghost use Prim.Native.Nat.{_+_, _-_, _*_, _≤_};
 ghost use lib.ListN.{length, getD, take, drop};
-ghost use Rattle.ledger.specs.Limits.{blockLimit, largestPosition};
+ghost use Rattle.ledger.specs.Limits.{nameLimit, blockLimit};
+ghost use Rattle.writing.specs.Answers.{Wrote};
 ghost use Rattle.bed.specs.Records.{isWordCount, valueOr, placeOr, partAt, strandIs, bedRecord};
 ghost use Rattle.ledger.specs.Strands.{strandOf};
-ghost use Rattle.bed.specs.Tests.{ifThere, lengthFits, namesFit, isDot, strandFits, fieldsFit, rowNumbersFit, spansFit, rowsFit, bedValid};
-ghost use Rattle.bed.specs.Write.{recordCheck};
+ghost use Rattle.text.specs.Checks.{require};
+ghost use Rattle.bed.specs.Tests.{ifThere, lengthFits, allGraphic, namesFit, isDot, strandFits, fieldsFit, rowNumbersFit, spansFit, rowsFit, bedValid};
+ghost use Rattle.bed.specs.Write.{namesShow, writeCheck, bedValues, bedText, NamesShort, NamesPut, RowsThere, ListsPut, Writable, BedWrote, recordCheck};
 ghost use Rattle.bed.specs.Read.{wordsCheck, thickFits, thickPlace, spanCheck, blockCheck, withDefault, afterSpans, afterLines, afterColumns, afterWords, afterText, bedCheck, Counted, Listed, Blocked, Staged, Stored, RowsStored, BedRead};
 use columns::Columns;
 use ledger::Part;
@@ -15,6 +17,8 @@ use ledger::Reason;
 use ledger::Refusal;
 use ledger::Strand;
 use text::Check;
+use text::Class;
+use writing::Writing;
 
 // The record of a BED line. A name is a part of the text; a colour is one number, (red × 256 + green) × 256 + blue.
 pub struct Bed {
@@ -450,4 +454,167 @@ pub fn check_bed(r: Bed, targets: &[u64], queries: &[u64], sizes: &[u64]) -> Che
         reason: Reason::BlockRules,
         place: 0,
     })
+}
+
+// Whether all bytes of a name show.
+fn all_graphic(w: &[u8]) -> bool
+    ensures { λ r. ⌜ r ≡ allGraphic (now (w .entry)) ⌝ }
+{
+    w.len() <= text::scan(w, 0, Class::Graphic)
+}
+
+// The names that are handed in.
+fn names_show(r: Bed, chrom: &[u8], name: &[u8]) -> bool
+    ensures { λ x. ⌜ x ≡ namesShow r (now (chrom .entry)) (now (name .entry)) ⌝ }
+{
+    names_fit(r.words, chrom.len(), name.len()) & (all_graphic(chrom) & all_graphic(name))
+}
+
+// Where a test holds, the rest; else a refusal at place 0.
+fn or_refuse(test: bool, reason: Reason, rest: Check) -> Check
+    ensures { λ x. ⌜ x ≡ require test reason 0 rest ⌝ }
+{
+    if test {
+        return rest;
+    }
+    Check::Refused(Refusal { reason, place: 0 })
+}
+
+// The writers' refusals in their order.
+fn check_write(
+    r: Bed,
+    chrom: &[u8],
+    name: &[u8],
+    targets: &[u64],
+    queries: &[u64],
+    sizes: &[u64],
+) -> Check
+    ensures { λ x. ⌜ x ≡ writeCheck r (now (chrom .entry)) (now (name .entry)) (now (targets .entry)) (now (queries .entry)) (now (sizes .entry)) ⌝ }
+{
+    let count = r.blockCount as usize;
+    let rows = blocks::rows_of(targets, queries, sizes);
+    let blocks = or_refuse(
+        rows_fit(r, targets, queries, sizes, count),
+        Reason::BlockRules,
+        Check::Holds,
+    );
+    let spans = or_refuse(spans_fit(r), Reason::SpanDisagrees, blocks);
+    let numbers = or_refuse(
+        fields_fit(r) & row_numbers_fit(targets, queries, sizes, count),
+        Reason::NumberOutOfRange,
+        spans,
+    );
+    let words = or_refuse(
+        names_show(r, chrom, name) & strand_fits(r),
+        Reason::BadWord,
+        numbers,
+    );
+    or_refuse(
+        blocks::count_fits(r.blockCount, rows),
+        Reason::BlockRules,
+        words,
+    )
+}
+
+// A record's columns as the line writer takes them: the names stand one after the other in their own text.
+fn values_of(r: Bed, chrom: usize, name: usize) -> [u64; 24]
+    ensures { λ x. ⌜ x ≡ bedValues r chrom name ⌝ }
+{
+    let strand = r.strand;
+    let letter = strand.letter() as u64;
+    [
+        chrom as u64,
+        0,
+        r.chromStart,
+        0,
+        r.chromEnd,
+        0,
+        name as u64,
+        ledger::NAME_LIMIT as u64,
+        r.score,
+        0,
+        letter,
+        0,
+        r.thickStart,
+        0,
+        r.thickEnd,
+        0,
+        r.itemRgb,
+        0,
+        r.blockCount,
+        0,
+        r.blockCount,
+        0,
+        r.blockCount,
+        0,
+    ]
+}
+
+// The names one after the other, in a text of their own.
+fn put_names(chrom: &[u8], name: &[u8], names: &mut [u8])
+    requires { ⌜ NamesShort (now chrom) (now name) (now names) ⌝ }
+    ensures { λ _. ⌜ NamesPut (now (chrom .entry)) (now (name .entry)) (now (names .exit)) ⌝ }
+{
+    writing::put_bytes(names, 0, chrom);
+    writing::put_bytes(names, ledger::NAME_LIMIT, name);
+}
+
+// The sizes, and the starts from chromStart on.
+fn put_lists(r: Bed, targets: &[u64], sizes: &[u64], lists: &mut [u64])
+    requires { ⌜ RowsThere r (now targets) (now sizes) (now lists) ⌝ }
+    ensures { λ _. ⌜ ListsPut r (now (targets .entry)) (now (sizes .entry)) (now (lists .exit)) ⌝ }
+{
+    let count = r.blockCount as usize;
+    let b = ledger::BLOCK_LIMIT as usize;
+    blocks::copy_numbers(sizes, count, lists);
+    blocks::put_subtracted(targets, count, r.chromStart, &mut lists[b..]);
+}
+
+// Room for two names.
+fn name_room() -> [u8; 128]
+    ensures { λ r. ⌜ length r ≡ 2 * nameLimit ⌝ }
+{
+    [0; 128]
+}
+
+// Writes the standard text of a record that passed the checks.
+fn write_text(
+    r: Bed,
+    chrom: &[u8],
+    name: &[u8],
+    targets: &[u64],
+    sizes: &[u64],
+    buf: &mut [u8],
+) -> Writing
+    requires { ⌜ Writable r (now chrom) (now name) (now targets) (now sizes) ⌝ }
+    ensures { λ x. ⌜ Wrote (bedText r (now (chrom .entry)) (now (name .entry)) (now (targets .entry)) (now (sizes .entry)))
+        (now (buf .entry)) (now (buf .exit)) x ⌝ }
+{
+    let mut names = name_room();
+    put_names(chrom, name, &mut names);
+    let mut lists = working_room();
+    put_lists(r, targets, sizes, &mut lists);
+    let values = values_of(r, chrom.len(), name.len());
+    let table = BED;
+    let n = r.words as usize;
+    columns::write_line(buf, &table[..n], b'\t', &names, &values, &lists)
+}
+
+// THE WRITER: a record with its names and rows to the front of a buffer, or the first refusal in the writers' order, which leaves the buffer.
+pub fn write_bed(
+    r: Bed,
+    chrom: &[u8],
+    name: &[u8],
+    targets: &[u64],
+    queries: &[u64],
+    sizes: &[u64],
+    buf: &mut [u8],
+) -> Writing
+    ensures { λ x. ⌜ BedWrote r (now (chrom .entry)) (now (name .entry)) (now (targets .entry)) (now (queries .entry))
+        (now (sizes .entry)) (now (buf .entry)) (now (buf .exit)) x ⌝ }
+{
+    match check_write(r, chrom, name, targets, queries, sizes) {
+        Check::Refused(x) => Writing::Refused(x),
+        Check::Holds => write_text(r, chrom, name, targets, sizes, buf),
+    }
 }

@@ -163,7 +163,7 @@ part-at d xs b h =
     let e : length (take b d) + 0 ≡ b = rw length-take (omega arith) in
     sym (sets-right (take b d) (drop b d) 0 xs) ∙ rw (e, take-append-drop)
 
-part-stored : (d y xs : List ℕ) (base b : ℕ) → b ≡ min base (length d) → y ≡ sets (take (length d - b) (drop b d)) 0 xs → putMid b (length d - b) d y ≡ sets d base xs
+pub part-stored : (d y xs : List ℕ) (base b : ℕ) → b ≡ min base (length d) → y ≡ sets (take (length d - b) (drop b d)) 0 xs → putMid b (length d - b) d y ≡ sets d base xs
 part-stored d y xs base b eb ey =
     let m : take (length d - b) (drop b d) ≡ drop b d = take-all (length d - b) (drop b d) (rw length-drop (omega arith)) in
     let z : length (drop b d) ≤ length d - b = rw length-drop (omega arith) in
