@@ -6,3 +6,6 @@ pub mod ValidLaws
 pub mod StoreLaws
 pub mod RuleLaws
 pub mod WriteLaws
+pub mod BackWordLaws
+pub mod BackLaws
+pub mod Vectors

@@ -332,7 +332,8 @@ fn store_rows(
     BedAnswer::Accepted(r)
 }
 
-// THE READER: one BED line, its blocks to the front of three lent slices. A refusal leaves them as they were, and rows past the blocks stay.
+// THE READER: one BED line, its blocks to the front of three lent slices. A refusal leaves them as they were, and rows past the
+// blocks stay.
 pub fn read_bed(
     text: &[u8],
     targets: &mut [u64],
@@ -406,7 +407,8 @@ fn fields_fit(r: Bed) -> bool
 
 // The numbers of the used rows.
 fn row_numbers_fit(targets: &[u64], queries: &[u64], sizes: &[u64], count: usize) -> bool
-    ensures { λ x. ⌜ x ≡ rowNumbersFit (take count (now (targets .entry))) (take count (now (queries .entry))) (take count (now (sizes .entry))) ⌝ }
+    ensures { λ x. ⌜ x ≡ rowNumbersFit (take count (now (targets .entry))) (take count (now (queries .entry))) (take count (now
+        (sizes .entry))) ⌝ }
 {
     let most = ledger::Position::LARGEST;
     blocks::all_between(targets, count, 0, most)
@@ -422,7 +424,8 @@ fn spans_fit(r: Bed) -> bool
 
 // The blocks of the used rows.
 fn rows_fit(r: Bed, targets: &[u64], queries: &[u64], sizes: &[u64], count: usize) -> bool
-    ensures { λ x. ⌜ x ≡ rowsFit r (take count (now (targets .entry))) (take count (now (queries .entry))) (take count (now (sizes .entry))) ⌝ }
+    ensures { λ x. ⌜ x ≡ rowsFit r (take count (now (targets .entry))) (take count (now (queries .entry))) (take count (now
+        (sizes .entry))) ⌝ }
 {
     if_there(r.words, 9, true, r.blockCount == 1)
         & (blocks::blocks_fill(targets, sizes, count, r.chromStart, r.chromEnd)
@@ -489,7 +492,8 @@ fn check_write(
     queries: &[u64],
     sizes: &[u64],
 ) -> Check
-    ensures { λ x. ⌜ x ≡ writeCheck r (now (chrom .entry)) (now (name .entry)) (now (targets .entry)) (now (queries .entry)) (now (sizes .entry)) ⌝ }
+    ensures { λ x. ⌜ x ≡ writeCheck r (now (chrom .entry)) (now (name .entry)) (now (targets .entry)) (now (queries .entry)) (now
+        (sizes .entry)) ⌝ }
 {
     let count = r.blockCount as usize;
     let rows = blocks::rows_of(targets, queries, sizes);
@@ -600,7 +604,8 @@ fn write_text(
     columns::write_line(buf, &table[..n], b'\t', &names, &values, &lists)
 }
 
-// THE WRITER: a record with its names and rows to the front of a buffer, or the first refusal in the writers' order, which leaves the buffer.
+// THE WRITER: a record with its names and rows to the front of a buffer, or the first refusal in the writers' order, which
+// leaves the buffer.
 pub fn write_bed(
     r: Bed,
     chrom: &[u8],

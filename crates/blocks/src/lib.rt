@@ -13,7 +13,8 @@ fn reach(len: usize, count: usize) -> usize
     if len < count { len } else { count }
 }
 
-// Whether the first so many blocks fill the span from first to last: in order, touching allowed. Where one slice ends before the other, they do not.
+// Whether the first so many blocks fill the span from first to last: in order, touching allowed. Where one slice ends before
+// the other, they do not.
 pub fn blocks_fill(starts: &[u64], sizes: &[u64], count: usize, first: u64, last: u64) -> bool
     ensures { λ r. ⌜ r ≡ blocksFill first last (take count (now (starts .entry))) (take count (now (sizes .entry))) ⌝ }
 {
@@ -110,7 +111,8 @@ pub fn copy_numbers(from: &[u64], count: usize, to: &mut [u64])
     }
 }
 
-// Puts the sums of the earlier sizes at the front of a table, as far as it reaches, for the first so many sizes. A sum that 64 bits do not hold ends them.
+// Puts the sums of the earlier sizes at the front of a table, as far as it reaches, for the first so many sizes. A sum that 64
+// bits do not hold ends them.
 pub fn put_sums(sizes: &[u64], count: usize, to: &mut [u64])
     ensures { λ _. ⌜ now (to .exit) ≡ sets (now (to .entry)) 0 (sumsWithin largestNumber 0 (take count (now (sizes .entry)))) ⌝ }
 {

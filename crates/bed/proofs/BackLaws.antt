@@ -1,0 +1,254 @@
+-- The standard text of a BED record that may be written reads back as that record, with the same names and the same rows. Assumes nothing.
+use mathlib.Core.Path.{_≡_, refl, sym, ap, _∙_}
+use mathlib.Core.Bool.{true, false}
+use mathlib.Core.List.{List, [], _∷_, _++_}
+use Prim.Native.Nat.{ℕ, suc, _+_, _-_, _≤_, _<_}
+use native.Mathlib.Omega.{arith}
+use lib.ListN.{length, take, getD}
+use lib.Seq.{getD-take, length-take-le}
+use lib.Dec.{eqb}
+use borrow.Author.Tests.{lt-ltb, le-ltb, le-leb, eqb-true, eq-eqb, ne-eqb}
+use Rattle.ledger.specs.Limits.{textLimit, largestPosition}
+use Rattle.text.specs.declared.Class.the-variants.{Allowed, Line}
+use Rattle.text.specs.declared.Check.the-variants.{Holds}
+use Rattle.text.specs.declared.Extent.{Extent}
+use Rattle.text.specs.Scan.{run}
+use Rattle.text.specs.Parts.{partBytes}
+use Rattle.text.specs.Pieces.{linesOf, lineOf, wordsOf, joined}
+use Rattle.text.specs.Words.{wordAt, wordCount, bytesOf}
+use Rattle.text.proofs.Laws.{either}
+use Rattle.text.proofs.TextLaws.{All, all-append, in-allowed, both}
+use Rattle.text.proofs.PieceLaws.{Worded, worded-more, pieces-join, lines-none, joined-in-line, line-joined, words-joined, word-bytes}
+use Rattle.writing.proofs.ListLaws.{list-values}
+use Rattle.blocks.specs.Blocks.{orderFrom, blocksFill, sumsFrom, shifted, subtracted}
+use Rattle.blocks.specs.Rules.{Fills}
+use Rattle.blocks.proofs.RuleLaws.{fills-of, fill-low, fill-shift, back-shifted, sums-only}
+use Rattle.bed.specs.declared.Bed.{Bed}
+use Rattle.bed.specs.declared.BedAnswer.the-variants.{Accepted}
+use Rattle.bed.specs.Records.{bedSizes, bedStarts, bedTargets, bedQueries}
+use Rattle.bed.specs.Read.{roomCheck, bedCheck, bedRead}
+use Rattle.bed.specs.Rules.{WordNumber, three-to-nine, twelve, partOf, BedLine, placed}
+use Rattle.bed.specs.Write.{writeCheck, bedWords, bedText}
+use Rattle.bed.proofs.LineLaws.{most-words, least-words, line-is}
+use Rattle.bed.proofs.BackWordLaws.{MayWrite, may-write, wordValues, subtracted-length, sizes-between, starts-between, words-spell, words-worded}
+
+-- words joined by tabs, with a line feed behind them: one line of allowed bytes
+joined-allowed : (ws : List (List ℕ)) → Worded ws → All Allowed (joined 9 ws)
+unfolding joined run
+joined-allowed [] k = refl
+joined-allowed (w ∷ []) (worded-more _ l h k) = in-allowed w h
+joined-allowed (w ∷ (v ∷ ws)) (worded-more _ l h k) = all-append Allowed w (9 ∷ joined 9 (v ∷ ws)) (in-allowed w h) (ap suc (joined-allowed (v ∷ ws) k))
+
+fed-allowed : (ws : List (List ℕ)) → Worded ws → All Allowed (joined 9 ws ++ (10 ∷ []))
+unfolding run
+fed-allowed ws k = all-append Allowed (joined 9 ws) (10 ∷ []) (joined-allowed ws k) refl
+
+fed-line : (ws : List (List ℕ)) → Worded ws → linesOf (joined 9 ws ++ (10 ∷ [])) ≡ lineOf (joined 9 ws ++ (10 ∷ [])) ∷ []
+unfolding linesOf
+fed-line ws k = rw (line-joined 9 ws [] refl k) (pieces-join Line (joined 9 ws) 10 [] (joined-in-line 9 ws refl k) refl ∙ ap (λ (x : List (List ℕ)). joined 9 ws ∷ x) lines-none)
+
+-- the bytes of a word, as a part and as an extent
+part-bytes : (s : List ℕ) (w : Extent) → partBytes s (partOf w) ≡ bytesOf s w
+unfolding partBytes bytesOf
+part-bytes s w = refl
+
+no-bytes : (xs : List ℕ) → length xs ≡ 0 → [] ≡ xs
+no-bytes [] e = refl
+no-bytes (x ∷ xs) e = absurd (omega arith)
+
+-- one block that fills a span is the span
+one-block : (first last : ℕ) (ss zs : List ℕ) → length ss ≡ 1 → blocksFill first last ss zs ≡ true → (ss ≡ first ∷ []) × (zs ≡ (last - first) ∷ [])
+unfolding blocksFill orderFrom
+one-block first last [] zs l e = absurd (omega arith)
+one-block first last (x ∷ []) [] l e = absurd (let z : _≡_ {A = ℕ} 0 1 = cc in omega arith)
+one-block first last (x ∷ []) (y ∷ []) l e =
+    let b = both (eqb x first) (eqb (x + y) last) e in
+    let p = eqb-true x first (b .0) in
+    let q = eqb-true (x + y) last (b .1) in
+    let d : y ≡ last - first = omega arith in
+    (rw p, rw d)
+one-block first last (x ∷ []) (y ∷ z ∷ zs) l e =
+    let b = both (eqb x first) false e in
+    absurd (let q : _≡_ {A = ℕ} 0 1 = cc (b .1) in omega arith)
+one-block first last (x ∷ w ∷ ss) zs l e = absurd (omega arith)
+
+-- what a record that may be written reads back as
+module _ (r : Bed) (chrom name ts qs zs : List ℕ) (ok : MayWrite r chrom name ts qs zs) where
+  abbrev s : List ℕ
+  s = bedText r chrom name ts zs
+
+  abbrev words : List (List ℕ)
+  words = bedWords r chrom name ts zs
+
+  abbrev n : ℕ
+  n = r .blockCount
+
+  worded : Worded (take (r .words) words)
+  worded = words-worded r chrom name ts qs zs ok
+
+  text-words : wordsOf (lineOf s) ≡ take (r .words) words
+  unfolding bedText
+  text-words = rw (line-joined 9 (take (r .words) words) [] refl worded) (words-joined 9 (take (r .words) words) refl worded)
+
+  text-count : wordCount s 0 ≡ r .words
+  unfolding wordCount bedWords
+  text-count = ap length text-words ∙ length-take-le (r .words) words (most-words (ok .rules .number))
+
+  text-allowed : run Allowed s ≡ length s
+  unfolding bedText
+  text-allowed = fed-allowed (take (r .words) words) worded
+
+  text-line : linesOf s ≡ lineOf s ∷ []
+  unfolding bedText
+  text-line = fed-line (take (r .words) words) worded
+
+  text-word : (k : ℕ) → k < r .words → bytesOf s (wordAt s 0 k) ≡ getD words k []
+  text-word k h = word-bytes s 0 k ∙ ap (λ (x : List (List ℕ)). getD x k []) text-words ∙ getD-take (r .words) words k [] h
+
+  -- the two lists
+  module _ (q : r .words ≡ 12) where
+    sizes-twelve : bedSizes s (placed s r) ≡ take n zs
+    unfolding bedSizes placed bedWords
+    sizes-twelve = rw (eq-eqb (r .words) 12 q, text-word 10 (omega arith)) (list-values 1 largestPosition (take n zs) (omega arith) (sizes-between r chrom name ts qs zs ok))
+
+    starts-twelve : bedStarts s (placed s r) ≡ subtracted (r .chromStart) (take n ts)
+    unfolding bedStarts placed bedWords
+    starts-twelve = rw (eq-eqb (r .words) 12 q, text-word 11 (omega arith)) (list-values 0 largestPosition (subtracted (r .chromStart) (take n ts)) (omega arith) (starts-between r chrom name ts qs zs ok))
+
+  targets-length : length (take n ts) ≡ n
+  targets-length = length-take-le n ts (ok .rules .targetRows)
+
+  module _ (h : r .words ≤ 9) where
+    one : (take n ts ≡ r .chromStart ∷ []) × (take n zs ≡ (r .chromEnd - r .chromStart) ∷ [])
+    one = one-block (r .chromStart) (r .chromEnd) (take n ts) (take n zs) (targets-length ∙ ok .rules .noBlocks h) (ok .fill)
+
+    sizes-one : bedSizes s (placed s r) ≡ take n zs
+    unfolding bedSizes placed
+    sizes-one = rw (ne-eqb (r .words) 12 (λ q. omega arith)) (sym (one .1))
+
+    starts-one : bedStarts s (placed s r) ≡ subtracted (r .chromStart) (take n ts)
+    unfolding bedStarts placed subtracted
+    starts-one =
+        let z : 0 ≡ r .chromStart - r .chromStart = omega arith in
+        rw (ne-eqb (r .words) 12 (λ q. omega arith), one .0) (ap (λ (x : ℕ). x ∷ []) z)
+
+  by-number : (P : Type 0) → (r .words ≤ 9 → P) → (r .words ≡ 12 → P) → P
+  by-number P f g = go (r .words) refl (ok .rules .number)
+    where
+      go : (m : ℕ) → r .words ≡ m → WordNumber m → P
+      go m q (three-to-nine a b) = f (omega arith)
+      go m q twelve = g q
+
+  sizes-read : bedSizes s (placed s r) ≡ take n zs
+  sizes-read = by-number _ sizes-one sizes-twelve
+
+  starts-read : bedStarts s (placed s r) ≡ subtracted (r .chromStart) (take n ts)
+  starts-read = by-number _ starts-one starts-twelve
+
+  targets-moved : shifted (r .chromStart) (subtracted (r .chromStart) (take n ts)) ≡ take n ts
+  targets-moved = back-shifted (r .chromStart) (r .chromEnd) (take n ts) (fill-low (r .chromStart) (r .chromEnd) (take n ts) (take n zs) (ok .fill))
+
+  targets-read : bedTargets s (placed s r) ≡ take n ts
+  unfolding bedTargets placed
+  targets-read = ap (shifted (r .chromStart)) starts-read ∙ targets-moved
+
+  queries-read : bedQueries s (placed s r) ≡ take n qs
+  unfolding bedQueries sumsFrom
+  queries-read = ap (sumsFrom 0) sizes-read ∙ sym (sums-only 0 (take n qs) (take n zs) (ok .sums))
+
+  -- the blocks from chromStart on fill the span
+  starts-fill : blocksFill 0 (r .chromEnd - r .chromStart) (subtracted (r .chromStart) (take n ts)) (take n zs) ≡ true
+  starts-fill =
+      let x : r .chromStart + 0 ≡ r .chromStart = omega arith in
+      let y : r .chromStart + (r .chromEnd - r .chromStart) ≡ r .chromEnd = omega (arith, ok .rules .span) in
+      let m = fill-shift (r .chromStart) 0 (r .chromEnd - r .chromStart) (subtracted (r .chromStart) (take n ts)) (take n zs) in
+      sym m ∙ rw (x, y, targets-moved) (ok .fill)
+
+  blocks-read : Fills 0 (r .chromEnd - r .chromStart) n (bedStarts s (placed s r)) (bedSizes s (placed s r))
+  blocks-read =
+      rw (starts-read, sizes-read)
+      (fills-of 0 (r .chromEnd - r .chromStart) n (subtracted (r .chromStart) (take n ts)) (take n zs) (subtracted-length (r .chromStart) (take n ts) ∙ targets-length) (length-take-le n zs (ok .rules .sizeRows)) starts-fill)
+
+  -- the names
+  chrom-read : partBytes s (placed s r .chrom) ≡ chrom
+  unfolding placed bedWords
+  chrom-read = part-bytes s (wordAt s 0 0) ∙ text-word 0 (omega (arith, least-words (ok .rules .number)))
+
+  name-read : partBytes s (placed s r .name) ≡ name
+  unfolding placed bedWords partBytes
+  name-read =
+      either (r .words) 3 _
+      (λ h. rw (le-ltb 3 (r .words) h) (no-bytes name (ok .rules .noName h)))
+      (λ h. rw (lt-ltb 3 (r .words) h) (part-bytes s (wordAt s 0 3) ∙ text-word 3 h))
+
+  -- the text is a BED line that says the record
+  value-read : (k : ℕ) → k < r .words → getD (wordValues r chrom name) k 0 ≡ getD (take (r .words) (wordValues r chrom name)) k 0
+  value-read k h = sym (getD-take (r .words) (wordValues r chrom name) k 0 h)
+
+  line-read : length s ≤ textLimit → BedLine s (take (r .words) (wordValues r chrom name)) (placed s r)
+  unfolding placed
+  line-read short =
+      let k = ok .rules in
+      let three = least-words (k .number) in
+      record {
+        short = short;
+        allowed = text-allowed;
+        oneLine = text-line;
+        number = rw text-count (k .number);
+        spelt = rw (text-count, text-words) (words-spell r chrom name ts qs zs ok);
+        words = sym text-count;
+        chrom = refl;
+        chromStart = value-read 1 (omega arith);
+        chromEnd = value-read 2 (omega arith);
+        name = λ h. rw (lt-ltb 3 (r .words) h);
+        score = λ h. value-read 4 h;
+        strand = λ h. value-read 5 h;
+        thickStart = λ h. value-read 6 h;
+        thickEnd = λ h. value-read 7 h;
+        itemRgb = λ h. value-read 8 h;
+        blockCount = λ h. value-read 9 h;
+        noName = λ h. rw (le-ltb 3 (r .words) h);
+        noScore = k .noScore;
+        noStrand = k .noStrand;
+        noThickStart = k .noThickStart;
+        noThickEnd = k .noThickEnd;
+        noItemRgb = k .noItemRgb;
+        noBlocks = k .noBlocks;
+        span = k .span;
+        thickLow = k .thickLow;
+        thickOrder = k .thickOrder;
+        thickHigh = k .thickHigh;
+        blocks = blocks-read;
+      }
+
+-- THE ROUND TRIP: the writer's checks hold, and the text is short enough
+module _ (r : Bed) (chrom name ts qs zs : List ℕ) (ok : writeCheck r chrom name ts qs zs ≡ Holds) (short : length (bedText r chrom name ts zs) ≤ textLimit) where
+  abbrev text : List ℕ
+  text = bedText r chrom name ts zs
+
+  may : MayWrite r chrom name ts qs zs
+  may = may-write r chrom name ts qs zs ok
+
+  pub back-check : bedCheck text ≡ Accepted (placed text r)
+  back-check = line-is text (placed text r) (take (r .words) (wordValues r chrom name)) (line-read r chrom name ts qs zs may short)
+
+  pub back-chrom : partBytes text (placed text r .chrom) ≡ chrom
+  back-chrom = chrom-read r chrom name ts qs zs may
+
+  -- a name left out is empty
+  pub back-name : partBytes text (placed text r .name) ≡ name
+  back-name = name-read r chrom name ts qs zs may
+
+  pub back-sizes : bedSizes text (placed text r) ≡ take (r .blockCount) zs
+  back-sizes = sizes-read r chrom name ts qs zs may
+
+  pub back-targets : bedTargets text (placed text r) ≡ take (r .blockCount) ts
+  back-targets = targets-read r chrom name ts qs zs may
+
+  pub back-queries : bedQueries text (placed text r) ≡ take (r .blockCount) qs
+  back-queries = queries-read r chrom name ts qs zs may
+
+  -- and with room for its blocks the text is read
+  pub back-read : (room : ℕ) → r .blockCount ≤ room → bedRead text room ≡ Accepted (placed text r)
+  unfolding bedRead roomCheck placed
+  back-read room h = rw (back-check, le-leb (r .blockCount) room h)

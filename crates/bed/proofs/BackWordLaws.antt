@@ -1,0 +1,198 @@
+-- A BED record that may be written: the rules that it obeys, and that each of its first words is there, shows, and spells its column. Assumes nothing.
+use mathlib.Core.Path.{_≡_, refl, ap, _∙_}
+use mathlib.Core.Bool.{Bool, true, false, _&&_}
+use mathlib.Core.List.{List, [], _∷_}
+use Prim.Native.Nat.{ℕ, zero, suc, _+_, _-_, _≤_, _<_, zero-le}
+use native.Mathlib.Omega.{arith}
+use lib.ListN.{length, take, drop}
+use lib.Seq.{take-all, take-length, length-take-le}
+use lib.Dec.{eqb}
+use borrow.Author.Tests.{leb-true}
+use Rattle.ledger.specs.declared.Strand.{Strand}
+use Rattle.ledger.specs.declared.Strand.the-variants.{Plus, Minus, Dot}
+use Rattle.ledger.specs.Limits.{nameLimit, largestPosition}
+use Rattle.ledger.specs.Strands.{strandLetter}
+use Rattle.text.specs.declared.Class.{Class}
+use Rattle.text.specs.declared.Class.the-variants.{Graphic}
+use Rattle.text.specs.declared.Check.the-variants.{Holds}
+use Rattle.text.specs.Scan.{isIn, oneMore, run, endOf}
+use Rattle.text.proofs.TextLaws.{All, both}
+use Rattle.text.proofs.PieceLaws.{Worded, worded-none, worded-more}
+use Rattle.numbers.specs.Ranges.{Between, between-none, between-more}
+use Rattle.writing.specs.Digits.{listText}
+use Rattle.kinds.specs.declared.Range.{Range}
+use Rattle.kinds.specs.declared.Range.the-variants.{Coordinate, Size, BedScore}
+use Rattle.kinds.specs.declared.Kind.{Kind}
+use Rattle.kinds.specs.declared.Kind.the-variants.{Name, Number, Count, Items, Stranded, Colour}
+use Rattle.kinds.specs.Kinds.{leastOf, mostOf, countAfter}
+use Rattle.kinds.proofs.BackLaws.{Written, written}
+use Rattle.columns.specs.Spells.{Spells, spells-none, spells-more}
+use Rattle.blocks.specs.Blocks.{blocksFill, areSums, allBetween, subtracted, countFits, rowsOf}
+use Rattle.blocks.proofs.RuleLaws.{between-of}
+use Rattle.bed.specs.declared.Bed.{Bed}
+use Rattle.bed.specs.Table.{bedColumns}
+use Rattle.bed.specs.Records.{partAt}
+use Rattle.bed.specs.Rules.{BedRules}
+use Rattle.bed.specs.Tests.{ifThere, namesFit, allGraphic, strandFits, fieldsFit, rowNumbersFit, spansFit, rowsFit, bedValid}
+use Rattle.bed.specs.Write.{namesShow, writeCheck, bedWords}
+use Rattle.bed.proofs.AcceptLaws.{require-holds}
+use Rattle.bed.proofs.RuleLaws.{rules-of}
+
+-- the record with names of these lengths
+abbrev pub named : Bed → List ℕ → List ℕ → Bed
+named r chrom name = record {
+  words = r .words;
+  chrom = partAt 0 (length chrom);
+  chromStart = r .chromStart;
+  chromEnd = r .chromEnd;
+  name = partAt 0 (length name);
+  score = r .score;
+  strand = r .strand;
+  thickStart = r .thickStart;
+  thickEnd = r .thickEnd;
+  itemRgb = r .itemRgb;
+  blockCount = r .blockCount;
+}
+
+-- what the writer's checks show of a record, its names and its rows
+pub record MayWrite (r : Bed) (chrom name ts qs zs : List ℕ) : Type 0 where
+  pub rules : BedRules (named r chrom name) ts qs zs
+  pub chromShows : All Graphic chrom
+  pub nameShows : All Graphic name
+  pub targets : allBetween 0 largestPosition (take (r .blockCount) ts) ≡ true
+  pub sizes : allBetween 1 largestPosition (take (r .blockCount) zs) ≡ true
+  pub fill : blocksFill (r .chromStart) (r .chromEnd) (take (r .blockCount) ts) (take (r .blockCount) zs) ≡ true
+  pub sums : areSums 0 (take (r .blockCount) qs) (take (r .blockCount) zs) ≡ true
+
+-- a scan ends in the text
+run-most : (c : Class) (s : List ℕ) → run c s ≤ length s
+unfolding run
+run-most c [] = omega arith
+run-most c (b ∷ s) = go (isIn c b) (run-most c s)
+  where
+    go : (t : Bool) → run c s ≤ length s → oneMore t (run c s) ≤ suc (length s)
+    go true h = omega arith
+    go false h = omega arith
+
+all-graphic : (w : List ℕ) → allGraphic w ≡ true → All Graphic w
+unfolding endOf
+all-graphic w e =
+    let l : length w ≤ 0 + run Graphic w = leb-true (length w) (endOf Graphic w 0) e in
+    omega (arith, run-most Graphic w)
+
+and-is : (a b : Bool) → a ≡ true → b ≡ true → (a && b) ≡ true
+and-is a b h k = rw (h, k)
+
+-- THE WRITER'S CHECKS, ONE BY ONE
+pub may-write : (r : Bed) (chrom name ts qs zs : List ℕ) → writeCheck r chrom name ts qs zs ≡ Holds → MayWrite r chrom name ts qs zs
+unfolding writeCheck namesShow bedValid strandFits fieldsFit spansFit rowsFit rowNumbersFit
+may-write r chrom name ts qs zs e =
+    let n = r .blockCount in
+    let count = require-holds (countFits n (rowsOf ts qs zs)) _ _ e in
+    let words = require-holds (namesShow r chrom name && strandFits r) _ _ (count .1) in
+    let numbers = require-holds (fieldsFit r && rowNumbersFit (take n ts) (take n qs) (take n zs)) _ _ (words .1) in
+    let spans = require-holds (spansFit r) _ _ (numbers .1) in
+    let rows = require-holds (rowsFit r (take n ts) (take n qs) (take n zs)) _ _ (spans .1) in
+    let names = both (namesShow r chrom name) (strandFits r) (words .0) in
+    let lengths = both (namesFit (r .words) (length chrom) (length name)) (allGraphic chrom && allGraphic name) (names .0) in
+    let shown = both (allGraphic chrom) (allGraphic name) (lengths .1) in
+    let fields = both (fieldsFit r) (rowNumbersFit (take n ts) (take n qs) (take n zs)) (numbers .0) in
+    let starts = both (allBetween 0 largestPosition (take n ts)) (allBetween 0 largestPosition (take n qs) && allBetween 1 largestPosition (take n zs)) (fields .1) in
+    let others = both (allBetween 0 largestPosition (take n qs)) (allBetween 1 largestPosition (take n zs)) (starts .1) in
+    let filled = both (ifThere (r .words) 9 true (eqb n 1)) (blocksFill (r .chromStart) (r .chromEnd) (take n ts) (take n zs) && areSums 0 (take n qs) (take n zs)) (rows .0) in
+    let summed = both (blocksFill (r .chromStart) (r .chromEnd) (take n ts) (take n zs)) (areSums 0 (take n qs) (take n zs)) (filled .1) in
+    let valid : bedValid (named r chrom name) ts qs zs ≡ true = and-is _ _ (count .0) (and-is _ _ (lengths .0) (and-is _ _ (names .1) (and-is _ _ (fields .0) (and-is _ _ (fields .1) (and-is _ _ (spans .0) (rows .0)))))) in
+    record {
+      rules = rules-of (named r chrom name) ts qs zs valid;
+      chromShows = all-graphic chrom (shown .0);
+      nameShows = all-graphic name (shown .1);
+      targets = starts .0;
+      sizes = others .1;
+      fill = summed .0;
+      sums = summed .1;
+    }
+
+-- one word of each kind
+name-written : (n : ℕ) (w : List ℕ) → 1 ≤ length w → length w ≤ nameLimit → All Graphic w → Written Name n (length w) w []
+name-written n w some short shows =
+    let a : take (length w) (drop 0 w) ≡ w = take-length w in
+    rw a at (written Name w [] n 0 (length w) 0 (record { some = some; short = short; there = ap length a; shows = ap (run Graphic) a ∙ shows }))
+
+strand-written : (n : ℕ) (t : Strand) → Written (Stranded true) n (strandLetter t) (strandLetter t ∷ []) []
+strand-written n Plus = written (Stranded true) [] [] n 0 43 0 refl
+strand-written n Minus = written (Stranded true) [] [] n 0 45 0 refl
+strand-written n Dot = written (Stranded true) [] [] n 0 46 0 refl
+
+list-written : (c : Range) (n : ℕ) (xs : List ℕ) → 1 ≤ n → length xs ≡ n → Between (leastOf c) (mostOf c) xs → Written (Items c) n n (listText xs) xs
+list-written c n xs some l b =
+    let a : take n (drop 0 xs) ≡ xs = take-all n xs (omega arith) in
+    rw a at (written (Items c) [] xs n 0 n 0 (record { some = some; count = refl; there = ap length a ∙ l; range = rw a b }))
+
+-- numbers moved down
+pub subtracted-length : (a : ℕ) (xs : List ℕ) → length (subtracted a xs) ≡ length xs
+unfolding subtracted
+subtracted-length a [] = refl
+subtracted-length a (x ∷ xs) = ap suc (subtracted-length a xs)
+
+pub subtracted-between : (a most : ℕ) (xs : List ℕ) → Between 0 most xs → Between 0 most (subtracted a xs)
+unfolding subtracted
+subtracted-between a most [] between-none = between-none
+subtracted-between a most (x ∷ xs) (between-more l h t) = let k : x - a ≤ most = omega arith in between-more zero-le k (subtracted-between a most xs t)
+
+-- the words ws of the columns cs from number k on: those below m are there, show, and spell the values vs
+data Row (m : ℕ) : ℕ → List Kind → ℕ → List (List ℕ) → List ℕ → Type 0 where
+  row-none : {k n : ℕ} → Row m k [] n [] []
+  row-more : {k n v : ℕ} {c : Kind} {cs : List Kind} {w held : List ℕ} {ws : List (List ℕ)} {vs : List ℕ} → (k < m → Written c n v w held) → Row m (suc k) cs (countAfter c v n) ws vs → Row m k (c ∷ cs) n (w ∷ ws) (v ∷ vs)
+
+-- of the first m columns, the first words spell the first values
+row-spells : {m k n : ℕ} {cs : List Kind} {ws : List (List ℕ)} {vs : List ℕ} → Row m k cs n ws vs → (j : ℕ) → k + j ≡ m → Spells (take j cs) n (take j ws) (take j vs)
+row-spells row-none zero q = spells-none
+row-spells row-none (suc j) q = spells-none
+row-spells (row-more f t) zero q = spells-none
+row-spells (row-more f t) (suc j) q = spells-more (f (omega arith) .back) (row-spells t j (omega arith))
+
+row-worded : {m k n : ℕ} {cs : List Kind} {ws : List (List ℕ)} {vs : List ℕ} → Row m k cs n ws vs → (j : ℕ) → k + j ≡ m → Worded (take j ws)
+row-worded row-none zero q = worded-none
+row-worded row-none (suc j) q = worded-none
+row-worded (row-more f t) zero q = worded-none
+row-worded (row-more {w = w} f t) (suc j) q = let g = f (omega arith) in worded-more w (g .some) (g .shows) (row-worded t j (omega arith))
+
+-- the values of a record's twelve columns; a name means its length, and a list too
+abbrev pub wordValues : Bed → List ℕ → List ℕ → List ℕ
+wordValues r chrom name =
+    length chrom ∷ r .chromStart ∷ r .chromEnd ∷ length name ∷ r .score ∷ strandLetter (r .strand) ∷ r .thickStart ∷ r .thickEnd ∷ r .itemRgb ∷ r .blockCount ∷ r .blockCount ∷ r .blockCount ∷ []
+
+-- THE WORDS OF A RECORD SPELL IT
+module _ (r : Bed) (chrom name ts qs zs : List ℕ) (ok : MayWrite r chrom name ts qs zs) where
+  pub sizes-between : Between 1 largestPosition (take (r .blockCount) zs)
+  sizes-between = between-of 1 largestPosition (take (r .blockCount) zs) (ok .sizes)
+
+  pub starts-between : Between 0 largestPosition (subtracted (r .chromStart) (take (r .blockCount) ts))
+  starts-between = subtracted-between (r .chromStart) largestPosition (take (r .blockCount) ts) (between-of 0 largestPosition (take (r .blockCount) ts) (ok .targets))
+
+  row : Row (r .words) 0 bedColumns 0 (bedWords r chrom name ts zs) (wordValues r chrom name)
+  unfolding bedColumns bedWords
+  row =
+      let k = ok .rules in
+      let n = r .blockCount in
+      let sizes = length-take-le n zs (k .sizeRows) in
+      let starts = subtracted-length (r .chromStart) (take n ts) ∙ length-take-le n ts (k .targetRows) in
+      row-more (λ h. name-written 0 chrom (k .chromSome) (k .chromShort) (ok .chromShows))
+      (row-more (λ h. written (Number Coordinate) [] [] 0 0 (r .chromStart) 0 (zero-le, k .startRange))
+      (row-more (λ h. written (Number Coordinate) [] [] 0 0 (r .chromEnd) 0 (zero-le, k .endRange))
+      (row-more (λ h. name-written 0 name (k .nameSome h) (k .nameShort h) (ok .nameShows))
+      (row-more (λ h. written (Number BedScore) [] [] 0 0 (r .score) 0 (zero-le, k .scoreRange h))
+      (row-more (λ h. strand-written 0 (r .strand))
+      (row-more (λ h. written (Number Coordinate) [] [] 0 0 (r .thickStart) 0 (zero-le, k .thickStartRange h))
+      (row-more (λ h. written (Number Coordinate) [] [] 0 0 (r .thickEnd) 0 (zero-le, k .thickEndRange h))
+      (row-more (λ h. written Colour [] [] 0 0 (r .itemRgb) 0 (k .colourRange h))
+      (row-more (λ h. written Count [] [] 0 0 n 0 (k .someBlock, k .fewBlocks))
+      (row-more (λ h. list-written Size n (take n zs) (k .someBlock) sizes sizes-between)
+      (row-more (λ h. list-written Coordinate n (subtracted (r .chromStart) (take n ts)) (k .someBlock) starts starts-between)
+      row-none)))))))))))
+
+  pub words-spell : Spells (take (r .words) bedColumns) 0 (take (r .words) (bedWords r chrom name ts zs)) (take (r .words) (wordValues r chrom name))
+  words-spell = row-spells row (r .words) (omega arith)
+
+  pub words-worded : Worded (take (r .words) (bedWords r chrom name ts zs))
+  words-worded = row-worded row (r .words) (omega arith)
