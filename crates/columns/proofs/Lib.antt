@@ -3,3 +3,4 @@ pub mod LineLaws
 pub mod BackLaws
 pub mod SpellsLaws
 pub mod PlaceLaws
+pub mod OneLineLaws

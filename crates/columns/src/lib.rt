@@ -9,10 +9,13 @@ ghost use Rattle.writing.specs.Puts.{Put};
 ghost use Rattle.writing.specs.Answers.{Wrote};
 ghost use Rattle.kinds.specs.Kinds.{kindOf, spelt, itemsIn, baseAfter, Spelled};
 ghost use Rattle.columns.specs.Columns.{columnLimit, tableOf, FieldRead, ColumnsWalked, ColumnsRead};
+ghost use Rattle.columns.specs.OneLine.{countCheck, CountedRead, LineRead};
 ghost use Rattle.columns.specs.Lines.{gapOf, lineFrom, lineText, fedLine};
 use kinds::Kind;
+use ledger::Reason;
 use ledger::Refusal;
 use numbers::Spelt;
+use text::Check;
 use text::Extent;
 use writing::Writing;
 
@@ -232,5 +235,57 @@ pub fn write_line(
     match writing::room_for(n, buf.len()) {
         Writing::Refused(x) => Writing::Refused(x),
         Writing::Written(_) => Writing::Written(put_line(buf, 0, table, sep, text, values, lists)),
+    }
+}
+
+// The number of words of the line that begins at a place (2).
+pub fn check_count(text: &[u8], line: usize, n: usize) -> Check
+    ensures { λ r. ⌜ r ≡ countCheck (now (text .entry)) line n ⌝ }
+{
+    let count = text::count_words(text, line);
+    if n < count {
+        let w = text::word_at(text, line, n);
+        return Check::Refused(Refusal {
+            reason: Reason::WrongCount,
+            place: w.start,
+        });
+    }
+    if count < n {
+        let e = text::line_end(text, line);
+        return Check::Refused(Refusal {
+            reason: Reason::WrongCount,
+            place: e,
+        });
+    }
+    Check::Holds
+}
+
+// After the number of words: the words from the left, then a surplus line; the columns are stored once both are good.
+fn read_counted(text: &[u8], table: &[u8], out: &mut [u64], lists: &mut [u64]) -> Columns
+    ensures { λ r. ⌜ CountedRead (tableOf (now (table .entry))) (now (text .entry)) (now (out .entry)) (now (out .exit))
+        (now (lists .entry)) (now (lists .exit)) r ⌝ }
+{
+    let mut no_values = [0u64; 0];
+    let mut no_lists = [0u64; 0];
+    match read_columns(text, 0, table, &mut no_values, &mut no_lists) {
+        Columns::Refused(x) => Columns::Refused(x),
+        Columns::Next(_) => match text::check_last_line(text, 0) {
+            Check::Refused(x) => Columns::Refused(x),
+            Check::Holds => read_columns(text, 0, table, out, lists),
+        },
+    }
+}
+
+// Reads a text of one line by its table.
+pub fn read_line(text: &[u8], table: &[u8], out: &mut [u64], lists: &mut [u64]) -> Columns
+    ensures { λ r. ⌜ LineRead (tableOf (now (table .entry))) (now (text .entry)) (now (out .entry)) (now (out .exit))
+        (now (lists .entry)) (now (lists .exit)) r ⌝ }
+{
+    match text::check_text(text) {
+        Check::Refused(x) => Columns::Refused(x),
+        Check::Holds => match check_count(text, 0, least(COLUMN_LIMIT, table.len())) {
+            Check::Refused(x) => Columns::Refused(x),
+            Check::Holds => read_counted(text, table, out, lists),
+        },
     }
 }

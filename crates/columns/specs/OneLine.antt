@@ -1,0 +1,64 @@
+-- A text of one line with as many words as its table has columns: what PSL is, and what other one-line formats are.
+use Prim.Native.Nat.{ℕ, _≤_}
+use mathlib.Core.Path.{_≡_}
+use mathlib.Core.List.{List, [], _∷_}
+use lib.ListN.{length}
+use lib.Seq.{sets}
+use lib.Dec.{leb}
+use Rattle.ledger.specs.declared.Reason.the-variants.{WrongCount}
+use Rattle.ledger.specs.Limits.{textLimit}
+use Rattle.text.specs.declared.Class.the-variants.{Allowed}
+use Rattle.text.specs.declared.Check.{Check}
+use Rattle.text.specs.declared.Check.the-variants.{Holds}
+use Rattle.text.specs.declared.Check.the-variants as check
+use Rattle.text.specs.Scan.{run}
+use Rattle.text.specs.Checks.{require, textCheck, lastLineCheck}
+use Rattle.text.specs.Pieces.{linesOf, lineOf, wordsOf}
+use Rattle.text.specs.Words.{lineEnd, wordAt, wordCount}
+use Rattle.kinds.specs.declared.Kind.{Kind}
+use Rattle.columns.specs.declared.Columns.{Columns}
+use Rattle.columns.specs.declared.Columns.the-variants.{Next, Refused}
+use Rattle.columns.specs.Columns.{columnsFrom, valuesFrom, listsFrom, tableAfter}
+use Rattle.columns.specs.Spells.{Spells}
+
+-- the line that begins at a place has n words: more at the first surplus word, fewer at the line's end (2)
+unfoldable pub countCheck : List ℕ → ℕ → ℕ → Check
+countCheck s line n =
+    require (leb (wordCount s line) n) WrongCount (wordAt s line n .start)
+    (require (leb n (wordCount s line)) WrongCount (lineEnd s line) Holds)
+
+abbrev pub thenLine : Check → Columns → Columns
+thenLine Holds rest = rest
+thenLine (check.Refused x) rest = Refused x
+
+-- where the columns are good, a check after them
+abbrev pub thenLast : Columns → Check → Columns
+thenLast (Next e) c = thenLine c (Next e)
+thenLast (Refused x) c = Refused x
+
+-- the checks in the ledger's order: length and bytes, the number of words, the words from the left, a surplus line
+unfoldable pub lineRead : List Kind → List ℕ → Columns
+lineRead cs s =
+    thenLine (textCheck s)
+    (thenLine (countCheck s 0 (length cs))
+    (thenLast (columnsFrom cs 0 s 0) (lastLineCheck s 0)))
+
+-- the same with no order of checks: the words of the one line spell the values vs
+pub record OneLine (cs : List Kind) (s vs : List ℕ) : Type 0 where
+  pub short : length s ≤ textLimit
+  pub allowed : run Allowed s ≡ length s
+  pub oneLine : linesOf s ≡ lineOf s ∷ []
+  pub count : wordCount s 0 ≡ length cs
+  pub spelt : Spells cs 0 (wordsOf (lineOf s)) vs
+
+-- what reading such a text promises; a refusal leaves both tables as they were
+pub record LineRead (cs : List Kind) (s out out′ lists lists′ : List ℕ) (r : Columns) : Type 0 where
+  pub result : r ≡ lineRead cs s
+  pub stored : out′ ≡ tableAfter r (sets out 0 (valuesFrom cs 0 s 0)) out
+  pub held : lists′ ≡ tableAfter r (listsFrom cs 0 s 0 0 lists) lists
+
+-- the same after the number of words was tested
+pub record CountedRead (cs : List Kind) (s out out′ lists lists′ : List ℕ) (r : Columns) : Type 0 where
+  pub result : r ≡ thenLast (columnsFrom cs 0 s 0) (lastLineCheck s 0)
+  pub stored : out′ ≡ tableAfter r (sets out 0 (valuesFrom cs 0 s 0)) out
+  pub held : lists′ ≡ tableAfter r (listsFrom cs 0 s 0 0 lists) lists
