@@ -14,6 +14,7 @@ use Rattle.text.specs.declared.Check.the-variants as check
 use Rattle.text.specs.Checks.{pickCheck, textCheck, lastLineCheck}
 use Rattle.text.specs.Words.{wordAt, wordCount, bytesOf}
 use Rattle.numbers.specs.Lists.{valuesOf}
+use Rattle.text.proofs.CheckLaws.{require-holds}
 use Rattle.columns.specs.declared.Columns.{Columns}
 use Rattle.columns.specs.declared.Columns.the-variants.{Next}
 use Rattle.columns.specs.declared.Columns.the-variants as columns
@@ -75,11 +76,6 @@ module _ (s : List ℕ) (r : Bed) where
   pub accepts-is : Accepts s r → bedCheck s ≡ Accepted r
   unfolding bedCheck afterText afterWords afterColumns afterLines afterSpans
   accepts-is a = rw (a .text, a .number, a .read, a .line, ← (a .is), a .spans, a .blocks)
-
--- a check that holds: its test is true, and what follows it holds
-pub require-holds : (t : Bool) (rest : Check) (x : Refusal) → pickCheck t rest (check.Refused x) ≡ Holds → (t ≡ true) × (rest ≡ Holds)
-require-holds true rest x e = (refl, e)
-require-holds false rest x e = absurd (let z : _≡_ {A = ℕ} 0 1 = cc in omega arith)
 
 -- a good number of words is 3 to 9, or 12
 pub number-of : (n : ℕ) → isWordCount n ≡ true → WordNumber n

@@ -9,6 +9,7 @@ use lib.Seq.{getD-take, length-take-le}
 use lib.Dec.{eqb}
 use borrow.Author.Tests.{lt-ltb, le-ltb, le-leb, eqb-true, eq-eqb, ne-eqb}
 use Rattle.ledger.specs.Limits.{textLimit, largestPosition}
+use Rattle.text.proofs.CheckLaws.{fed-allowed, fed-line}
 use Rattle.text.specs.declared.Class.the-variants.{Allowed, Line}
 use Rattle.text.specs.declared.Check.the-variants.{Holds}
 use Rattle.text.specs.declared.Extent.{Extent}
@@ -31,21 +32,6 @@ use Rattle.bed.specs.Rules.{WordNumber, three-to-nine, twelve, partOf, B
 use Rattle.bed.specs.Write.{writeCheck, bedWords, bedText}
 use Rattle.bed.proofs.LineLaws.{most-words, least-words, line-is}
 use Rattle.bed.proofs.BackWordLaws.{MayWrite, may-write, wordValues, subtracted-length, sizes-between, starts-between, words-spell, words-worded}
-
--- words joined by tabs, with a line feed behind them: one line of allowed bytes
-joined-allowed : (ws : List (List ℕ)) → Worded ws → All Allowed (joined 9 ws)
-unfolding joined run
-joined-allowed [] k = refl
-joined-allowed (w ∷ []) (worded-more _ l h k) = in-allowed w h
-joined-allowed (w ∷ (v ∷ ws)) (worded-more _ l h k) = all-append Allowed w (9 ∷ joined 9 (v ∷ ws)) (in-allowed w h) (ap suc (joined-allowed (v ∷ ws) k))
-
-fed-allowed : (ws : List (List ℕ)) → Worded ws → All Allowed (joined 9 ws ++ (10 ∷ []))
-unfolding run
-fed-allowed ws k = all-append Allowed (joined 9 ws) (10 ∷ []) (joined-allowed ws k) refl
-
-fed-line : (ws : List (List ℕ)) → Worded ws → linesOf (joined 9 ws ++ (10 ∷ [])) ≡ lineOf (joined 9 ws ++ (10 ∷ [])) ∷ []
-unfolding linesOf
-fed-line ws k = rw (line-joined 9 ws [] refl k) (pieces-join Line (joined 9 ws) 10 [] (joined-in-line 9 ws refl k) refl ∙ ap (λ (x : List (List ℕ)). joined 9 ws ∷ x) lines-none)
 
 -- the bytes of a word, as a part and as an extent
 part-bytes : (s : List ℕ) (w : Extent) → partBytes s (partOf w) ≡ bytesOf s w
@@ -96,11 +82,11 @@ module _ (r : Bed) (chrom name ts qs zs : List ℕ) (ok : MayWrite r chrom name 
 
   text-allowed : run Allowed s ≡ length s
   unfolding bedText
-  text-allowed = fed-allowed (take (r .words) words) worded
+  text-allowed = fed-allowed 9 refl (take (r .words) words) worded
 
   text-line : linesOf s ≡ lineOf s ∷ []
   unfolding bedText
-  text-line = fed-line (take (r .words) words) worded
+  text-line = fed-line 9 refl (take (r .words) words) worded
 
   text-word : (k : ℕ) → k < r .words → bytesOf s (wordAt s 0 k) ≡ getD words k []
   text-word k h = word-bytes s 0 k ∙ ap (λ (x : List (List ℕ)). getD x k []) text-words ∙ getD-take (r .words) words k [] h

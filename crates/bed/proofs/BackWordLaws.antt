@@ -12,6 +12,7 @@ use Rattle.ledger.specs.declared.Strand.{Strand}
 use Rattle.ledger.specs.declared.Strand.the-variants.{Plus, Minus, Dot}
 use Rattle.ledger.specs.Limits.{nameLimit, largestPosition}
 use Rattle.ledger.specs.Strands.{strandLetter}
+use Rattle.text.proofs.CheckLaws.{run-most, require-holds}
 use Rattle.text.specs.declared.Class.{Class}
 use Rattle.text.specs.declared.Class.the-variants.{Graphic}
 use Rattle.text.specs.declared.Check.the-variants.{Holds}
@@ -35,7 +36,6 @@ use Rattle.bed.specs.Records.{partAt}
 use Rattle.bed.specs.Rules.{BedRules}
 use Rattle.bed.specs.Tests.{ifThere, namesFit, allGraphic, strandFits, fieldsFit, rowNumbersFit, spansFit, rowsFit, bedValid}
 use Rattle.bed.specs.Write.{namesShow, writeCheck, bedWords}
-use Rattle.bed.proofs.AcceptLaws.{require-holds}
 use Rattle.bed.proofs.RuleLaws.{rules-of}
 
 -- the record with names of these lengths
@@ -63,16 +63,6 @@ pub record MayWrite (r : Bed) (chrom name ts qs zs : List ℕ) : Type 0 where
   pub sizes : allBetween 1 largestPosition (take (r .blockCount) zs) ≡ true
   pub fill : blocksFill (r .chromStart) (r .chromEnd) (take (r .blockCount) ts) (take (r .blockCount) zs) ≡ true
   pub sums : areSums 0 (take (r .blockCount) qs) (take (r .blockCount) zs) ≡ true
-
--- a scan ends in the text
-run-most : (c : Class) (s : List ℕ) → run c s ≤ length s
-unfolding run
-run-most c [] = omega arith
-run-most c (b ∷ s) = go (isIn c b) (run-most c s)
-  where
-    go : (t : Bool) → run c s ≤ length s → oneMore t (run c s) ≤ suc (length s)
-    go true h = omega arith
-    go false h = omega arith
 
 all-graphic : (w : List ℕ) → allGraphic w ≡ true → All Graphic w
 unfolding endOf

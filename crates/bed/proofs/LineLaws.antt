@@ -22,6 +22,7 @@ use Rattle.text.specs.Pieces.{piecesOf, nonEmpty, linesOf, lineOf, wordsOf}
 use Rattle.text.specs.Words.{lineEnd, nextLine, wordAt, wordCount, bytesOf}
 use Rattle.text.proofs.Laws.{either, word-ends, text-good, line-last}
 use Rattle.text.proofs.TextLaws.{both}
+use Rattle.text.proofs.CheckLaws.{run-most, require-holds, text-of, text-is, one-of, one-is, some-text}
 use Rattle.text.proofs.PieceLaws.{lines-none, lines-step, word-bytes}
 use Rattle.numbers.specs.declared.Spelt.the-variants.{Means}
 use Rattle.kinds.specs.declared.Kind.the-variants.{Name}
@@ -42,65 +43,7 @@ use Rattle.bed.specs.Records.{valueOr, placeOr, partAt, strandIs, bedRec
 use Rattle.bed.specs.Read.{wordsCheck, thickFits, spanCheck, blockCheck, bedCheck}
 use Rattle.bed.specs.Rules.{WordNumber, three-to-nine, twelve, partOf, BedLine}
 use Rattle.bed.proofs.ReadLaws.{value-there, value-left}
-use Rattle.bed.proofs.AcceptLaws.{lineValues, Accepts, accepts-of, accepts-is, require-holds, number-is, words-of, span-of, thick-of, sizes-count, starts-count, accepted-count, accepted-starts, accepted-fills}
-
--- a scan ends in the text
-run-most : (c : Class) (s : List ℕ) → run c s ≤ length s
-unfolding run
-run-most c [] = omega arith
-run-most c (b ∷ s) = go (isIn c b) (run-most c s)
-  where
-    go : (t : Bool) → run c s ≤ length s → oneMore t (run c s) ≤ suc (length s)
-    go true h = omega arith
-    go false h = omega arith
-
-empty-none : wordCount [] 0 ≡ 0
-unfolding wordCount lineOf wordsOf nonEmpty piecesOf run
-empty-none = refl
-
--- the text's length and bytes
-module _ (s : List ℕ) where
-  text-of : textCheck s ≡ Holds → (length s ≤ textLimit) × (run Allowed s ≡ length s)
-  unfolding textCheck endOf
-  text-of e =
-      let a = require-holds (leb (length s) textLimit) _ _ e in
-      let b = require-holds (leb (length s) (endOf Allowed s 0)) _ _ (a .1) in
-      let l : length s ≤ 0 + run Allowed s = leb-true (length s) (endOf Allowed s 0) (b .0) in
-      (leb-true (length s) textLimit (a .0), omega (arith, run-most Allowed s))
-
-  text-is : length s ≤ textLimit → run Allowed s ≡ length s → textCheck s ≡ Holds
-  unfolding endOf
-  text-is h e = sym (text-good s (endOf Allowed s 0) h refl (omega arith))
-
-  -- its one line
-  line-is-first : take (lineEnd s 0 - 0) (drop 0 s) ≡ lineOf s
-  unfolding lineEnd endOf lineOf
-  line-is-first =
-      let q : 0 + run Line s - 0 ≡ run Line s = omega arith in
-      rw q
-
-  lines-split : 0 < length s → linesOf s ≡ lineOf s ∷ linesOf (drop (nextLine s 0) s)
-  lines-split h = lines-step s 0 h ∙ ap (λ (l : List ℕ). l ∷ linesOf (drop (nextLine s 0) s)) line-is-first
-
-  one-of : 0 < length s → lastLineCheck s 0 ≡ Holds → linesOf s ≡ lineOf s ∷ []
-  unfolding lastLineCheck
-  one-of h e =
-      let l = leb-true (length s) (nextLine s 0) (require-holds (leb (length s) (nextLine s 0)) _ _ e .0) in
-      lines-split h ∙ rw (drop-of-length-le s l, lines-none)
-
-  one-is : linesOf s ≡ lineOf s ∷ [] → lastLineCheck s 0 ≡ Holds
-  one-is e =
-      sym (line-last s 0 (nextLine s 0) refl (either (length s) (nextLine s 0) _ (λ h. h) (λ h.
-      let p = lines-split (omega arith) in
-      let q = lines-step s (nextLine s 0) h in
-      absurd (let z : _≡_ {A = ℕ} 0 1 = cc in omega arith))))
-
-  some-text : 1 ≤ wordCount s 0 → 0 < length s
-  some-text h = go s h
-    where
-      go : (t : List ℕ) → 1 ≤ wordCount t 0 → 0 < length t
-      go [] k = absurd (omega (arith, empty-none))
-      go (x ∷ t) k = omega arith
+use Rattle.bed.proofs.AcceptLaws.{lineValues, Accepts, accepts-of, accepts-is, number-is, words-of, span-of, thick-of, sizes-count, starts-count, accepted-count, accepted-starts, accepted-fills}
 
 -- the number of words
 pub most-words : {n : ℕ} → WordNumber n → n ≤ 12

@@ -14,6 +14,7 @@ use Rattle.ledger.specs.declared.Strand.{Strand}
 use Rattle.ledger.specs.declared.Strand.the-variants.{Plus, Minus, Dot}
 use Rattle.ledger.specs.declared.Refusal.{Refusal}
 use Rattle.ledger.specs.Strands.{strandLetter}
+use Rattle.text.proofs.CheckLaws.{require-holds}
 use Rattle.text.specs.declared.Check.{Check}
 use Rattle.text.specs.declared.Check.the-variants.{Holds}
 use Rattle.text.specs.declared.Check.the-variants as check
@@ -35,7 +36,7 @@ use Rattle.bed.specs.Table.{bedColumns}
 use Rattle.bed.specs.Records.{isWordCount}
 use Rattle.bed.specs.Tests.{pickTest, ifThere, lengthFits, namesFit, fieldsFit, strandFits, rowNumbersFit, spansFit, rowsFit}
 use Rattle.bed.specs.Write.{namesShow, writeCheck, bedWords, bedText, bedValues, bedWrite, thenWrite, BedWrote, NamesShort, NamesPut, RowsThere, ListsPut, Writable}
-use Rattle.bed.proofs.AcceptLaws.{require-holds, number-of}
+use Rattle.bed.proofs.AcceptLaws.{number-of}
 use Rattle.bed.proofs.ColumnLaws.{table-is, codes-length, count-most}
 
 -- the codes of the table in the code

@@ -1,3 +1,4 @@
 pub mod Laws
 pub mod TextLaws
 pub mod PieceLaws
+pub mod CheckLaws
