@@ -17,12 +17,16 @@ use Rattle.text.specs.declared.Check.the-variants as check
 use Rattle.text.specs.declared.Extent.{Extent}
 use Rattle.text.specs.Checks.{pickCheck, textCheck, lastLineCheck}
 use Rattle.text.specs.Words.{lineEnd, wordAt, wordCount}
+use Rattle.text.specs.Pieces.{wordsOf, lineOf}
+use Rattle.text.proofs.CheckLaws.{require-holds, text-of, text-is, one-of, one-is, some-text}
 use Rattle.kinds.specs.declared.Kind.{Kind}
 use Rattle.kinds.specs.Kinds.{kindOf}
 use Rattle.columns.specs.declared.Columns.{Columns}
 use Rattle.columns.specs.declared.Columns.the-variants.{Next, Refused}
 use Rattle.columns.specs.Columns.{columnLimit, tableOf, columnsFrom, valuesFrom, listsFrom, ColumnsRead}
-use Rattle.columns.specs.OneLine.{countCheck, thenLine, thenLast, lineRead, CountedRead, LineRead}
+use Rattle.columns.specs.Spells.{firsts}
+use Rattle.columns.specs.OneLine.{countCheck, thenLine, thenLast, lineRead, OneLine, CountedRead, LineRead}
+use Rattle.columns.proofs.SpellsLaws.{columns-spell, spells-read}
 
 -- the number of words
 module _ (s : List ℕ) (line n count : ℕ) (ec : count ≡ wordCount s line) where
@@ -81,3 +85,67 @@ module _ (codes s out lists : List ℕ) (t : Check) (et : t ≡ textCheck s) whe
     line-read out′ lists′ r h g = record { result = rw (← et, q, ← counted, h) (g .result); stored = g .stored; held = g .held }
 
 pub ruleset lines = (line-text, line-count, line-read)
+
+-- a text of one line is read exactly when its words spell values, and then as those values
+line-then : (c : Check) (rest : Columns) (e : ℕ) → thenLine c rest ≡ Next e → (c ≡ Holds) × (rest ≡ Next e)
+line-then Holds rest e q = (refl, q)
+line-then (check.Refused x) rest e q = absurd (let z : _≡_ {A = ℕ} 0 1 = cc in omega arith)
+
+last-then : (x : Columns) (c : Check) (e : ℕ) → thenLast x c ≡ Next e → (x ≡ Next e) × (c ≡ Holds)
+last-then (Next d) c e q = let a = line-then c (Next d) e q in (a .1, a .0)
+last-then (Refused x) c e q = absurd (let z : _≡_ {A = ℕ} 0 1 = cc in omega arith)
+
+pub count-of : (s : List ℕ) (line n : ℕ) → countCheck s line n ≡ Holds → wordCount s line ≡ n
+unfolding countCheck
+count-of s line n e =
+    let a = require-holds (leb (wordCount s line) n) _ _ e in
+    let b = require-holds (leb n (wordCount s line)) _ _ (a .1) in
+    omega (arith, leb-true (wordCount s line) n (a .0), leb-true n (wordCount s line) (b .0))
+
+pub count-is : (s : List ℕ) (line n : ℕ) → wordCount s line ≡ n → countCheck s line n ≡ Holds
+count-is s line n e = sym (count-good s line n (wordCount s line) refl (omega arith) (omega arith))
+
+-- what a line that is read shows
+pub record Found (cs : List Kind) (s : List ℕ) (e : ℕ) : Type 0 where
+  pub text : textCheck s ≡ Holds
+  pub count : wordCount s 0 ≡ length cs
+  pub read : columnsFrom cs 0 s 0 ≡ Next e
+  pub last : lastLineCheck s 0 ≡ Holds
+
+pub line-found : (cs : List Kind) (s : List ℕ) (e : ℕ) → lineRead cs s ≡ Next e → Found cs s e
+unfolding lineRead
+line-found cs s e q =
+    let a = line-then (textCheck s) _ e q in
+    let b = line-then (countCheck s 0 (length cs)) _ e (a .1) in
+    let c = last-then (columnsFrom cs 0 s 0) (lastLineCheck s 0) e (b .1) in
+    record { text = a .0; count = count-of s 0 (length cs) (b .0); read = c .0; last = c .1 }
+
+pub found-line : (cs : List Kind) (s : List ℕ) (e : ℕ) → Found cs s e → lineRead cs s ≡ Next e
+unfolding lineRead
+found-line cs s e f = rw (f .text, count-is s 0 (length cs) (f .count), f .read, f .last)
+
+pub one-line-of : (cs : List Kind) (s : List ℕ) (e : ℕ) → 1 ≤ length cs → lineRead cs s ≡ Next e → OneLine cs s (firsts (valuesFrom cs 0 s 0))
+one-line-of cs s e some q =
+    let f = line-found cs s e q in
+    let t = text-of s (f .text) in
+    record {
+      short = t .0;
+      allowed = t .1;
+      oneLine = one-of s (some-text s (omega (arith, f .count))) (f .last);
+      count = f .count;
+      spelt = columns-spell cs 0 s 0 e (f .count) (f .read);
+    }
+
+pub record LineIs (cs : List Kind) (s vs : List ℕ) : Type 0 where
+  pub end : ℕ
+  pub read : lineRead cs s ≡ Next end
+  pub values : firsts (valuesFrom cs 0 s 0) ≡ vs
+
+pub one-line-is : (cs : List Kind) (s vs : List ℕ) → OneLine cs s vs → LineIs cs s vs
+one-line-is cs s vs o =
+    let r = spells-read cs 0 s 0 (wordsOf (lineOf s)) vs (o .count) refl (o .spelt) in
+    record {
+      end = r .end;
+      read = found-line cs s (r .end) (record { text = text-is s (o .short) (o .allowed); count = o .count; read = r .read; last = one-is s (o .oneLine) });
+      values = r .values;
+    }
