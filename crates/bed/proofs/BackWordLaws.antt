@@ -32,7 +32,8 @@ use Rattle.blocks.specs.Blocks.{blocksFill, areSums, allBetween, subtracted, co
 use Rattle.blocks.proofs.RuleLaws.{between-of}
 use Rattle.bed.specs.declared.Bed.{Bed}
 use Rattle.bed.specs.Table.{bedColumns}
-use Rattle.bed.specs.Records.{partAt}
+use Rattle.ledger.specs.Parts.{partAt}
+use Rattle.bed.specs.Records.{}
 use Rattle.bed.specs.Rules.{BedRules}
 use Rattle.bed.specs.Tests.{ifThere, namesFit, allGraphic, strandFits, fieldsFit, rowNumbersFit, spansFit, rowsFit, bedValid}
 use Rattle.bed.specs.Write.{namesShow, writeCheck, bedWords}

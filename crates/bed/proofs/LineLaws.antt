@@ -39,7 +39,9 @@ use Rattle.blocks.proofs.RuleLaws.{fills-of, fills-is}
 use Rattle.bed.specs.declared.Bed.{Bed}
 use Rattle.bed.specs.declared.BedAnswer.the-variants.{Accepted}
 use Rattle.bed.specs.Table.{bedColumns}
-use Rattle.bed.specs.Records.{valueOr, placeOr, partAt, strandIs, bedRecord, bedSizes, bedStarts}
+use Rattle.ledger.specs.Strands.{strandIs}
+use Rattle.ledger.specs.Parts.{partAt}
+use Rattle.bed.specs.Records.{valueOr, placeOr, bedRecord, bedSizes, bedStarts}
 use Rattle.bed.specs.Read.{wordsCheck, thickFits, spanCheck, blockCheck, bedCheck}
 use Rattle.bed.specs.Rules.{WordNumber, three-to-nine, twelve, partOf, BedLine}
 use Rattle.bed.proofs.ReadLaws.{value-there, value-left}

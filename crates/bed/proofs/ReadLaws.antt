@@ -27,7 +27,9 @@ use Rattle.blocks.specs.Blocks.{blocksFill}
 use Rattle.bed.specs.declared.Bed.{Bed}
 use Rattle.bed.specs.declared.BedAnswer.{BedAnswer}
 use Rattle.bed.specs.declared.BedAnswer.the-variants.{Accepted, Refused}
-use Rattle.bed.specs.Records.{isWordCount, pickNumber, valueOr, placeOr, partAt, strandIs, bedRecord, bedSizes, bedStarts}
+use Rattle.ledger.specs.Strands.{strandIs}
+use Rattle.ledger.specs.Parts.{partAt}
+use Rattle.bed.specs.Records.{isWordCount, pickNumber, valueOr, placeOr, bedRecord, bedSizes, bedStarts}
 use Rattle.bed.specs.Tests.{ifThere, bedValid}
 use Rattle.bed.specs.Write.{recordCheck}
 use Rattle.bed.specs.Read.{wordsCheck, thickFits, thickPlace, spanCheck, blockCheck, withDefault, afterSpans, afterLines, afterColumns, afterWords, bedCheck, Listed, Blocked, Staged}
@@ -59,20 +61,6 @@ module _ (n : ℕ) (vs : List ℕ) (k d : ℕ) where
 
   pub place-left : n ≤ k → d ≡ placeOr n vs k d
   place-left h = rw (le-ltb k n h)
-
-module _ (v : ℕ) where
-  pub strand-plus : v ≡ 43 → Plus ≡ strandIs (strandOf v)
-  strand-plus e = rw e
-
-  pub strand-minus : v ≡ 45 → Minus ≡ strandIs (strandOf v)
-  strand-minus e = rw e
-
-  pub strand-dot : (v ≡ 43 → ⊥) → (v ≡ 45 → ⊥) → Dot ≡ strandIs (strandOf v)
-  strand-dot h k = rw (ne-eqb v 43 h, ne-eqb v 45 k) (go (eqb v 46))
-    where
-      go : (t : Bool) → Dot ≡ strandIs (pickLettered t (Is Dot) NoStrand)
-      go true = refl
-      go false = refl
 
 -- the place of a thick breach
 module _ (n : ℕ) (vs : List ℕ) (r : ℕ) where

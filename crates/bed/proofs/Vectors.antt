@@ -15,7 +15,8 @@ use Rattle.kinds.specs.Words.{colourText}
 use Rattle.blocks.specs.Blocks.{orderFrom, blocksFill, areSums, allBetween, subtracted}
 use Rattle.bed.specs.declared.Bed.{Bed}
 use Rattle.bed.specs.declared.BedAnswer.the-variants.{Accepted}
-use Rattle.bed.specs.Records.{partAt, bedTargets}
+use Rattle.ledger.specs.Parts.{partAt}
+use Rattle.bed.specs.Records.{bedTargets}
 use Rattle.bed.specs.Read.{bedRead}
 use Rattle.bed.specs.Rules.{placed}
 use Rattle.bed.specs.Tests.{namesFit, strandFits, fieldsFit, rowNumbersFit, spansFit, rowsFit}

@@ -8,9 +8,8 @@ use lib.Dec.{leb, ltb, eqb}
 use Rattle.ledger.specs.declared.Part.{Part}
 use Rattle.ledger.specs.declared.Strand.{Strand}
 use Rattle.ledger.specs.declared.Strand.the-variants.{Dot}
-use Rattle.ledger.specs.declared.Lettered.{Lettered}
-use Rattle.ledger.specs.declared.Lettered.the-variants.{Is, NoStrand}
-use Rattle.ledger.specs.Strands.{strandOf, strandLetter}
+use Rattle.ledger.specs.Strands.{strandOf, strandIs, strandLetter}
+use Rattle.ledger.specs.Parts.{partAt}
 use Rattle.text.specs.Words.{wordAt, bytesOf}
 use Rattle.numbers.specs.Lists.{valuesOf}
 use Rattle.blocks.specs.Blocks.{shifted, sumsFrom}
@@ -30,14 +29,6 @@ valueOr n vs k d = pickNumber (ltb k n) (getD vs (2 * k) 0) d
 
 abbrev pub placeOr : ℕ → List ℕ → ℕ → ℕ → ℕ
 placeOr n vs k d = pickNumber (ltb k n) (getD vs (2 * k + 1) 0) d
-
-abbrev pub partAt : ℕ → ℕ → Part
-partAt start length = record { start = start; length = length }
-
--- the strand of a letter
-abbrev pub strandIs : Lettered → Strand
-strandIs (Is s) = s
-strandIs NoStrand = Dot
 
 -- the record of a line of n words whose columns hold vs, in a text of a length. Left out: an empty name at the text's end, score 0, strand `.`, thick the
 -- whole span, colour 0, one block

@@ -5,8 +5,7 @@ ghost use Prim.Native.Nat.{_+_, _-_, _*_, _≤_};
 ghost use lib.ListN.{length, getD, take, drop};
 ghost use Rattle.ledger.specs.Limits.{nameLimit, blockLimit};
 ghost use Rattle.writing.specs.Answers.{Wrote};
-ghost use Rattle.bed.specs.Records.{isWordCount, valueOr, placeOr, partAt, strandIs, bedRecord};
-ghost use Rattle.ledger.specs.Strands.{strandOf};
+ghost use Rattle.bed.specs.Records.{isWordCount, valueOr, placeOr, bedRecord};
 ghost use Rattle.text.specs.Checks.{require};
 ghost use Rattle.bed.specs.Tests.{ifThere, lengthFits, allGraphic, namesFit, isDot, strandFits, fieldsFit, rowNumbersFit, spansFit, rowsFit, bedValid};
 ghost use Rattle.bed.specs.Write.{namesShow, writeCheck, bedValues, bedText, NamesShort, NamesPut, RowsThere, ListsPut, Writable, BedWrote, recordCheck};
@@ -98,29 +97,6 @@ fn place_or(values: &[u64], n: u64, k: usize, d: u64) -> u64
     d
 }
 
-// The strand of a letter.
-fn strand_of(v: u64) -> Strand
-    ensures { λ r. ⌜ r ≡ strandIs (strandOf v) ⌝ }
-{
-    if v == 43 {
-        return Strand::Plus;
-    }
-    if v == 45 {
-        return Strand::Minus;
-    }
-    Strand::Dot
-}
-
-// A name by its first byte and length.
-fn part_of(start: u64, length: u64) -> Part
-    ensures { λ r. ⌜ r ≡ partAt start length ⌝ }
-{
-    Part {
-        start: start as usize,
-        length: length as usize,
-    }
-}
-
 // The record of a line of n words, from its columns' values.
 fn record_of(values: &[u64], n: u64, len: usize) -> Bed
     ensures { λ r. ⌜ r ≡ bedRecord n len (now (values .entry)) ⌝ }
@@ -129,15 +105,15 @@ fn record_of(values: &[u64], n: u64, len: usize) -> Bed
     let end = columns::value_at(values, 4);
     Bed {
         words: n,
-        chrom: part_of(columns::value_at(values, 1), columns::value_at(values, 0)),
+        chrom: Part::of_values(columns::value_at(values, 1), columns::value_at(values, 0)),
         chromStart: start,
         chromEnd: end,
-        name: part_of(
+        name: Part::of_values(
             place_or(values, n, 3, len as u64),
             value_or(values, n, 3, 0),
         ),
         score: value_or(values, n, 4, 0),
-        strand: strand_of(value_or(values, n, 5, 46)),
+        strand: Strand::of_value(value_or(values, n, 5, 46)),
         thickStart: value_or(values, n, 6, start),
         thickEnd: value_or(values, n, 7, end),
         itemRgb: value_or(values, n, 8, 0),

@@ -1,10 +1,10 @@
 -- Blocks as flat lists: where each starts on one side, and its size. A record's count says how many of a table's first rows are its blocks.
-use Prim.Native.Nat.{ℕ, _+_, _-_, min}
+use Prim.Native.Nat.{ℕ, suc, _+_, _-_, min}
 use mathlib.Core.Bool.{Bool, true, false, _&&_}
 use mathlib.Core.List.{List, [], _∷_}
 use lib.ListN.{length}
-use lib.Dec.{leb, eqb}
-use Rattle.ledger.specs.Limits.{blockLimit}
+use lib.Dec.{leb, ltb, eqb}
+use Rattle.ledger.specs.Limits.{blockLimit, largestNumber}
 
 -- after a block that starts at s with size z: each further block starts at or after the end of the one before, and the last ends at a place
 unfoldable pub orderFrom : ℕ → ℕ → ℕ → List ℕ → List ℕ → Bool
@@ -41,6 +41,10 @@ unfoldable pub sumsWithin : ℕ → ℕ → List ℕ → List ℕ
 sumsWithin most acc [] = []
 sumsWithin most acc (z ∷ zs) = acc ∷ onlyIf (leb (acc + z) most) (sumsWithin most (acc + z) zs)
 
+-- a number, or the largest that a word of the machine holds
+abbrev pub capped : ℕ → ℕ
+capped n = min n largestNumber
+
 -- the sum of a list
 unfoldable pub sumOf : List ℕ → ℕ
 sumOf [] = 0
@@ -72,3 +76,29 @@ rowsOf ts qs zs = min (length ts) (min (length qs) (length zs))
 -- whether a count of blocks is one: not 0, not over the limit, not past the table
 abbrev pub countFits : ℕ → ℕ → Bool
 countFits n rows = leb 1 n && (leb n blockLimit && leb n rows)
+
+abbrev pub oneGap : Bool → ℕ → ℕ
+oneGap true n = suc n
+oneGap false n = n
+
+-- the nonempty gaps after a block that starts at s with size z, and their bases
+unfoldable pub gapsFrom : ℕ → ℕ → List ℕ → List ℕ → ℕ
+gapsFrom s z [] zs = 0
+gapsFrom s z (x ∷ ss) [] = 0
+gapsFrom s z (x ∷ ss) (y ∷ zs) = oneGap (ltb (s + z) x) (gapsFrom x y ss zs)
+
+unfoldable pub basesFrom : ℕ → ℕ → List ℕ → List ℕ → ℕ
+basesFrom s z [] zs = 0
+basesFrom s z (x ∷ ss) [] = 0
+basesFrom s z (x ∷ ss) (y ∷ zs) = (x - (s + z)) + basesFrom x y ss zs
+
+-- the gaps between blocks that are not empty: how many, and their bases
+unfoldable pub gapCount : List ℕ → List ℕ → ℕ
+gapCount [] zs = 0
+gapCount (x ∷ ss) [] = 0
+gapCount (x ∷ ss) (y ∷ zs) = gapsFrom x y ss zs
+
+unfoldable pub gapBases : List ℕ → List ℕ → ℕ
+gapBases [] zs = 0
+gapBases (x ∷ ss) [] = 0
+gapBases (x ∷ ss) (y ∷ zs) = basesFrom x y ss zs

@@ -1,7 +1,10 @@
 -- Laws of the ledger: the numbers are 01's thirteen and distinct, opposite twice is the same strand, and the letter determines the strand. Assumes nothing.
 use mathlib.Core.Path.{_≡_, refl, sym, ap, _∙_}
 use mathlib.Core.List.{List, [], _∷_}
+use mathlib.Core.Bool.{Bool, true, false}
 use Prim.Native.Nat.{ℕ}
+use lib.Dec.{eqb}
+use borrow.Author.Tests.{ne-eqb}
 use lib.ListN.{getD}
 use Rattle.ledger.specs.declared.Reason.{Reason}
 use Rattle.ledger.specs.declared.Reason.the-variants.{TextTooLong, WrongCount, ByteNotAllowed, NumberMisspelt, NumberOutOfRange, BadWord, SpanDisagrees, ListLength, BlockRules, CountsDisagree, NoRoom, NoPair, OutsideTarget}
@@ -10,7 +13,7 @@ use Rattle.ledger.specs.declared.Strand.the-variants.{Plus, Minus, Dot}
 use Rattle.ledger.specs.declared.Lettered.{Lettered}
 use Rattle.ledger.specs.declared.Lettered.the-variants.{Is, NoStrand}
 use Rattle.ledger.specs.Reasons.{reasonNumber}
-use Rattle.ledger.specs.Strands.{strandOpposite, strandLetter, strandOf}
+use Rattle.ledger.specs.Strands.{strandOpposite, strandLetter, pickLettered, strandOf, strandIs}
 
 pub opposite-twice : (s : Strand) → strandOpposite (strandOpposite s) ≡ s
 opposite-twice Plus = refl
@@ -57,3 +60,18 @@ reason-of-number OutsideTarget = refl
 -- the thirteen numbers are distinct
 pub numbers-distinct : (r q : Reason) → reasonNumber r ≡ reasonNumber q → r ≡ q
 numbers-distinct r q e = sym (reason-of-number r) ∙ ap reasonOf e ∙ reason-of-number q
+
+-- the strand of a letter that a column holds
+module _ (v : ℕ) where
+  pub value-plus : v ≡ 43 → Plus ≡ strandIs (strandOf v)
+  value-plus e = rw e
+
+  pub value-minus : v ≡ 45 → Minus ≡ strandIs (strandOf v)
+  value-minus e = rw e
+
+  pub value-dot : (v ≡ 43 → ⊥) → (v ≡ 45 → ⊥) → Dot ≡ strandIs (strandOf v)
+  value-dot h k = rw (ne-eqb v 43 h, ne-eqb v 45 k) (go (eqb v 46))
+    where
+      go : (t : Bool) → Dot ≡ strandIs (pickLettered t (Is Dot) NoStrand)
+      go true = refl
+      go false = refl

@@ -1,3 +1,4 @@
 pub mod Limits
 pub mod Reasons
 pub mod Strands
+pub mod Parts

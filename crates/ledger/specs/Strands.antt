@@ -25,3 +25,7 @@ pickLettered false a b = b
 -- the strand of a letter
 abbrev pub strandOf : ℕ → Lettered
 strandOf b = pickLettered (eqb b (strandLetter Plus)) (Is Plus) (pickLettered (eqb b (strandLetter Minus)) (Is Minus) (pickLettered (eqb b (strandLetter Dot)) (Is Dot) NoStrand))
+
+abbrev pub strandIs : Lettered → Strand
+strandIs (Is s) = s
+strandIs NoStrand = Dot

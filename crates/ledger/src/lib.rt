@@ -1,7 +1,8 @@
 // What every layer shares: the reasons of a refusal with their numbers, strands, positions, parts of a text, and the limits by name.
 ghost use mathlib.Core.Path.{_≡_};
 ghost use Rattle.ledger.specs.Reasons.{reasonNumber};
-ghost use Rattle.ledger.specs.Strands.{strandOpposite, strandLetter, strandOf};
+ghost use Rattle.ledger.specs.Strands.{strandOpposite, strandLetter, strandOf, strandIs};
+ghost use Rattle.ledger.specs.Parts.{partAt};
 ghost use Rattle.ledger.specs.Limits.{inCoordinates};
 
 // A text has at most so many bytes.
@@ -139,10 +140,35 @@ impl Strand {
             _ => Lettered::NoStrand,
         }
     }
+
+    // The strand of a letter that a column holds; `.` where it is none.
+    pub fn of_value(v: u64) -> Strand
+        ensures { λ r. ⌜ r ≡ strandIs (strandOf v) ⌝ }
+    {
+        if v == 43 {
+            return Strand::Plus;
+        }
+        if v == 45 {
+            return Strand::Minus;
+        }
+        Strand::Dot
+    }
 }
 
 // Where a name stands in a text: its first byte and its length.
 pub struct Part {
     pub start: usize,
     pub length: usize,
+}
+
+impl Part {
+    // From the two numbers of a column: where its word starts, and a name's length.
+    pub fn of_values(start: u64, length: u64) -> Part
+        ensures { λ r. ⌜ r ≡ partAt start length ⌝ }
+    {
+        Part {
+            start: start as usize,
+            length: length as usize,
+        }
+    }
 }

@@ -5,9 +5,7 @@ use Rattle.bed.proofs.record_of.Statement.{statement}
 use Rattle.bed.proofs.record_of.Tie as tie
 use Rattle.bed.proofs.record_of.Reads as reads
 use Rattle.bed.proofs.record_of.Lts as lts
-use Rattle.bed.proofs.part_of.Reads as part-of-reads
 use Rattle.bed.proofs.place_or.Reads as place-or-reads
-use Rattle.bed.proofs.strand_of.Reads as strand-of-reads
 use Rattle.bed.proofs.value_or.Reads as value-or-reads
 use Rattle.columns.proofs.value_at.Reads as value-at-reads
 
@@ -23,8 +21,8 @@ value-at-requires-3 c κs = search needs
 value-at-requires-4 : tie.Need-value-at-requires-4
 value-at-requires-4 c κs = search needs
 
-part-of-requires : tie.Need-part-of-requires
-part-of-requires c κs = search needs
+of-values-requires : tie.Need-of-values-requires
+of-values-requires c κs = search needs
 
 place-or-requires : tie.Need-place-or-requires
 place-or-requires c κs = search needs
@@ -32,8 +30,8 @@ place-or-requires c κs = search needs
 value-or-requires : tie.Need-value-or-requires
 value-or-requires c κs = search needs
 
-part-of-requires-2 : tie.Need-part-of-requires-2
-part-of-requires-2 c κs = search needs
+of-values-requires-2 : tie.Need-of-values-requires-2
+of-values-requires-2 c κs = search needs
 
 value-or-requires-2 : tie.Need-value-or-requires-2
 value-or-requires-2 c κs = search needs
@@ -41,8 +39,8 @@ value-or-requires-2 c κs = search needs
 value-or-requires-3 : tie.Need-value-or-requires-3
 value-or-requires-3 c κs = search needs
 
-strand-of-requires : tie.Need-strand-of-requires
-strand-of-requires c κs = search needs
+of-value-requires : tie.Need-of-value-requires
+of-value-requires c κs = search needs
 
 value-or-requires-4 : tie.Need-value-or-requires-4
 value-or-requires-4 c κs = search needs
@@ -63,13 +61,13 @@ returns c =
     (c .before .before .before .before .before .before .before .before .before .before .before .before .before .value-at2 .ensures)
     (c .before .before .before .before .before .before .before .before .before .before .before .before .value-at3 .ensures)
     (c .before .before .before .before .before .before .before .before .before .before .before .value-at4 .ensures)
-    (c .before .before .before .before .before .before .before .before .before .before .part-of .ensures)
+    (c .before .before .before .before .before .before .before .before .before .before .of-values .ensures)
     (c .before .before .before .before .before .before .before .before .before .place-or .ensures)
     (c .before .before .before .before .before .before .before .before .value-or .ensures)
-    (c .before .before .before .before .before .before .before .part-of2 .ensures)
+    (c .before .before .before .before .before .before .before .of-values2 .ensures)
     (c .before .before .before .before .before .before .value-or2 .ensures)
     (c .before .before .before .before .before .value-or3 .ensures)
-    (c .before .before .before .before .strand-of .ensures)
+    (c .before .before .before .before .of-value .ensures)
     (c .before .before .before .value-or4 .ensures)
     (c .before .before .value-or5 .ensures)
     (c .before .value-or6 .ensures)
@@ -83,13 +81,13 @@ record-of-spec =
     value-at-requires-2
     value-at-requires-3
     value-at-requires-4
-    part-of-requires
+    of-values-requires
     place-or-requires
     value-or-requires
-    part-of-requires-2
+    of-values-requires-2
     value-or-requires-2
     value-or-requires-3
-    strand-of-requires
+    of-value-requires
     value-or-requires-4
     value-or-requires-5
     value-or-requires-6
