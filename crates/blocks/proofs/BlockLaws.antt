@@ -12,13 +12,13 @@ use borrow.Author.Tests.{eq-eqb, ne-eqb, le-leb, lt-leb, eqb-true, eqb-false}
 use Rattle.blocks.specs.Blocks.{shiftedWithin, subtracted, orderFrom, blocksFill, areSums, sumsWithin, allBetween}
 
 -- the first k rows from a place on: the next one and the rest, or none
-row : (l : List ℕ) (k n i : ℕ) → n ≡ min k (length l) → i < n → drop i (take k l) ≡ getD l i 0 ∷ drop (i + 1) (take k l)
+pub row : (l : List ℕ) (k n i : ℕ) → n ≡ min k (length l) → i < n → drop i (take k l) ≡ getD l i 0 ∷ drop (i + 1) (take k l)
 row l k n i e h =
     let q : i < length (take k l) = rw length-take (omega arith) in
     let g : getD (take k l) i 0 ≡ getD l i 0 = getD-take k l i 0 (omega arith) in
     drop-cons (take k l) i 0 q ∙ rw (g, add-one i)
 
-rows-done : (l : List ℕ) (k n i : ℕ) → n ≡ min k (length l) → n ≤ i → drop i (take k l) ≡ []
+pub rows-done : (l : List ℕ) (k n i : ℕ) → n ≡ min k (length l) → n ≤ i → drop i (take k l) ≡ []
 rows-done l k n i e h =
     let q : length (take k l) ≤ i = rw length-take (omega arith) in
     drop-of-length-le (take k l) q

@@ -1,3 +1,4 @@
 pub mod BlockLaws
+pub mod GapLaws
 pub mod RuleLaws
 pub mod TakeLaws

@@ -13,7 +13,7 @@ use Rattle.numbers.specs.Ranges.{Between, between-none, between-more}
 use Rattle.blocks.specs.Blocks.{shiftedWithin, orderFrom, blocksFill, sumsFrom, sumsWithin, sumOf, areSums, allBetween, shifted, subtracted}
 use Rattle.blocks.specs.Rules.{Fills, Sums, Ranged}
 
-both : (t u : Bool) → (t && u) ≡ true → (t ≡ true) × (u ≡ true)
+pub both : (t u : Bool) → (t && u) ≡ true → (t ≡ true) × (u ≡ true)
 both true u e = (refl, e)
 both false u e = absurd (false≢true e)
 

@@ -1,10 +1,10 @@
 // The rules of blocks over flat slices: order, span, sums and ranges; and moving blocks between tables.
 ghost use mathlib.Core.Path.{_≡_};
-ghost use Prim.Native.Nat.{_-_, min};
+ghost use Prim.Native.Nat.{_+_, _-_, min};
 ghost use lib.ListN.{take};
 ghost use lib.Seq.{sets};
 ghost use Rattle.ledger.specs.Limits.{largestNumber};
-ghost use Rattle.blocks.specs.Blocks.{blocksFill, areSums, sumsWithin, shiftedWithin, subtracted, allBetween, countFits, rowsOf};
+ghost use Rattle.blocks.specs.Blocks.{blocksFill, areSums, sumsWithin, shiftedWithin, subtracted, capped, sumOf, gapCount, gapBases, allBetween, countFits, rowsOf};
 
 // How many of the first so many rows a slice of some length has.
 fn reach(len: usize, count: usize) -> usize
@@ -189,4 +189,89 @@ pub fn count_fits(count: u64, rows: usize) -> bool
     ensures { λ r. ⌜ r ≡ countFits count rows ⌝ }
 {
     (1 <= count) & ((count <= ledger::BLOCK_LIMIT) & (count <= rows as u64))
+}
+
+// The sum of two numbers, or the largest number.
+fn add(a: u64, b: u64) -> u64
+    ensures { λ r. ⌜ r ≡ capped (a + b) ⌝ }
+{
+    if ledger::LARGEST_NUMBER - a < b {
+        return ledger::LARGEST_NUMBER;
+    }
+    a + b
+}
+
+// The sum of the first so many numbers, or the largest number.
+pub fn sum_of(values: &[u64], count: usize) -> u64
+    ensures { λ r. ⌜ r ≡ capped (sumOf (take count (now (values .entry)))) ⌝ }
+{
+    let n = reach(values.len(), count);
+    let mut sum: u64 = 0;
+    let mut i = 0;
+    while i < n {
+        sum = add(sum, values[i]);
+        i += 1;
+    }
+    sum
+}
+
+// The bases between the end of a block and the next start; 0 where they touch or overlap.
+fn gap_after(s: u64, z: u64, x: u64) -> u64
+    ensures { λ r. ⌜ r ≡ x - (s + z) ⌝ }
+{
+    if x < s {
+        return 0;
+    }
+    less(x - s, z)
+}
+
+// 1 where there are bases, and 0 where there are none.
+fn one(gap: u64) -> u64
+    ensures { λ r. ⌜ r ≡ min gap 1 ⌝ }
+{
+    if gap == 0 { 0 } else { 1 }
+}
+
+// The nonempty gaps between the first so many blocks.
+pub fn gap_count(starts: &[u64], sizes: &[u64], count: usize) -> u64
+    ensures { λ r. ⌜ r ≡ gapCount (take count (now (starts .entry))) (take count (now (sizes .entry))) ⌝ }
+{
+    let n = reach(starts.len(), reach(sizes.len(), count));
+    if n == 0 {
+        return 0;
+    }
+    let mut gaps: u64 = 0;
+    let mut s = starts[0];
+    let mut z = sizes[0];
+    let mut i = 1;
+    while i < n {
+        let x = starts[i];
+        gaps += one(gap_after(s, z, x));
+        s = x;
+        z = sizes[i];
+        i += 1;
+    }
+    gaps
+}
+
+// Their bases, or the largest number.
+pub fn gap_bases(starts: &[u64], sizes: &[u64], count: usize) -> u64
+    ensures { λ r. ⌜ r ≡ capped (gapBases (take count (now (starts .entry))) (take count (now (sizes .entry)))) ⌝ }
+{
+    let n = reach(starts.len(), reach(sizes.len(), count));
+    if n == 0 {
+        return 0;
+    }
+    let mut bases: u64 = 0;
+    let mut s = starts[0];
+    let mut z = sizes[0];
+    let mut i = 1;
+    while i < n {
+        let x = starts[i];
+        bases = add(bases, gap_after(s, z, x));
+        s = x;
+        z = sizes[i];
+        i += 1;
+    }
+    bases
 }

@@ -1,0 +1,94 @@
+-- Reading a PSL line: the checks in the ledger's order.
+use Prim.Native.Nat.{ℕ, _+_, _-_, _*_, _≤_}
+use mathlib.Core.Path.{_≡_}
+use mathlib.Core.Bool.{Bool, true, false}
+use mathlib.Core.List.{List, [], _∷_}
+use lib.ListN.{length, take, drop, getD}
+use lib.Seq.{sets}
+use lib.Dec.{leb}
+use Rattle.ledger.specs.declared.Reason.the-variants.{SpanDisagrees, BlockRules, CountsDisagree, NoRoom}
+use Rattle.ledger.specs.Limits.{blockLimit}
+use Rattle.text.specs.declared.Check.{Check}
+use Rattle.text.specs.declared.Check.the-variants.{Holds}
+use Rattle.text.specs.declared.Check.the-variants as check
+use Rattle.text.specs.Checks.{require}
+use Rattle.columns.specs.declared.Columns.{Columns}
+use Rattle.columns.specs.declared.Columns.the-variants.{Next}
+use Rattle.columns.specs.declared.Columns.the-variants as columns
+use Rattle.columns.specs.Columns.{valuesFrom}
+use Rattle.columns.specs.OneLine.{lineRead}
+use Rattle.blocks.specs.Blocks.{rowsOf}
+use Rattle.psl.specs.declared.Psl.{Psl}
+use Rattle.psl.specs.declared.PslAnswer.{PslAnswer}
+use Rattle.psl.specs.declared.PslAnswer.the-variants.{Accepted, Refused}
+use Rattle.psl.specs.Table.{pslColumns}
+use Rattle.psl.specs.Records.{pslRecord, pslSizes, pslQueries, pslTargets}
+use Rattle.psl.specs.Rows.{spanFits, rowsFit, countsFit}
+
+-- the spans (7): the query's at qEnd, then the target's at tEnd
+unfoldable pub spanCheck : Psl → List ℕ → Check
+spanCheck r vs =
+    require (spanFits (r .query)) SpanDisagrees (getD vs 25 0)
+    (require (spanFits (r .target)) SpanDisagrees (getD vs 33 0) Holds)
+
+-- the blocks (9), then the counts (10), both at the text's end
+unfoldable pub rowCheck : List ℕ → Psl → Check
+rowCheck s r =
+    require (rowsFit r (pslTargets s) (pslQueries s) (pslSizes s)) BlockRules (length s)
+    (require (countsFit (r .counts) (pslTargets s) (pslQueries s) (pslSizes s)) CountsDisagree (length s) Holds)
+
+-- the room (11), last, at the text's end
+unfoldable pub roomCheck : List ℕ → Psl → ℕ → Check
+roomCheck s r room = require (leb (r .blockCount) room) NoRoom (length s) Holds
+
+abbrev pub thenCheck : Check → PslAnswer → PslAnswer
+thenCheck Holds rest = rest
+thenCheck (check.Refused x) rest = Refused x
+
+abbrev pub thenLine : Columns → PslAnswer → PslAnswer
+thenLine (Next e) rest = rest
+thenLine (columns.Refused x) rest = Refused x
+
+-- after the line: the spans, the blocks, the counts
+unfoldable pub afterSpans : List ℕ → Psl → PslAnswer
+afterSpans s r = thenCheck (rowCheck s r) (Accepted r)
+
+unfoldable pub afterLine : List ℕ → List ℕ → PslAnswer
+afterLine s vs = thenCheck (spanCheck (pslRecord vs) vs) (afterSpans s (pslRecord vs))
+
+-- THE TEXT CHECKER: the reader without room
+unfoldable pub pslCheck : List ℕ → PslAnswer
+pslCheck s = thenLine (lineRead pslColumns s) (afterLine s (valuesFrom pslColumns 0 s 0))
+
+abbrev pub thenRoom : PslAnswer → List ℕ → ℕ → PslAnswer
+thenRoom (Accepted r) s room = thenCheck (roomCheck s r room) (Accepted r)
+thenRoom (Refused x) s room = Refused x
+
+-- THE READER: room last
+unfoldable pub pslRead : List ℕ → ℕ → PslAnswer
+pslRead s room = thenRoom (pslCheck s) s room
+
+-- what a lent table holds then: the rows of an accepted line from its front, or what it held
+abbrev pub rowsAfter : PslAnswer → List ℕ → List ℕ → List ℕ
+rowsAfter (Accepted r) rows before = sets before 0 rows
+rowsAfter (Refused x) rows before = before
+
+-- what the reader promises: the answer, and the three columns of rows
+pub record PslRead (s ts ts′ qs qs′ zs zs′ : List ℕ) (r : PslAnswer) : Type 0 where
+  pub is : r ≡ pslRead s (rowsOf ts qs zs)
+  pub targets : ts′ ≡ rowsAfter r (pslTargets s) ts
+  pub queries : qs′ ≡ rowsAfter r (pslQueries s) qs
+  pub sizes : zs′ ≡ rowsAfter r (pslSizes s) zs
+
+-- the working room of a reader: sizes at its front, then query starts, then target starts, room for a record's blocks each
+pub record Listed (s : List ℕ) (r : Psl) (lists : List ℕ) : Type 0 where
+  pub long : length lists ≡ 3 * blockLimit
+  pub few : r .blockCount ≤ blockLimit
+  pub sizes : take (r .blockCount) lists ≡ pslSizes s
+  pub queries : take (r .blockCount) (drop blockLimit lists) ≡ pslQueries s
+  pub targets : take (r .blockCount) (drop (2 * blockLimit) lists) ≡ pslTargets s
+
+-- what a stage promises: its answer, and the blocks of an accepted line in the working room
+pub record Staged (s : List ℕ) (answer : PslAnswer) (lists′ : List ℕ) (r : PslAnswer) : Type 0 where
+  pub is : r ≡ answer
+  pub held : (b : Psl) → r ≡ Accepted b → Listed s b lists′
