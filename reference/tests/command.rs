@@ -132,3 +132,88 @@ fn lines_by_their_columns() {
         ("C", "C refused 6 at 0"),
     ]);
 }
+
+#[test]
+fn repeated_bytes() {
+    cases(&[
+        (r"t \*65536a", "t fine"),
+        (r"t \*65537a", "t refused 1 at 0"),
+        (r"l a\*00003 b", "l 0-5: 0-1 4-5"),
+        (r"l \*00000ab", "l 0-1: 0-1"),
+        (r"l \*0003 b", "l 0-8: 0-6 7-8"),
+        (r"l \*00002", "l 0-7: 0-7"),
+    ]);
+}
+
+#[test]
+fn bed_lines_accepted() {
+    cases(&[
+        (
+            "D chr22 1000 5000 cloneA 960 + 1000 5000 0 2 567,488, 0,3512",
+            r"D bed 12 chrom 0+5 1000 5000 name 16+6 960 + 1000 5000 0 2 rows 1000,0,567 4512,567,488 text chr22\t1000\t5000\tcloneA\t960\t+\t1000\t5000\t0\t2\t567,488,\t0,3512,\n checked",
+        ),
+        (
+            r"E c\t1 9 n 0 - 4 5 1,2,3\n",
+            r"E bed 9 chrom 0+1 1 9 name 6+1 0 - 4 5 66051 1 rows 1,0,8 text c\t1\t9\tn\t0\t-\t4\t5\t1,2,3\n checked",
+        ),
+        (
+            r"D c 1 2\n",
+            r"D bed 3 chrom 0+1 1 2 name 6+0 0 . 1 2 0 1 rows 1,0,1 text c\t1\t2\n checked",
+        ),
+    ]);
+}
+
+#[test]
+fn bed_lines_refused() {
+    cases(&[
+        (
+            "D chr22 1000 4999 cloneA 960 + 1000 4999 0 2 567,488, 0,3512",
+            "D refused 9 at 58",
+        ),
+        (
+            "E chr22 1000 5000 cloneA 960 + 1000 5000 0 2 567,488, 0,3512",
+            "E refused 11 at 58",
+        ),
+        (r"D c 1 2\*65532 ", "D refused 1 at 0"),
+        (r"D c 1 x\nc", "D refused 4 at 4"),
+        (r"D c 2 1\nc", "D refused 2 at 6"),
+        (r"D c 1 2\n\n", "D refused 2 at 6"),
+        (r"D c 1 2\n\s\s", "D refused 2 at 8"),
+        ("D c 1 9 n 0 + 10", "D refused 7 at 12"),
+        ("D c 1 9 n 0 + 1 10", "D refused 7 at 14"),
+    ]);
+}
+
+#[test]
+fn bed_records() {
+    cases(&[
+        (
+            "W 12 1000 5000 960 + 1000 5000 255 2 66 =chr22 =cloneA 1000,0,567 4512,567,488",
+            r"W check ok write chr22\t1000\t5000\tcloneA\t960\t+\t1000\t5000\t0,0,255\t2\t567,488,\t0,3512,\n",
+        ),
+        (
+            "W 3 1 2 0 . 1 2 0 1 6 =c = 1,0,1",
+            r"W check ok write c\t1\t2\n",
+        ),
+        (
+            "W 3 1 2 0 . 1 2 0 1 5 =c = 1,0,1",
+            "W check ok write refused 11",
+        ),
+        (
+            r"W 4 1 2 0 . 1 2 0 1 9 =c =a\sb 1,0,1",
+            "W check ok write refused 6",
+        ),
+        (
+            "W 3 1 2 5 . 1 2 0 1 9 =c = 1,0,1",
+            "W check refused 9 write refused 5",
+        ),
+        (
+            "W 3 2 2 0 . 2 2 0 1 9 =c = 2,0,1",
+            "W check refused 9 write refused 7",
+        ),
+        (
+            "W 3 1 2 0 . 1 2 0 2 9 =c = 1,0,1",
+            "W check refused 9 write refused 9",
+        ),
+    ]);
+}

@@ -7,7 +7,7 @@ use lib.ListN.{length, take, drop, getD}
 use lib.Seq.{sets}
 use lib.Dec.{leb}
 use Rattle.ledger.specs.declared.Reason.the-variants.{SpanDisagrees, BlockRules, CountsDisagree, NoRoom}
-use Rattle.ledger.specs.Limits.{blockLimit}
+use Rattle.ledger.specs.Limits.{blockLimit, largestPosition}
 use Rattle.text.specs.declared.Check.{Check}
 use Rattle.text.specs.declared.Check.the-variants.{Holds}
 use Rattle.text.specs.declared.Check.the-variants as check
@@ -18,6 +18,7 @@ use Rattle.columns.specs.declared.Columns.the-variants as columns
 use Rattle.columns.specs.Columns.{valuesFrom}
 use Rattle.columns.specs.OneLine.{lineRead}
 use Rattle.blocks.specs.Blocks.{rowsOf}
+use Rattle.psl.specs.declared.Counts.{Counts}
 use Rattle.psl.specs.declared.Psl.{Psl}
 use Rattle.psl.specs.declared.PslAnswer.{PslAnswer}
 use Rattle.psl.specs.declared.PslAnswer.the-variants.{Accepted, Refused}
@@ -92,3 +93,24 @@ pub record Listed (s : List ℕ) (r : Psl) (lists : List ℕ) : Type 0 where
 pub record Staged (s : List ℕ) (answer : PslAnswer) (lists′ : List ℕ) (r : PslAnswer) : Type 0 where
   pub is : r ≡ answer
   pub held : (b : Psl) → r ≡ Accepted b → Listed s b lists′
+
+-- counts that columns hold are coordinates
+pub record CountsRange (c : Counts) : Type 0 where
+  pub matches : c .matches ≤ largestPosition
+  pub misMatches : c .misMatches ≤ largestPosition
+  pub repMatches : c .repMatches ≤ largestPosition
+  pub nCount : c .nCount ≤ largestPosition
+  pub qBaseInsert : c .qBaseInsert ≤ largestPosition
+  pub tBaseInsert : c .tBaseInsert ≤ largestPosition
+
+-- a record and its blocks, before its rules are tested
+pub record Ready (s : List ℕ) (r : Psl) (lists : List ℕ) : Type 0 where
+  pub held : Listed s r lists
+  pub range : CountsRange (r .counts)
+
+-- what storing the rows of an accepted line promises
+pub record RowsStored (s : List ℕ) (r : Psl) (ts ts′ qs qs′ zs zs′ : List ℕ) (x : PslAnswer) : Type 0 where
+  pub is : x ≡ thenCheck (roomCheck s r (rowsOf ts qs zs)) (Accepted r)
+  pub targets : ts′ ≡ rowsAfter x (pslTargets s) ts
+  pub queries : qs′ ≡ rowsAfter x (pslQueries s) qs
+  pub sizes : zs′ ≡ rowsAfter x (pslSizes s) zs

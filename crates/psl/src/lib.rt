@@ -5,7 +5,7 @@ ghost use lib.ListN.{length, getD, take, drop};
 ghost use Rattle.ledger.specs.Limits.{blockLimit};
 ghost use Rattle.psl.specs.Records.{countsOf, sideOf, pslRecord};
 ghost use Rattle.psl.specs.Rows.{spanFits, firstOn, lastOn, rowsFit, countsFit};
-ghost use Rattle.psl.specs.Read.{spanCheck};
+ghost use Rattle.psl.specs.Read.{spanCheck, rowCheck, afterSpans, afterLine, pslCheck, CountsRange, Listed, Ready, Staged, RowsStored, PslRead};
 use columns::Columns;
 use ledger::Part;
 use ledger::Reason;
@@ -197,4 +197,139 @@ fn rows_fit(r: Psl, targets: &[u64], queries: &[u64], sizes: &[u64], count: usiz
             first_on(strand, query),
             last_on(strand, query),
         )
+}
+
+// The house counts of the used rows.
+fn counts_fit(c: Counts, targets: &[u64], queries: &[u64], sizes: &[u64], count: usize) -> bool
+    requires { ⌜ CountsRange c ⌝ }
+    ensures { λ x. ⌜ x ≡ countsFit c (take count (now (targets .entry))) (take count (now (queries .entry)))
+        (take count (now (sizes .entry))) ⌝ }
+{
+    let bases = c.matches + c.misMatches + c.repMatches + c.nCount;
+    (blocks::sum_of(sizes, count) == bases)
+        & ((blocks::gap_count(queries, sizes, count) == c.qNumInsert)
+            & ((blocks::gap_bases(queries, sizes, count) == c.qBaseInsert)
+                & ((blocks::gap_count(targets, sizes, count) == c.tNumInsert)
+                    & (blocks::gap_bases(targets, sizes, count) == c.tBaseInsert))))
+}
+
+// The blocks (9), then the counts (10), in the working room.
+fn check_rows(text: &[u8], r: Psl, lists: &[u64]) -> Check
+    requires { ⌜ Ready (now text) r (now lists) ⌝ }
+    ensures { λ x. ⌜ x ≡ rowCheck (now (text .entry)) r ⌝ }
+{
+    let b = ledger::BLOCK_LIMIT as usize;
+    let d = 2 * b;
+    let count = r.blockCount as usize;
+    let counts = r.counts;
+    if !rows_fit(r, &lists[d..], &lists[b..], lists, count) {
+        return Check::Refused(Refusal {
+            reason: Reason::BlockRules,
+            place: text.len(),
+        });
+    }
+    if !counts_fit(counts, &lists[d..], &lists[b..], lists, count) {
+        return Check::Refused(Refusal {
+            reason: Reason::CountsDisagree,
+            place: text.len(),
+        });
+    }
+    Check::Holds
+}
+
+// The blocks and the counts, and the answer.
+fn after_spans(text: &[u8], r: Psl, lists: &[u64]) -> PslAnswer
+    requires { ⌜ Ready (now text) r (now lists) ⌝ }
+    ensures { λ x. ⌜ x ≡ afterSpans (now (text .entry)) r ⌝ }
+{
+    match check_rows(text, r, lists) {
+        Check::Refused(x) => PslAnswer::Refused(x),
+        Check::Holds => PslAnswer::Accepted(r),
+    }
+}
+
+// The spans, and on.
+fn after_line(text: &[u8], values: &[u64], lists: &[u64]) -> PslAnswer
+    requires { ⌜ Ready (now text) (pslRecord (now values)) (now lists) ⌝ }
+    ensures { λ x. ⌜ x ≡ afterLine (now (text .entry)) (now (values .entry)) ⌝ }
+{
+    let r = record_of(values);
+    match check_spans(r, values) {
+        Check::Refused(x) => PslAnswer::Refused(x),
+        Check::Holds => after_spans(text, r, lists),
+    }
+}
+
+// All checks of a text, the blocks of an accepted line in the working room.
+fn stage(text: &[u8], lists: &mut [u64]) -> PslAnswer
+    requires { ⌜ length (now lists) ≡ 3 * blockLimit ⌝ }
+    ensures { λ x. ⌜ Staged (now (text .entry)) (pslCheck (now (text .entry))) (now (lists .exit)) x ⌝ }
+{
+    let table = PSL;
+    let mut values = [0u64; 42];
+    match columns::read_line(text, &table, &mut values, lists) {
+        Columns::Refused(x) => PslAnswer::Refused(x),
+        Columns::Next(_) => after_line(text, &values, lists),
+    }
+}
+
+// Working room for the sizes and the starts of a record's blocks.
+fn working_room() -> [u64; 1536]
+    ensures { λ r. ⌜ length r ≡ 3 * blockLimit ⌝ }
+{
+    [0; 1536]
+}
+
+// THE TEXT CHECKER: what the reader answers, given room.
+pub fn check_psl_text(text: &[u8]) -> PslAnswer
+    ensures { λ r. ⌜ r ≡ pslCheck (now (text .entry)) ⌝ }
+{
+    let mut lists = working_room();
+    stage(text, &mut lists)
+}
+
+// The room (11), then the rows into the lent slices.
+fn store_rows(
+    text: &[u8],
+    r: Psl,
+    lists: &[u64],
+    targets: &mut [u64],
+    queries: &mut [u64],
+    sizes: &mut [u64],
+) -> PslAnswer
+    requires { ⌜ Listed (now text) r (now lists) ⌝ }
+    ensures { λ x. ⌜ RowsStored (now (text .entry)) r (now (targets .entry)) (now (targets .exit)) (now (queries .entry))
+        (now (queries .exit)) (now (sizes .entry)) (now (sizes .exit)) x ⌝ }
+{
+    let room = blocks::rows_of(targets, queries, sizes);
+    let count = r.blockCount as usize;
+    if room < count {
+        return PslAnswer::Refused(Refusal {
+            reason: Reason::NoRoom,
+            place: text.len(),
+        });
+    }
+    let b = ledger::BLOCK_LIMIT as usize;
+    let d = 2 * b;
+    blocks::copy_numbers(&lists[d..], count, targets);
+    blocks::copy_numbers(&lists[b..], count, queries);
+    blocks::copy_numbers(lists, count, sizes);
+    PslAnswer::Accepted(r)
+}
+
+// THE READER: one PSL line, its blocks to the front of three lent slices. A refusal leaves them as they were, and rows past the blocks stay.
+pub fn read_psl(
+    text: &[u8],
+    targets: &mut [u64],
+    queries: &mut [u64],
+    sizes: &mut [u64],
+) -> PslAnswer
+    ensures { λ x. ⌜ PslRead (now (text .entry)) (now (targets .entry)) (now (targets .exit)) (now (queries .entry))
+        (now (queries .exit)) (now (sizes .entry)) (now (sizes .exit)) x ⌝ }
+{
+    let mut lists = working_room();
+    match stage(text, &mut lists) {
+        PslAnswer::Refused(x) => PslAnswer::Refused(x),
+        PslAnswer::Accepted(r) => store_rows(text, r, &lists, targets, queries, sizes),
+    }
 }

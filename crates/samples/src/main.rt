@@ -1,7 +1,11 @@
 // The samples program: one case a line on standard input, one answer a line on standard output. A case is its letter, a space and an
-// escaped payload; empty lines and lines that begin with `#` have no answer. Every answer comes from the libraries.
+// escaped payload (of case `W`, words of which some are escaped); empty lines and lines that begin with `#` have no answer. Every answer
+// comes from the libraries.
+mod bed_cases;
+mod escape;
+
 ghost use mathlib.Core.Path.{_≡_};
-ghost use Prim.Native.Nat.{_≤_, min, max};
+ghost use Prim.Native.Nat.{min};
 ghost use lib.ListN.{length};
 use columns::Columns;
 use ledger::Position;
@@ -61,101 +65,16 @@ fn list_table() -> [u64; 1536]
     [0; 1536]
 }
 
-// What the front of an escaped text stands for: a byte, and how many bytes spell it.
-struct Unescaped {
-    byte: u8,
-    width: usize,
+// Room for the input, the output or a payload.
+fn page() -> [u8; 131072]
+    ensures { λ r. ⌜ 131072 ≡ length r ⌝ }
+{
+    [0; 131072]
 }
 
 // The byte at a place, or 0 past the end.
 fn byte_at(s: &[u8], i: usize) -> u8 {
     if i < s.len() { s[i] } else { 0 }
-}
-
-// A lowercase hexadecimal digit, else 16.
-fn hex_digit(b: u8) -> u8
-    ensures { λ r. ⌜ r ≤ 16 ⌝ }
-{
-    match b {
-        b'0'..=b'9' => b - b'0',
-        b'a'..=b'f' => b - b'a' + 10,
-        _ => 16,
-    }
-}
-
-// The byte that a letter after a backslash stands for, else 0.
-fn short_escape(b: u8) -> u8 {
-    match b {
-        b'n' => b'\n',
-        b't' => b'\t',
-        b's' => b' ',
-        b'\\' => b'\\',
-        _ => 0,
-    }
-}
-
-// A text that begins with a backslash and `x`.
-fn coded(s: &[u8]) -> Unescaped
-    ensures { λ r. ⌜ (1 ≤ r .width) × (r .width ≤ max 1 (length (now (s .entry)))) ⌝ }
-{
-    let plain = Unescaped {
-        byte: b'\\',
-        width: 1,
-    };
-    let high = hex_digit(byte_at(s, 2));
-    let low = hex_digit(byte_at(s, 3));
-    if s.len() < 4 {
-        return plain;
-    }
-    if 15 < high {
-        return plain;
-    }
-    if 15 < low {
-        return plain;
-    }
-    Unescaped {
-        byte: high * 16 + low,
-        width: 4,
-    }
-}
-
-// The front of an escaped text. A backslash that begins no escape stands for itself.
-fn front_of(s: &[u8]) -> Unescaped
-    ensures { λ r. ⌜ (1 ≤ r .width) × (r .width ≤ max 1 (length (now (s .entry)))) ⌝ }
-{
-    let first = byte_at(s, 0);
-    let plain = Unescaped {
-        byte: first,
-        width: 1,
-    };
-    if first != b'\\' {
-        return plain;
-    }
-    if s.len() < 2 {
-        return plain;
-    }
-    if s[1] == b'x' {
-        return coded(s);
-    }
-    let byte = short_escape(s[1]);
-    if byte == 0 {
-        return plain;
-    }
-    Unescaped { byte, width: 2 }
-}
-
-// Stores what an escaped text stands for at the front of a buffer, as far as it reaches: the number of bytes there.
-fn unescape(s: &[u8], buf: &mut [u8]) -> usize
-    ensures { λ r. ⌜ r ≤ length (now (buf .exit)) ⌝ }
-{
-    let mut n = 0;
-    let mut i = 0;
-    while i < s.len() {
-        let u = front_of(&s[i..]);
-        n = writing::put_byte(buf, n, u.byte);
-        i += u.width;
-    }
-    least(n, buf.len())
 }
 
 // A label and a number.
@@ -362,16 +281,16 @@ fn digits_case(word: &[u8], out: &mut [u8], at: usize) -> usize {
     }
 }
 
-// One byte of a line, a tab by its escape.
+// One byte of a text, a tab or a line feed by its escape.
 fn put_shown(out: &mut [u8], at: usize, b: u8) -> usize {
-    if b == b'\t' {
-        writing::put_bytes(out, at, b"\\t")
-    } else {
-        writing::put_byte(out, at, b)
+    match b {
+        b'\t' => writing::put_bytes(out, at, b"\\t"),
+        b'\n' => writing::put_bytes(out, at, b"\\n"),
+        _ => writing::put_byte(out, at, b),
     }
 }
 
-// A line's bytes, its tabs by their escape.
+// A text's bytes, tabs and line feeds by their escapes.
 fn put_line(out: &mut [u8], at: usize, line: &[u8]) -> usize {
     let mut p = at;
     let mut i = 0;
@@ -428,6 +347,8 @@ fn answer(letter: u8, payload: &[u8], out: &mut [u8], at: usize) -> usize {
         b'B' => columns_case(payload, &BED, b'\t', out, at),
         b'P' => columns_case(payload, &PSL, b'\t', out, at),
         b'C' => columns_case(payload, &CHAIN, b' ', out, at),
+        b'D' => bed_cases::line_case(payload, out, at),
+        b'E' => bed_cases::narrow_case(payload, out, at),
         _ => word_case(letter, payload, out, at),
     }
 }
@@ -440,7 +361,10 @@ fn answer_escaped(
     out: &mut [u8],
     at: usize,
 ) -> usize {
-    let n = unescape(escaped, space);
+    if letter == b'W' {
+        return bed_cases::record_case(escaped, out, at);
+    }
+    let n = escape::unescape(escaped, space);
     answer(letter, &space[0..n], out, at)
 }
 
@@ -452,7 +376,7 @@ fn answer_case(line: &[u8], out: &mut [u8], at: usize) -> usize {
         }
     }
     let start = least(2, line.len());
-    let mut space = io::large_buffer();
+    let mut space = page();
     answer_escaped(byte_at(line, 0), &line[start..], &mut space, out, at)
 }
 
@@ -486,9 +410,9 @@ fn print(buf: &[u8], n: usize) {
 }
 
 fn main() {
-    let mut input = io::large_buffer();
+    let mut input = page();
     let n = io::read_full(0, &mut input);
-    let mut out = io::large_buffer();
+    let mut out = page();
     let m = answer_lines(&input[..n], &mut out);
     print(&out, m);
 }

@@ -3,8 +3,8 @@ use borrow.Author.Needs.{needs}
 use Prim.Native.Nat.{_-_, _≤_}
 use mathlib.Core.Path.{_≡_}
 use lib.ListN.{length}
-use Rattle.samples.proofs.unescape.Statement.{statement}
-use Rattle.samples.proofs.unescape.Tie as tie
+use Rattle.samples.proofs.escape.unescape.Statement.{statement}
+use Rattle.samples.proofs.escape.unescape.Tie as tie
 
 abbrev Inv-loop : tie.InvT-loop
 Inv-loop s buf₀ n₀ i₀ buf n i = (i ≤ length s) × (length buf ≡ length buf₀)
@@ -27,8 +27,8 @@ part-front-of-end c = search needs
 front-of-requires : tie.Need-front-of-requires Inv-loop μ-loop
 front-of-requires c κs = search needs
 
-put-byte-requires : tie.Need-put-byte-requires Inv-loop μ-loop
-put-byte-requires c κs = search needs
+put-times-requires : tie.Need-put-times-requires Inv-loop μ-loop
+put-times-requires c κs = search needs
 
 add-i : tie.Need-add-i Inv-loop μ-loop
 add-i c = search needs
@@ -59,7 +59,7 @@ unescape-spec =
     part-front-of-start
     part-front-of-end
     front-of-requires
-    put-byte-requires
+    put-times-requires
     add-i
     loop-less
     loop-again
