@@ -266,10 +266,12 @@ fn stage(text: &[u8], lists: &mut [u64]) -> BedAnswer
 }
 
 // Working room for the sizes and the starts of a record's blocks.
-fn working_room() -> [u64; 1024]
+const ROOM: usize = 2 * ledger::BLOCK_LIMIT as usize;
+
+fn working_room() -> [u64; ROOM]
     ensures { λ r. ⌜ length r ≡ 2 * blockLimit ⌝ }
 {
-    [0; 1024]
+    [0; ROOM]
 }
 
 // THE TEXT CHECKER: what the reader answers, given room.
@@ -551,10 +553,12 @@ fn put_lists(r: Bed, targets: &[u64], sizes: &[u64], lists: &mut [u64])
 }
 
 // Room for two names.
-fn name_room() -> [u8; 128]
+const NAMES: usize = 2 * ledger::NAME_LIMIT;
+
+fn name_room() -> [u8; NAMES]
     ensures { λ r. ⌜ length r ≡ 2 * nameLimit ⌝ }
 {
-    [0; 128]
+    [0; NAMES]
 }
 
 // Writes the standard text of a record that passed the checks.

@@ -131,16 +131,16 @@ module _ (w : List ℕ) (t : Bool) (et : t ≡ sameBytes w (48 ∷ [])) where
     unfolding colourOf
     colour-bad why at q = record { is = rw (← et, no, ← (ex .is), q); near = rw q at (ex .near) }
 
-    pub colour-good : (m : ℕ) → x ≡ Means m → (c : ℕ) → c ≡ packed (getD v 0 0 % 256) (getD v 1 0 % 256) (getD v 2 0 % 256) → WordRead (colourOf w) w (Means c)
+    pub colour-good : (m : ℕ) → x ≡ Means m → (c : ℕ) → c ≡ packed (getD v 0 0 % suc colourLimit) (getD v 1 0 % suc colourLimit) (getD v 2 0 % suc colourLimit) → WordRead (colourOf w) w (Means c)
     unfolding colourOf
     colour-good m q c e =
         let r = list-range 0 colourLimit false 3 w m (sym (ex .is) ∙ q) in
         let s = three-small (valuesOf w) (r .0) (r .1) in
         let z : v ≡ sets (0 ∷ 0 ∷ 0 ∷ []) 0 (valuesOf w) = rw q at (ex .stored) in
         let y : v ≡ valuesOf w = z ∙ three-stored (valuesOf w) (r .1) in
-        let a : getD v 0 0 % 256 ≡ getD (valuesOf w) 0 0 = rw y (omega (arith, s .0)) in
-        let b : getD v 1 0 % 256 ≡ getD (valuesOf w) 1 0 = rw y (omega (arith, s .1)) in
-        let d : getD v 2 0 % 256 ≡ getD (valuesOf w) 2 0 = rw y (omega (arith, s .2)) in
+        let a : getD v 0 0 % suc colourLimit ≡ getD (valuesOf w) 0 0 = rw y (omega (arith, s .0)) in
+        let b : getD v 1 0 % suc colourLimit ≡ getD (valuesOf w) 1 0 = rw y (omega (arith, s .1)) in
+        let d : getD v 2 0 % suc colourLimit ≡ getD (valuesOf w) 2 0 = rw y (omega (arith, s .2)) in
         record { is = rw (← et, no, ← (ex .is), q, e, a, b, d); near = zero-le }
 
 pub ruleset colours = (colour-short, colour-bad, colour-good)

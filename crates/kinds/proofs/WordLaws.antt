@@ -18,7 +18,7 @@ use Rattle.kinds.specs.declared.Fixed.the-variants as fixed
 use Rattle.kinds.specs.declared.Kind.{Kind}
 use Rattle.kinds.specs.declared.Kind.the-variants.{Name, Number, Count, Items, Stranded, Word, Colour}
 use Rattle.kinds.specs.Kinds.{fixedText}
-use Rattle.kinds.specs.Words.{colourText, wordOf}
+use Rattle.kinds.specs.Words.{redOf, greenOf, blueOf, colourText, wordOf}
 
 -- a part by its start and length, cut off where its text ends, holds the same
 part-in : (t : List ℕ) (p n a m : ℕ) → a ≡ min p (length t) → m ≡ min n (length t - a) → take (a + m - a) (drop a t) ≡ take n (drop p t)
@@ -52,8 +52,8 @@ pub colour-zero : (v at r : ℕ) (b b₁ : List ℕ) → v ≡ 0 → Put (48 ∷
 unfolding colourText
 colour-zero v at r b b₁ q e = rw q e
 
-pub colour-three : (v at : ℕ) (b b₁ b₂ b₃ b₄ b₅ : List ℕ) (p q s u r : ℕ) → (v ≡ 0 → ⊥) → Put (digits (v / 256 / 256)) at b b₁ p → Put (44 ∷ []) p b₁ b₂ q → Put (digits (v / 256 % 256)) q b₂ b₃ s
-    → Put (44 ∷ []) s b₃ b₄ u → Put (digits (v % 256)) u b₄ b₅ r → Put (colourText v) at b b₅ r
+pub colour-three : (v at : ℕ) (b b₁ b₂ b₃ b₄ b₅ : List ℕ) (p q s u r : ℕ) → (v ≡ 0 → ⊥) → Put (digits (redOf v)) at b b₁ p → Put (44 ∷ []) p b₁ b₂ q → Put (digits (greenOf v)) q b₂ b₃ s
+    → Put (44 ∷ []) s b₃ b₄ u → Put (digits (blueOf v)) u b₄ b₅ r → Put (colourText v) at b b₅ r
 unfolding colourText
 colour-three v at b b₁ b₂ b₃ b₄ b₅ p q s u r h f e g e′ k = rw (ne-eqb v 0 h) (put-then f (put-then e (put-then g (put-then e′ k))))
 

@@ -1,7 +1,8 @@
 // The kinds of column: what a word of a kind spells, and how it is written.
 ghost use mathlib.Core.Path.{_≡_};
 ghost use mathlib.Core.Bool.{true};
-ghost use Prim.Native.Nat.{_+_, _*_, _%_, _≤_, min};
+ghost use Prim.Native.Nat.{suc, _+_, _*_, _%_, _≤_, min};
+ghost use Rattle.ledger.specs.Limits.{colourLimit};
 ghost use mathlib.Core.List.{[], _∷_, map};
 ghost use lib.ListN.{length, set, getD, take, drop};
 ghost use Rattle.numbers.specs.Lists.{itemsOf, goodValues, listOf};
@@ -172,11 +173,14 @@ pub fn read_ranged(r: Range, word: &[u8]) -> Spelt
     numbers::read_number(word, least_of(r), most_of(r))
 }
 
+// The number of values that each number of a colour has.
+const SHADES: u64 = ledger::COLOUR_LIMIT + 1;
+
 // Three numbers of a colour as one; each is taken as a byte.
 fn pack(r: u64, g: u64, b: u64) -> u64
-    ensures { λ x. ⌜ x ≡ packed (r % 256) (g % 256) (b % 256) ⌝ }
+    ensures { λ x. ⌜ x ≡ packed (r % suc colourLimit) (g % suc colourLimit) (b % suc colourLimit) ⌝ }
 {
-    (r % 256 * 256 + g % 256) * 256 + b % 256
+    (r % SHADES * SHADES + g % SHADES) * SHADES + b % SHADES
 }
 
 // A colour: `0`, or three numbers with no comma at the end.
@@ -289,11 +293,11 @@ fn put_colour(buf: &mut [u8], at: usize, v: u64) -> usize
     if v == 0 {
         return writing::put_byte(buf, at, b'0');
     }
-    let a = writing::put_number(buf, at, v / 256 / 256);
+    let a = writing::put_number(buf, at, v / SHADES / SHADES);
     let b = writing::put_byte(buf, a, b',');
-    let c = writing::put_number(buf, b, v / 256 % 256);
+    let c = writing::put_number(buf, b, v / SHADES % SHADES);
     let d = writing::put_byte(buf, c, b',');
-    writing::put_number(buf, d, v % 256)
+    writing::put_number(buf, d, v % SHADES)
 }
 
 // The word of a column: its value, a name by its start in a text, a list by its base in a table.

@@ -274,10 +274,12 @@ fn stage(text: &[u8], lists: &mut [u64]) -> PslAnswer
 }
 
 // Working room for the sizes and the starts of a record's blocks.
-fn working_room() -> [u64; 1536]
+const ROOM: usize = 3 * ledger::BLOCK_LIMIT as usize;
+
+fn working_room() -> [u64; ROOM]
     ensures { λ r. ⌜ length r ≡ 3 * blockLimit ⌝ }
 {
-    [0; 1536]
+    [0; ROOM]
 }
 
 // THE TEXT CHECKER: what the reader answers, given room.
