@@ -5,6 +5,8 @@ ghost use lib.ListN.{length, getD, take, drop};
 ghost use Rattle.ledger.specs.Limits.{blockLimit};
 ghost use Rattle.psl.specs.Records.{countsOf, sideOf, pslRecord};
 ghost use Rattle.psl.specs.Rows.{spanFits, firstOn, lastOn, rowsFit, countsFit};
+ghost use Rattle.psl.specs.Tests.{lengthFits, isTold, sideFits, countNumbersFit, fieldsFit, rowNumbersFit, spansFit, headFits, pslValid};
+ghost use Rattle.psl.specs.Write.{recordCheck};
 ghost use Rattle.psl.specs.Read.{spanCheck, rowCheck, afterSpans, afterLine, pslCheck, CountsRange, Listed, Ready, Staged, RowsStored, PslRead};
 use columns::Columns;
 use ledger::Part;
@@ -334,4 +336,113 @@ pub fn read_psl(
         PslAnswer::Refused(x) => PslAnswer::Refused(x),
         PslAnswer::Accepted(r) => store_rows(text, r, &lists, targets, queries, sizes),
     }
+}
+
+fn length_fits(n: usize) -> bool
+    ensures { λ r. ⌜ r ≡ lengthFits n ⌝ }
+{
+    (1 <= n) & (n <= ledger::NAME_LIMIT)
+}
+
+fn is_told(s: Strand) -> bool
+    ensures { λ r. ⌜ r ≡ isTold s ⌝ }
+{
+    match s {
+        Strand::Plus => true,
+        Strand::Minus => true,
+        Strand::Dot => false,
+    }
+}
+
+// The numbers of a side.
+fn side_fits(x: Side) -> bool
+    ensures { λ r. ⌜ r ≡ sideFits x ⌝ }
+{
+    let most = ledger::Position::LARGEST;
+    ((1 <= x.size) & (x.size <= most)) & ((x.start <= most) & (x.end <= most))
+}
+
+// The counts as numbers.
+fn count_numbers_fit(c: Counts) -> bool
+    ensures { λ r. ⌜ r ≡ countNumbersFit c ⌝ }
+{
+    let most = ledger::Position::LARGEST;
+    (c.matches <= most)
+        & ((c.misMatches <= most)
+            & ((c.repMatches <= most)
+                & ((c.nCount <= most)
+                    & ((c.qNumInsert <= most)
+                        & ((c.qBaseInsert <= most)
+                            & ((c.tNumInsert <= most) & (c.tBaseInsert <= most)))))))
+}
+
+// The numbers of the record.
+fn fields_fit(r: Psl) -> bool
+    ensures { λ x. ⌜ x ≡ fieldsFit r ⌝ }
+{
+    let counts = r.counts;
+    let query = r.query;
+    let target = r.target;
+    count_numbers_fit(counts) & (side_fits(query) & side_fits(target))
+}
+
+// The numbers of the used rows.
+fn row_numbers_fit(targets: &[u64], queries: &[u64], sizes: &[u64], count: usize) -> bool
+    ensures { λ x. ⌜ x ≡ rowNumbersFit (take count (now (targets .entry))) (take count (now (queries .entry)))
+        (take count (now (sizes .entry))) ⌝ }
+{
+    let most = ledger::Position::LARGEST;
+    blocks::all_between(targets, count, 0, most)
+        & (blocks::all_between(queries, count, 0, most)
+            & blocks::all_between(sizes, count, 1, most))
+}
+
+fn spans_fit(r: Psl) -> bool
+    ensures { λ x. ⌜ x ≡ spansFit r ⌝ }
+{
+    let query = r.query;
+    let target = r.target;
+    span_fits(query) & span_fits(target)
+}
+
+// The count of blocks, the names by length, the strand, and the numbers of the record.
+fn head_fits(r: Psl, rows: usize) -> bool
+    ensures { λ x. ⌜ x ≡ headFits r rows ⌝ }
+{
+    let query = r.query;
+    let target = r.target;
+    let strand = r.strand;
+    let q = query.name;
+    let t = target.name;
+    blocks::count_fits(r.blockCount, rows)
+        & ((length_fits(q.length) & (length_fits(t.length) & is_told(strand))) & fields_fit(r))
+}
+
+// All rules of a record with its rows.
+fn record_fits(r: Psl, targets: &[u64], queries: &[u64], sizes: &[u64]) -> bool
+    ensures { λ x. ⌜ x ≡ pslValid r (now (targets .entry)) (now (queries .entry)) (now (sizes .entry)) ⌝ }
+{
+    let rows = blocks::rows_of(targets, queries, sizes);
+    if !head_fits(r, rows) {
+        return false;
+    }
+    let count = r.blockCount as usize;
+    let counts = r.counts;
+    row_numbers_fit(targets, queries, sizes, count)
+        & (spans_fit(r)
+            & (rows_fit(r, targets, queries, sizes, count)
+                & counts_fit(counts, targets, queries, sizes, count)))
+}
+
+// THE RECORD CHECKER: a record with the first blockCount rows of three slices; any breach is 9.
+pub fn check_psl(r: Psl, targets: &[u64], queries: &[u64], sizes: &[u64]) -> Check
+    ensures { λ x. ⌜ x ≡ recordCheck r (now (targets .entry)) (now (queries .entry)) (now (sizes .entry)) ⌝ }
+{
+    if record_fits(r, targets, queries, sizes) {
+        return Check::Holds;
+    }
+    Check::Refused(Refusal {
+        reason: Reason::BlockRules,
+        place: 0,
+    })
 }

@@ -1,0 +1,109 @@
+-- What a PSL line and a PSL record are: the rules of the UCSC page and of 01, one field for each, with no order of checks in them.
+use Prim.Native.Nat.{ℕ, _+_, _-_, _≤_, _<_}
+use mathlib.Core.Path.{_≡_}
+use mathlib.Core.List.{List}
+use lib.ListN.{length, take, getD}
+use Rattle.ledger.specs.declared.Part.{Part}
+use Rattle.ledger.specs.declared.Strand.the-variants.{Dot}
+use Rattle.ledger.specs.Limits.{nameLimit, blockLimit, largestPosition}
+use Rattle.ledger.specs.Strands.{strandLetter}
+use Rattle.text.specs.declared.Extent.{Extent}
+use Rattle.text.specs.Words.{wordAt}
+use Rattle.columns.specs.OneLine.{OneLine}
+use Rattle.blocks.specs.Blocks.{sumOf, gapCount, gapBases}
+use Rattle.blocks.specs.Rules.{Fills, Ranged}
+use Rattle.psl.specs.declared.Counts.{Counts}
+use Rattle.psl.specs.declared.Side.{Side}
+use Rattle.psl.specs.declared.Psl.{Psl}
+use Rattle.psl.specs.Table.{pslColumns}
+use Rattle.psl.specs.Records.{pslSizes, pslQueries, pslTargets}
+use Rattle.psl.specs.Rows.{firstOn, lastOn}
+
+-- the part of a text that a word stands in
+abbrev pub partOf : Extent → Part
+partOf w = record { start = w .start; length = w .end - w .start }
+
+-- a side of a record is what its columns, from number k on, spell: name, size, start, end
+pub record SideSays (s vs : List ℕ) (k : ℕ) (x : Side) : Type 0 where
+  pub name : x .name ≡ partOf (wordAt s 0 k)
+  pub size : x .size ≡ getD vs (k + 1) 0
+  pub start : x .start ≡ getD vs (k + 2) 0
+  pub end : x .end ≡ getD vs (k + 3) 0
+
+-- a span: not empty, and within its sequence
+pub record SpanIn (x : Side) : Type 0 where
+  pub some : x .start < x .end
+  pub within : x .end ≤ x .size
+
+-- the house rules of the counts over n rows
+pub record CountRules (c : Counts) (ts qs zs : List ℕ) : Type 0 where
+  pub bases : sumOf zs ≡ c .matches + c .misMatches + c .repMatches + c .nCount
+  pub queryGaps : gapCount qs zs ≡ c .qNumInsert
+  pub queryBases : gapBases qs zs ≡ c .qBaseInsert
+  pub targetGaps : gapCount ts zs ≡ c .tNumInsert
+  pub targetBases : gapBases ts zs ≡ c .tBaseInsert
+
+-- the text s is a PSL line whose words spell the values vs, one a column, and the record r is what it says
+pub record PslLine (s vs : List ℕ) (r : Psl) : Type 0 where
+  pub line : OneLine pslColumns s vs
+  -- the record is what the words spell
+  pub matches : r .counts .matches ≡ getD vs 0 0
+  pub misMatches : r .counts .misMatches ≡ getD vs 1 0
+  pub repMatches : r .counts .repMatches ≡ getD vs 2 0
+  pub nCount : r .counts .nCount ≡ getD vs 3 0
+  pub qNumInsert : r .counts .qNumInsert ≡ getD vs 4 0
+  pub qBaseInsert : r .counts .qBaseInsert ≡ getD vs 5 0
+  pub tNumInsert : r .counts .tNumInsert ≡ getD vs 6 0
+  pub tBaseInsert : r .counts .tBaseInsert ≡ getD vs 7 0
+  pub strand : strandLetter (r .strand) ≡ getD vs 8 0
+  pub query : SideSays s vs 9 (r .query)
+  pub target : SideSays s vs 13 (r .target)
+  pub blockCount : r .blockCount ≡ getD vs 17 0
+  -- the spans
+  pub querySpan : SpanIn (r .query)
+  pub targetSpan : SpanIn (r .target)
+  -- the blocks, on each side in order from first start to last end; with `-` the query's count on the reversed query
+  pub targetBlocks : Fills (r .target .start) (r .target .end) (r .blockCount) (pslTargets s) (pslSizes s)
+  pub queryBlocks : Fills (firstOn (r .strand) (r .query)) (lastOn (r .strand) (r .query)) (r .blockCount) (pslQueries s) (pslSizes s)
+  -- the house counts
+  pub counts : CountRules (r .counts) (pslTargets s) (pslQueries s) (pslSizes s)
+
+-- the numbers of a side in their ranges, and its name's length
+pub record SideRange (x : Side) : Type 0 where
+  pub nameSome : 1 ≤ x .name .length
+  pub nameShort : x .name .length ≤ nameLimit
+  pub sizeSome : 1 ≤ x .size
+  pub sizeRange : x .size ≤ largestPosition
+  pub startRange : x .start ≤ largestPosition
+  pub endRange : x .end ≤ largestPosition
+
+-- the record r with the first blockCount rows of ts, qs, zs is a PSL record
+pub record PslRules (r : Psl) (ts qs zs : List ℕ) : Type 0 where
+  pub someBlock : 1 ≤ r .blockCount
+  pub fewBlocks : r .blockCount ≤ blockLimit
+  pub targetRows : r .blockCount ≤ length ts
+  pub queryRows : r .blockCount ≤ length qs
+  pub sizeRows : r .blockCount ≤ length zs
+  pub strand : r .strand ≡ Dot → ⊥
+  -- ranges
+  pub queryRange : SideRange (r .query)
+  pub targetRange : SideRange (r .target)
+  pub matchesRange : r .counts .matches ≤ largestPosition
+  pub misMatchesRange : r .counts .misMatches ≤ largestPosition
+  pub repMatchesRange : r .counts .repMatches ≤ largestPosition
+  pub nCountRange : r .counts .nCount ≤ largestPosition
+  pub qNumInsertRange : r .counts .qNumInsert ≤ largestPosition
+  pub qBaseInsertRange : r .counts .qBaseInsert ≤ largestPosition
+  pub tNumInsertRange : r .counts .tNumInsert ≤ largestPosition
+  pub tBaseInsertRange : r .counts .tBaseInsert ≤ largestPosition
+  pub targetsRange : Ranged 0 largestPosition (r .blockCount) ts
+  pub queriesRange : Ranged 0 largestPosition (r .blockCount) qs
+  pub sizesRange : Ranged 1 largestPosition (r .blockCount) zs
+  -- the spans
+  pub querySpan : SpanIn (r .query)
+  pub targetSpan : SpanIn (r .target)
+  -- the blocks
+  pub targetBlocks : Fills (r .target .start) (r .target .end) (r .blockCount) ts zs
+  pub queryBlocks : Fills (firstOn (r .strand) (r .query)) (lastOn (r .strand) (r .query)) (r .blockCount) qs zs
+  -- the house counts
+  pub counts : CountRules (r .counts) (take (r .blockCount) ts) (take (r .blockCount) qs) (take (r .blockCount) zs)
