@@ -1,0 +1,242 @@
+-- From the table of a block line's columns to its numbers. Assumes nothing.
+use mathlib.Core.Path.{_≡_, refl, sym, ap, _∙_}
+use mathlib.Core.Bool.{Bool, true, false, _||_}
+use mathlib.Core.List.{List, [], _∷_, _++_, map}
+use Prim.Native.Nat.{ℕ, zero, suc, _+_, _-_, _*_, _≤_, _<_}
+use native.Mathlib.Omega.{arith}
+use lib.ListN.{length, replicate, getD, take, drop, length-take, List·getD-append, List·getD-eq-default}
+use lib.Seq.{sets, sets-eq, take-all, getD-append-add, getD-drop}
+use lib.Dec.{leb, eqb}
+use borrow.Author.Tests.{eqb-true}
+use Rattle.ledger.specs.Limits.{largestPosition}
+use Rattle.ledger.specs.declared.Refusal.{Refusal}
+use Rattle.text.specs.declared.Check.{Check}
+use Rattle.text.specs.declared.Check.the-variants.{Holds}
+use Rattle.text.specs.declared.Check.the-variants as check
+use Rattle.text.specs.Checks.{pickCheck}
+use Rattle.text.specs.Pieces.{wordsOf, lineOf}
+use Rattle.text.specs.Words.{wordCount}
+use Rattle.text.proofs.Laws.{either}
+use Rattle.kinds.specs.declared.Kind.{Kind}
+use Rattle.kinds.specs.declared.Range.the-variants.{Coordinate, Size}
+use Rattle.kinds.specs.Kinds.{kindOf}
+use Rattle.kinds.proofs.RangeLaws.{number-spelt}
+use Rattle.columns.specs.declared.Columns.{Columns}
+use Rattle.columns.specs.declared.Columns.the-variants.{Next}
+use Rattle.columns.specs.declared.Columns.the-variants as columns
+use Rattle.columns.specs.Columns.{columnLimit, tableOf, columnsFrom, valuesFrom, ColumnsRead}
+use Rattle.columns.specs.Spells.{Spells, firsts}
+use Rattle.columns.proofs.SpellsLaws.{columns-spell}
+use Rattle.columns.proofs.PlaceLaws.{spelt-at, value-first, values-length}
+use Rattle.chain.specs.declared.Block.{Block}
+use Rattle.chain.specs.declared.Block.the-variants.{Last, Gap}
+use Rattle.chain.specs.declared.Block.the-variants as block
+use Rattle.chain.specs.Table.{blockColumns}
+use Rattle.chain.specs.Records.{lineValues, sizeAt, targetGap, queryGap}
+use Rattle.chain.specs.Read.{isBlockCount, blockWords, pickBlock, checkBlock, readBlock, blockIs, blockNumbers, blockLine, blockSize, blockTargetGap, blockQueryGap, LineCounted, NumbersRead, BlockRead}
+
+-- the codes of the table in the code
+abbrev blockCodes : List ℕ
+blockCodes = 2 ∷ 1 ∷ 1 ∷ []
+
+map-take : (f : ℕ → Kind) (n : ℕ) (xs : List ℕ) → map f (take n xs) ≡ take n (map f xs)
+map-take f zero xs = refl
+map-take f (suc n) [] = refl
+map-take f (suc n) (x ∷ xs) = ap (λ (l : List Kind). f x ∷ l) (map-take f n xs)
+
+pub table-is : (n : ℕ) → n ≤ 3 → tableOf (take n blockCodes) ≡ take n blockColumns
+unfolding tableOf kindOf blockColumns
+table-is n h =
+    let z : length (take n blockCodes) ≤ columnLimit = rw length-take (omega arith) in
+    rw (take-all columnLimit (take n blockCodes) z) (map-take kindOf n blockCodes)
+
+-- a good number of words is 1 or 3
+pub count-split : (n : ℕ) → isBlockCount n ≡ true → (P : Type 0) → (n ≡ 1 → P) → (n ≡ 3 → P) → P
+count-split n h P a b = go (eqb n 1) (eqb n 3) refl refl h
+  where
+    go : (x y : Bool) → eqb n 1 ≡ x → eqb n 3 ≡ y → (x || y) ≡ true → P
+    go true y e f k = a (eqb-true n 1 e)
+    go false true e f k = b (eqb-true n 3 f)
+    go false false e f k = absurd (let q : _≡_ {A = ℕ} 0 1 = cc in omega arith)
+
+pub count-most : (n : ℕ) → isBlockCount n ≡ true → n ≤ 3
+count-most n h = count-split n h (n ≤ 3) (λ e. omega arith) (λ e. omega arith)
+
+-- values stored in a table of zeros read as the values
+pub stored-at : (z vs : List ℕ) → ((i : ℕ) → getD z i 0 ≡ 0) → length vs ≤ length z → (i : ℕ) → getD (sets z 0 vs) i 0 ≡ getD vs i 0
+stored-at z vs zeros h i =
+    let e : sets z 0 vs ≡ vs ++ drop (0 + length vs) z = sets-eq vs z 0 (omega arith) in
+    rw e
+    (either (length vs) i _ (λ l.
+    let q : i ≡ length vs + (i - length vs) = omega arith in
+    let x : getD (vs ++ drop (0 + length vs) z) (length vs + (i - length vs)) 0 ≡ getD (drop (0 + length vs) z) (i - length vs) 0 = getD-append-add vs (drop (0 + length vs) z) (i - length vs) 0 in
+    let y : getD (drop (0 + length vs) z) (i - length vs) 0 ≡ getD z (0 + length vs + (i - length vs)) 0 = getD-drop (0 + length vs) z (i - length vs) 0 in
+    (rw (← q) at (x ∙ y ∙ zeros (0 + length vs + (i - length vs)))) ∙ sym (List·getD-eq-default vs 0 l))
+    (λ l. List·getD-append vs (drop (0 + length vs) z) 0 i l))
+
+pub zeros : (m i : ℕ) → _≡_ {A = ℕ} (getD {A = ℕ} (replicate m 0) i 0) 0
+zeros zero i = refl
+zeros (suc m) zero = refl
+zeros (suc m) (suc i) = zeros m i
+
+-- the numbers of a line that is read are coordinates
+module _ (s : List ℕ) (line e : ℕ) where
+  one-low : wordCount s line ≡ 1 → columnsFrom (take 1 blockColumns) 0 s line ≡ Next e → getD (valuesFrom (take 1 blockColumns) 0 s line) 0 0 ≤ largestPosition
+  unfolding blockColumns
+  one-low w read =
+      let vs = valuesFrom (take 1 blockColumns) 0 s line in
+      rw (← value-first vs 0) (number-spelt Size _ _ _ (spelt-at (columns-spell (take 1 blockColumns) 0 s line e w read) 0 (omega arith)) .1)
+
+  one-past : columnsFrom (take 1 blockColumns) 0 s line ≡ Next e → (i : ℕ) → 2 ≤ i → getD (valuesFrom (take 1 blockColumns) 0 s line) i 0 ≤ largestPosition
+  unfolding blockColumns
+  one-past read i h =
+      let vs = valuesFrom (take 1 blockColumns) 0 s line in
+      let l : length vs ≡ 2 * length (take 1 blockColumns) = values-length (take 1 blockColumns) 0 s line e read in
+      let k : length vs ≤ i = omega arith in
+      omega (arith, List·getD-eq-default vs 0 k)
+
+  module _ (w : wordCount s line ≡ 3) (read : columnsFrom (take 3 blockColumns) 0 s line ≡ Next e) where
+    abbrev ws : List ℕ
+    ws = valuesFrom (take 3 blockColumns) 0 s line
+
+    three-spells : Spells (take 3 blockColumns) 0 (wordsOf (lineOf (drop line s))) (firsts ws)
+    unfolding blockColumns
+    three-spells = columns-spell (take 3 blockColumns) 0 s line e w read
+
+    three-size : getD ws 0 0 ≤ largestPosition
+    unfolding blockColumns
+    three-size = rw (← value-first ws 0) (number-spelt Size _ _ _ (spelt-at three-spells 0 (omega arith)) .1)
+
+    three-target : getD ws 2 0 ≤ largestPosition
+    unfolding blockColumns
+    three-target = rw (← value-first ws 1) (number-spelt Coordinate _ _ _ (spelt-at three-spells 1 (omega arith)) .1)
+
+    three-query : getD ws 4 0 ≤ largestPosition
+    unfolding blockColumns
+    three-query = rw (← value-first ws 2) (number-spelt Coordinate _ _ _ (spelt-at three-spells 2 (omega arith)) .1)
+
+module _ (s : List ℕ) (line n e : ℕ) (counted : LineCounted s line n) (read : columnsFrom (take n blockColumns) 0 s line ≡ Next e) where
+  size-low : getD (valuesFrom (take n blockColumns) 0 s line) 0 0 ≤ largestPosition
+  size-low =
+      count-split n (counted .good) _
+      (λ q. rw q (one-low s line e (sym (counted .count) ∙ q) (rw q at read)))
+      (λ q. rw q (three-size s line e (sym (counted .count) ∙ q) (rw q at read)))
+
+  target-low : getD (valuesFrom (take n blockColumns) 0 s line) 2 0 ≤ largestPosition
+  target-low =
+      count-split n (counted .good) _
+      (λ q. rw q (one-past s line e (rw q at read) 2 (omega arith)))
+      (λ q. rw q (three-target s line e (sym (counted .count) ∙ q) (rw q at read)))
+
+  query-low : getD (valuesFrom (take n blockColumns) 0 s line) 4 0 ≤ largestPosition
+  query-low =
+      count-split n (counted .good) _
+      (λ q. rw q (one-past s line e (rw q at read) 4 (omega arith)))
+      (λ q. rw q (three-query s line e (sym (counted .count) ∙ q) (rw q at read)))
+
+-- the columns of a block line
+module _ (s : List ℕ) (line n : ℕ) (counted : LineCounted s line n) where
+  pub numbers-few : n ≤ 3
+  numbers-few = count-most n (counted .good)
+
+  pub numbers-length : n ≡ length (take n blockCodes)
+  numbers-length = rw length-take (omega (arith, numbers-few))
+
+module _ (s : List ℕ) (line n : ℕ) (counted : LineCounted s line n) (b′ d d′ : List ℕ) (x : Columns) (read : ColumnsRead (tableOf (take n blockCodes)) s line (replicate 6 0) b′ d d′ x) where
+  read-is : x ≡ columnsFrom (take n blockColumns) 0 s line
+  read-is = rw (table-is n (count-most n (counted .good))) at (read .result)
+
+  pub numbers-refused : (y : Refusal) → x ≡ columns.Refused y → NumbersRead s line n (block.Refused y)
+  unfolding blockNumbers
+  numbers-refused y q =
+      let z : columnsFrom (take n blockColumns) 0 s line ≡ columns.Refused y = sym read-is ∙ q in
+      record { is = rw z; size = omega arith; targetGap = omega arith; queryGap = omega arith }
+
+  module _ (e : ℕ) (q : x ≡ Next e) where
+    next : columnsFrom (take n blockColumns) 0 s line ≡ Next e
+    next = sym read-is ∙ q
+
+    values-same : (i : ℕ) → getD b′ i 0 ≡ getD (valuesFrom (take n blockColumns) 0 s line) i 0
+    unfolding blockColumns
+    values-same i =
+        let t = table-is n (count-most n (counted .good)) in
+        let st : b′ ≡ sets (replicate 6 0) 0 (valuesFrom (take n blockColumns) 0 s line) = rw (q, t) at (read .stored) in
+        let l : length (valuesFrom (take n blockColumns) 0 s line) ≤ 6 = rw (values-length (take n blockColumns) 0 s line e next, length-take) (omega (arith, count-most n (counted .good))) in
+        rw st (stored-at (replicate 6 0) (valuesFrom (take n blockColumns) 0 s line) (zeros 6) l i)
+
+    block-same : blockIs n b′ ≡ blockIs n (valuesFrom (take n blockColumns) 0 s line)
+    block-same = rw (values-same 0, values-same 2, values-same 4)
+
+    abbrev us : List ℕ
+    us = valuesFrom (take n blockColumns) 0 s line
+
+    size-in : (t : Bool) → getD us 0 0 ≤ largestPosition → blockSize (pickBlock t (Last (getD us 0 0)) (Gap (getD us 0 0) (getD us 2 0) (getD us 4 0))) ≤ largestPosition
+    size-in true h = h
+    size-in false h = h
+
+    target-in : (t : Bool) → getD us 2 0 ≤ largestPosition → blockTargetGap (pickBlock t (Last (getD us 0 0)) (Gap (getD us 0 0) (getD us 2 0) (getD us 4 0))) ≤ largestPosition
+    target-in true h = omega arith
+    target-in false h = h
+
+    query-in : (t : Bool) → getD us 4 0 ≤ largestPosition → blockQueryGap (pickBlock t (Last (getD us 0 0)) (Gap (getD us 0 0) (getD us 2 0) (getD us 4 0))) ≤ largestPosition
+    query-in true h = omega arith
+    query-in false h = h
+
+    pub numbers-read : (r : Block) → r ≡ blockIs n b′ → NumbersRead s line n r
+    unfolding blockNumbers
+    numbers-read r er =
+        let p : r ≡ blockIs n us = er ∙ block-same in
+        record {
+          is = rw next p;
+          size = rw p (size-in (eqb n 1) (size-low s line n e counted next));
+          targetGap = rw p (target-in (eqb n 1) (target-low s line n e counted next));
+          queryGap = rw p (query-in (eqb n 1) (query-low s line n e counted next));
+        }
+
+-- a number of words that passes its check
+passed : (a b : Bool) (x y : Refusal) → pickCheck a (pickCheck b Holds (check.Refused x)) (check.Refused y) ≡ Holds → b ≡ true
+passed true true x y e = refl
+passed true false x y e = absurd (let q : _≡_ {A = ℕ} 0 1 = cc in omega arith)
+passed false b x y e = absurd (let q : _≡_ {A = ℕ} 0 1 = cc in omega arith)
+
+pub words-good : (s : List ℕ) (line n : ℕ) → blockWords s line n ≡ Holds → isBlockCount n ≡ true
+unfolding blockWords
+words-good s line n e = passed (leb n 3) (isBlockCount n) _ _ e
+
+-- the block line
+module _ (s : List ℕ) (line n : ℕ) (en : n ≡ wordCount s line) (c : Check) (ec : c ≡ blockWords s line n) where
+  pub line-counted : c ≡ Holds → LineCounted s line n
+  line-counted q = record { count = en; good = words-good s line n (sym ec ∙ q) }
+
+  pub line-refused : (x : Refusal) → c ≡ check.Refused x → BlockRead s line (block.Refused x)
+  unfolding blockLine
+  line-refused x q = record { is = rw (← en, ← ec, q); size = omega arith; targetGap = omega arith; queryGap = omega arith }
+
+  pub line-read : (r : Block) → c ≡ Holds → NumbersRead s line n r → BlockRead s line r
+  unfolding blockLine
+  line-read r q h = record { is = rw (← en, ← ec, q) (h .is); size = h .size; targetGap = h .targetGap; queryGap = h .queryGap }
+
+-- what a block line holds
+abbrev vals : List ℕ → ℕ → List ℕ
+vals s line = valuesFrom (take (wordCount s line) blockColumns) 0 s line
+
+module _ (s : List ℕ) (line : ℕ) where
+  pub gap-holds : (z dt dq : ℕ) → blockLine s line ≡ Gap z dt dq → (sizeAt s line ≡ z) × (targetGap s line ≡ dt) × (queryGap s line ≡ dq)
+  unfolding blockLine blockNumbers sizeAt targetGap queryGap lineValues
+  gap-holds z dt dq e = go (blockWords s line (wordCount s line)) (columnsFrom (take (wordCount s line) blockColumns) 0 s line) (eqb (wordCount s line) 1) e
+    where
+      go : (c : Check) (d : Columns) (t : Bool) → checkBlock c (readBlock d (pickBlock t (Last (getD (vals s line) 0 0)) (Gap (getD (vals s line) 0 0) (getD (vals s line) 2 0) (getD (vals s line) 4 0)))) ≡ Gap z dt dq → (getD (vals s line) 0 0 ≡ z) × (getD (vals s line) 2 0 ≡ dt) × (getD (vals s line) 4 0 ≡ dq)
+      go Holds (Next f) false k = (cc, cc, cc)
+      go Holds (Next f) true k = absurd (let q : _≡_ {A = ℕ} 0 1 = cc in omega arith)
+      go Holds (columns.Refused x) t k = absurd (let q : _≡_ {A = ℕ} 0 1 = cc in omega arith)
+      go (check.Refused x) d t k = absurd (let q : _≡_ {A = ℕ} 0 1 = cc in omega arith)
+
+  pub last-holds : (z : ℕ) → blockLine s line ≡ Last z → sizeAt s line ≡ z
+  unfolding blockLine blockNumbers sizeAt lineValues
+  last-holds z e = go (blockWords s line (wordCount s line)) (columnsFrom (take (wordCount s line) blockColumns) 0 s line) (eqb (wordCount s line) 1) e
+    where
+      go : (c : Check) (d : Columns) (t : Bool) → checkBlock c (readBlock d (pickBlock t (Last (getD (vals s line) 0 0)) (Gap (getD (vals s line) 0 0) (getD (vals s line) 2 0) (getD (vals s line) 4 0)))) ≡ Last z → getD (vals s line) 0 0 ≡ z
+      go Holds (Next f) true k = cc
+      go Holds (Next f) false k = absurd (let q : _≡_ {A = ℕ} 0 1 = cc in omega arith)
+      go Holds (columns.Refused x) t k = absurd (let q : _≡_ {A = ℕ} 0 1 = cc in omega arith)
+      go (check.Refused x) d t k = absurd (let q : _≡_ {A = ℕ} 0 1 = cc in omega arith)

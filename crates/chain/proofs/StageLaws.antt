@@ -1,0 +1,255 @@
+-- The stages of reading a chain: one that refuses, and one that goes on. Assumes nothing.
+use mathlib.Core.Path.{_≡_, refl, sym, ap, _∙_}
+use mathlib.Core.Bool.{Bool, true, false}
+use mathlib.Core.List.{List, [], _∷_}
+use Prim.Native.Nat.{ℕ, _+_, _-_, _*_, _≤_, _<_}
+use native.Mathlib.Omega.{arith}
+use lib.ListN.{length, replicate, getD, take, drop, length-drop}
+use lib.Seq.{sets, take-all}
+use lib.Dec.{leb}
+use borrow.Author.Tests.{le-leb, lt-leb, leb-true}
+use Rattle.ledger.specs.Limits.{blockLimit, largestPosition}
+use Rattle.ledger.specs.declared.Reason.the-variants.{NoRoom}
+use Rattle.ledger.specs.declared.Refusal.{Refusal}
+use Rattle.text.specs.declared.Check.{Check}
+use Rattle.text.specs.declared.Check.the-variants.{Holds}
+use Rattle.text.specs.declared.Check.the-variants as check
+use Rattle.text.specs.Checks.{pickCheck, textCheck, lastLineCheck}
+use Rattle.text.specs.Pieces.{wordsOf, lineOf}
+use Rattle.text.specs.Words.{nextLine, wordCount}
+use Rattle.kinds.specs.declared.Range.the-variants.{Coordinate}
+use Rattle.kinds.specs.Kinds.{kindOf}
+use Rattle.kinds.proofs.RangeLaws.{number-spelt}
+use Rattle.columns.specs.declared.Columns.{Columns}
+use Rattle.columns.specs.declared.Columns.the-variants.{Next}
+use Rattle.columns.specs.declared.Columns.the-variants as columns
+use Rattle.columns.specs.Columns.{tableOf, columnsFrom, valuesFrom, ColumnsRead}
+use Rattle.columns.specs.Spells.{Spells, firsts}
+use Rattle.columns.proofs.SpellsLaws.{columns-spell}
+use Rattle.columns.proofs.PlaceLaws.{spelt-at, value-first, values-length}
+use Rattle.blocks.specs.Blocks.{rowsOf}
+use Rattle.chain.specs.declared.Chain.{Chain}
+use Rattle.chain.specs.declared.Ending.{Ending}
+use Rattle.chain.specs.declared.Lines.{Lines}
+use Rattle.chain.specs.declared.Lines.the-variants.{Ended}
+use Rattle.chain.specs.declared.Lines.the-variants as lines
+use Rattle.chain.specs.declared.ChainAnswer.{ChainAnswer}
+use Rattle.chain.specs.declared.ChainAnswer.the-variants.{Accepted, Refused}
+use Rattle.chain.specs.Table.{chainColumns}
+use Rattle.chain.specs.Records.{chainRecord, chainTargets, chainQueries, chainSizes}
+use Rattle.chain.specs.Read.{thenCheck, headCheck, spanCheck, fillCheck, roomCheck, linesFrom, afterLast, afterLines, afterSpans, afterColumns, afterWords, afterText, chainCheck, chainRead, rowsAfter, Counted, Begins, Placed, Walked, Headed, Held, Staged, RowsStored, ChainRead}
+use Rattle.chain.proofs.BlockLaws.{stored-at, zeros}
+
+-- the codes of the table in the code
+abbrev chainCodes : List ℕ
+chainCodes = 11 ∷ 4 ∷ 0 ∷ 2 ∷ 12 ∷ 1 ∷ 1 ∷ 0 ∷ 2 ∷ 9 ∷ 1 ∷ 1 ∷ 5 ∷ []
+
+pub table-is : tableOf chainCodes ≡ chainColumns
+unfolding tableOf kindOf chainColumns
+table-is = refl
+
+-- the blocks, and a surplus line
+module _ (s vs : List ℕ) (e : Ending) (c : Check) where
+  module _ (r : Chain) (er : r ≡ chainRecord vs (e .count)) (ec : c ≡ fillCheck s r e) where
+    pub last-refused : (x : Refusal) → c ≡ check.Refused x → Refused x ≡ afterLast s vs e
+    unfolding afterLast
+    last-refused x q = rw (← er, ← ec, q)
+
+    pub last-accepted : c ≡ Holds → Accepted r ≡ afterLast s vs e
+    unfolding afterLast
+    last-accepted q = rw (← er, ← ec, q)
+
+  module _ (ec : c ≡ lastLineCheck s (e .line)) where
+    pub lines-refused : (x : Refusal) → c ≡ check.Refused x → Refused x ≡ afterLines s vs e
+    unfolding afterLines
+    lines-refused x q = rw (← ec, q)
+
+    pub lines-on : (a : ChainAnswer) → c ≡ Holds → a ≡ afterLast s vs e → a ≡ afterLines s vs e
+    unfolding afterLines
+    lines-on a q h = rw (← ec, q) h
+
+-- a record that the last stages accept is the header's with the number of blocks
+record-of : (c d : Check) (r b : Chain) → thenCheck c (thenCheck d (Accepted r)) ≡ Accepted b → r ≡ b
+record-of Holds Holds r b e = cc
+record-of Holds (check.Refused x) r b e = absurd (let k : _≡_ {A = ℕ} 0 1 = cc in omega arith)
+record-of (check.Refused x) d r b e = absurd (let k : _≡_ {A = ℕ} 0 1 = cc in omega arith)
+
+pub lines-record : (s vs : List ℕ) (e : Ending) (b : Chain) → afterLines s vs e ≡ Accepted b → chainRecord vs (e .count) ≡ b
+unfolding afterLines afterLast
+lines-record s vs e b q = record-of (lastLineCheck s (e .line)) (fillCheck s (chainRecord vs (e .count)) e) (chainRecord vs (e .count)) b q
+
+-- the block lines
+pub spans-begin : (vs rows : List ℕ) (t q : ℕ) → Headed vs rows → t ≡ getD vs 10 0 → q ≡ getD vs 20 0 → Begins t q rows
+spans-begin vs rows t q h et eq = record { target = rw et (h .target); query = rw eq (h .query); long = h .long }
+
+module _ (s vs rows rows′ : List ℕ) (from t q : ℕ) (ef : from ≡ nextLine s 0) (et : t ≡ getD vs 10 0) (eq : q ≡ getD vs 20 0) (x : Lines) (walked : Walked s from t q rows rows′ x) where
+  pub spans-refused : (y : Refusal) → x ≡ lines.Refused y → Staged s (afterSpans s vs) rows′ (Refused y)
+  unfolding afterSpans
+  spans-refused y k = record { is = rw (← ef, ← et, ← eq, ← (walked .is), k); held = λ b e. absurd (let z : _≡_ {A = ℕ} 0 1 = cc in omega arith) }
+
+  placed : (e : Ending) → x ≡ Ended e → Held s (chainRecord vs (e .count)) rows′
+  unfolding chainRecord chainTargets chainQueries chainSizes
+  placed e k =
+      let p = walked .held e k in
+      record {
+        long = walked .long;
+        few = p .few;
+        targets = rw (← ef, ← et) (p .targets);
+        queries = rw (← ef, ← eq) (p .queries);
+        sizes = rw (← ef) (p .sizes);
+      }
+
+  pub spans-on : (e : Ending) (a : ChainAnswer) → x ≡ Ended e → a ≡ afterLines s vs e → Staged s (afterSpans s vs) rows′ a
+  unfolding afterSpans
+  spans-on e a k h = record {
+    is = rw (← ef, ← et, ← eq, ← (walked .is), k) h;
+    held = λ b z. rw (lines-record s vs e b (sym h ∙ z)) at (placed e k);
+  }
+
+module _ (s vs l : List ℕ) (c : Check) (r : Chain) (er : r ≡ chainRecord vs 0) (ec : c ≡ spanCheck r vs) where
+  pub columns-refused : (x : Refusal) → c ≡ check.Refused x → Staged s (afterColumns s vs) l (Refused x)
+  unfolding afterColumns
+  columns-refused x q = record { is = rw (← er, ← ec, q); held = λ b e. absurd (let z : _≡_ {A = ℕ} 0 1 = cc in omega arith) }
+
+  pub columns-on : (a : ChainAnswer) → c ≡ Holds → Staged s (afterSpans s vs) l a → Staged s (afterColumns s vs) l a
+  unfolding afterColumns
+  columns-on a q h = record { is = rw (← er, ← ec, q) (h .is); held = h .held }
+
+-- a record and its checks depend on the values at their places alone
+module _ (a b : List ℕ) (same : (i : ℕ) → getD a i 0 ≡ getD b i 0) where
+  pub record-same : (n : ℕ) → chainRecord a n ≡ chainRecord b n
+  unfolding chainRecord
+  record-same n = rw (
+    same 2,
+    same 4,
+    same 5,
+    same 6,
+    same 10,
+    same 12,
+    same 14,
+    same 15,
+    same 16,
+    same 18,
+    same 20,
+    same 22,
+    same 24,
+  )
+
+  lines-same : (s : List ℕ) (e : Ending) → afterLines s a e ≡ afterLines s b e
+  unfolding afterLines afterLast
+  lines-same s e = rw (record-same (e .count))
+
+  pub columns-same : (s : List ℕ) → afterColumns s a ≡ afterColumns s b
+  unfolding afterColumns afterSpans spanCheck
+  columns-same s = rw (record-same 0, same 10, same 20, same 13, same 23) (simp (lines-same s))
+
+-- the header's columns
+module _ (s : List ℕ) (e : ℕ) (count : wordCount s 0 ≡ 13) (read : columnsFrom chainColumns 0 s 0 ≡ Next e) where
+  abbrev vs : List ℕ
+  vs = valuesFrom chainColumns 0 s 0
+
+  pub head-spells : Spells chainColumns 0 (wordsOf (lineOf s)) (firsts vs)
+  unfolding chainColumns
+  head-spells = columns-spell chainColumns 0 s 0 e count read
+
+  pub target-low : getD vs 10 0 ≤ largestPosition
+  unfolding chainColumns
+  target-low = rw (← value-first vs 5) (number-spelt Coordinate _ _ _ (spelt-at head-spells 5 (omega arith)) .1)
+
+  pub query-low : getD vs 20 0 ≤ largestPosition
+  unfolding chainColumns
+  query-low = rw (← value-first vs 10) (number-spelt Coordinate _ _ _ (spelt-at head-spells 10 (omega arith)) .1)
+
+module _ (s rows b′ d d′ : List ℕ) (counted : Counted s rows) (x : Columns) (read : ColumnsRead (tableOf chainCodes) s 0 (replicate 26 0) b′ d d′ x) where
+  read-is : x ≡ columnsFrom chainColumns 0 s 0
+  read-is = rw table-is at (read .result)
+
+  module _ (e : ℕ) (q : x ≡ Next e) where
+    next : columnsFrom chainColumns 0 s 0 ≡ Next e
+    next = sym read-is ∙ q
+
+    values-same : (i : ℕ) → getD b′ i 0 ≡ getD (valuesFrom chainColumns 0 s 0) i 0
+    unfolding chainColumns
+    values-same i =
+        let st : b′ ≡ sets (replicate 26 0) 0 (valuesFrom chainColumns 0 s 0) = rw (q, table-is) at (read .stored) in
+        let l : length (valuesFrom chainColumns 0 s 0) ≤ 26 = rw (values-length chainColumns 0 s 0 e next) (omega arith) in
+        rw st (stored-at (replicate 26 0) (valuesFrom chainColumns 0 s 0) (zeros 26) l i)
+
+    pub words-headed : Headed b′ rows
+    words-headed = record { target = rw (values-same 10) (target-low s e (counted .count) next); query = rw (values-same 20) (query-low s e (counted .count) next); long = counted .long }
+
+    pub words-on : (l : List ℕ) (a : ChainAnswer) → Staged s (afterColumns s b′) l a → Staged s (afterWords s) l a
+    unfolding afterWords
+    words-on l a h = record { is = rw (next, ← columns-same b′ (valuesFrom chainColumns 0 s 0) values-same s) (h .is); held = h .held }
+
+  pub words-refused : (l : List ℕ) (y : Refusal) → x ≡ columns.Refused y → Staged s (afterWords s) l (Refused y)
+  unfolding afterWords
+  words-refused l y q =
+      let z : columnsFrom chainColumns 0 s 0 ≡ columns.Refused y = sym read-is ∙ q in
+      record { is = rw z; held = λ b e. absurd (let k : _≡_ {A = ℕ} 0 1 = cc in omega arith) }
+
+-- a header's number of words that passes its check
+passed : (a b : Bool) (x y : Refusal) → pickCheck a (pickCheck b Holds (check.Refused x)) (check.Refused y) ≡ Holds → (a ≡ true) × (b ≡ true)
+passed true true x y e = (refl, refl)
+passed true false x y e = absurd (let q : _≡_ {A = ℕ} 0 1 = cc in omega arith)
+passed false b x y e = absurd (let q : _≡_ {A = ℕ} 0 1 = cc in omega arith)
+
+pub head-count : (s : List ℕ) (n : ℕ) → headCheck s n ≡ Holds → n ≡ 13
+unfolding headCheck
+head-count s n e =
+    let p = passed (leb n 13) (leb 13 n) _ _ e in
+    omega (arith, leb-true n 13 (p .0), leb-true 13 n (p .1))
+
+module _ (s : List ℕ) (n : ℕ) (en : n ≡ wordCount s 0) (c : Check) (ec : c ≡ headCheck s n) where
+  pub text-counted : (d : List ℕ) → length d ≡ 3 * blockLimit → c ≡ Holds → Counted s d
+  text-counted d l q = record { count = sym en ∙ head-count s n (sym ec ∙ q); long = l }
+
+  pub text-refused : (l : List ℕ) (x : Refusal) → c ≡ check.Refused x → Staged s (afterText s) l (Refused x)
+  unfolding afterText
+  text-refused l x q = record { is = rw (← en, ← ec, q); held = λ b e. absurd (let k : _≡_ {A = ℕ} 0 1 = cc in omega arith) }
+
+  pub text-on : (l : List ℕ) (a : ChainAnswer) → c ≡ Holds → Staged s (afterWords s) l a → Staged s (afterText s) l a
+  unfolding afterText
+  text-on l a q h = record { is = rw (← en, ← ec, q) (h .is); held = h .held }
+
+module _ (s : List ℕ) (c : Check) (ec : c ≡ textCheck s) where
+  pub check-refused : (l : List ℕ) (x : Refusal) → c ≡ check.Refused x → Staged s (chainCheck s) l (Refused x)
+  unfolding chainCheck
+  check-refused l x q = record { is = rw (← ec, q); held = λ b e. absurd (let k : _≡_ {A = ℕ} 0 1 = cc in omega arith) }
+
+  pub check-on : (l : List ℕ) (a : ChainAnswer) → c ≡ Holds → Staged s (afterText s) l a → Staged s (chainCheck s) l a
+  unfolding chainCheck
+  check-on l a q h = record { is = rw (← ec, q) (h .is); held = h .held }
+
+-- storing the rows
+module _ (s : List ℕ) (r : Chain) (l ts qs zs : List ℕ) (held : Held s r l) (room : ℕ) (er : room ≡ rowsOf ts qs zs) where
+  pub rows-short : room < r .blockCount → RowsStored s r ts ts qs qs zs zs (Refused (record { reason = NoRoom; place = length s }))
+  unfolding roomCheck
+  rows-short h = record { is = rw (← er, lt-leb (r .blockCount) room h); targets = refl; queries = refl; sizes = refl }
+
+  rest-all : (k : ℕ) → take (length l - k) (drop k l) ≡ drop k l
+  rest-all k = take-all (length l - k) (drop k l) (rw length-drop (omega arith))
+
+  pub rows-stored : (ts′ qs′ zs′ : List ℕ) → r .blockCount ≤ room → ts′ ≡ sets ts 0 (take (r .blockCount) l)
+      → qs′ ≡ sets qs 0 (take (r .blockCount) (take (length l - blockLimit) (drop blockLimit l)))
+      → zs′ ≡ sets zs 0 (take (r .blockCount) (take (length l - 2 * blockLimit) (drop (2 * blockLimit) l))) → RowsStored s r ts ts′ qs qs′ zs zs′ (Accepted r)
+  unfolding roomCheck
+  rows-stored ts′ qs′ zs′ h et eq ez = record {
+    is = rw (← er, le-leb (r .blockCount) room h);
+    targets = rw (et, held .targets);
+    queries = rw (eq, rest-all blockLimit, held .queries);
+    sizes = rw (ez, rest-all (2 * blockLimit), held .sizes);
+  }
+
+-- the reader: the checks, then the rows
+module _ (s ts qs zs l : List ℕ) (x : ChainAnswer) (staged : Staged s (chainCheck s) l x) where
+  pub read-refused : (y : Refusal) → x ≡ Refused y → ChainRead s ts ts qs qs zs zs (Refused y)
+  unfolding chainRead
+  read-refused y q = record { is = rw (← (staged .is), q); targets = refl; queries = refl; sizes = refl }
+
+  pub read-staged : (r : Chain) → x ≡ Accepted r → Held s r l
+  read-staged r q = staged .held r q
+
+  pub read-stored : (r : Chain) (ts′ qs′ zs′ : List ℕ) (a : ChainAnswer) → x ≡ Accepted r → RowsStored s r ts ts′ qs qs′ zs zs′ a → ChainRead s ts ts′ qs qs′ zs zs′ a
+  unfolding chainRead
+  read-stored r ts′ qs′ zs′ a q h = record { is = rw (← (staged .is), q) (h .is); targets = h .targets; queries = h .queries; sizes = h .sizes }

@@ -1,0 +1,58 @@
+-- The table's columns are a block line's first n. Assumes nothing.
+use Rattle.chain.proofs.BlockLaws.{numbers-few, numbers-length, numbers-refused, numbers-read}
+use borrow.Author.Needs.{needs}
+use Rattle.chain.proofs.read_numbers.Statement.{statement}
+use Rattle.chain.proofs.read_numbers.Tie as tie
+use Rattle.chain.proofs.read_numbers.Reads as reads
+use Rattle.chain.proofs.read_numbers.Lts as lts
+use Rattle.chain.proofs.block_of.Reads as block-of-reads
+use Rattle.columns.proofs.read_columns.Reads as read-columns-reads
+
+array-share-prefix-table : tie.Need-array-share-prefix-table
+array-share-prefix-table c = search numbers-few
+
+slice-aggregate-read-columns : tie.Need-slice-aggregate-read-columns
+slice-aggregate-read-columns c = search numbers-length
+
+slice-aggregate-read-columns-2 : tie.Need-slice-aggregate-read-columns-2
+slice-aggregate-read-columns-2 c = search needs
+
+slice-aggregate-read-columns-3 : tie.Need-slice-aggregate-read-columns-3
+slice-aggregate-read-columns-3 c = search needs
+
+read-columns-requires : tie.Need-read-columns-requires
+read-columns-requires c κs = search needs
+
+enum-known-x : tie.Need-enum-known-x
+enum-known-x c = search needs
+
+enum-told : tie.Need-enum-told
+enum-told c = search needs
+
+slice-aggregate-block-of : tie.Need-slice-aggregate-block-of
+slice-aggregate-block-of c = search needs
+
+block-of-requires : tie.Need-block-of-requires
+block-of-requires c κs = search needs
+
+returns : tie.Need-returns
+returns c = search (numbers-refused, numbers-read)
+
+returns-2 : tie.Need-returns-2
+returns-2 c = search (numbers-refused, numbers-read)
+
+pub read-numbers-spec : {M : Type 1} → statement M
+read-numbers-spec =
+    tie.close
+    (tie.spec
+    array-share-prefix-table
+    slice-aggregate-read-columns
+    slice-aggregate-read-columns-2
+    slice-aggregate-read-columns-3
+    read-columns-requires
+    enum-known-x
+    enum-told
+    slice-aggregate-block-of
+    block-of-requires
+    returns
+    returns-2)

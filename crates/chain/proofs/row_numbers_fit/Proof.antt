@@ -1,0 +1,24 @@
+-- Three columns of rows. Assumes nothing.
+use Rattle.chain.proofs.TestLaws.{numbers-are}
+use borrow.Author.Needs.{needs}
+use Rattle.chain.proofs.row_numbers_fit.Statement.{statement}
+use Rattle.chain.proofs.row_numbers_fit.Tie as tie
+use Rattle.chain.proofs.row_numbers_fit.Reads as reads
+use Rattle.chain.proofs.row_numbers_fit.Lts as lts
+use Rattle.blocks.proofs.all_between.Reads as all-between-reads
+
+all-between-requires : tie.Need-all-between-requires
+all-between-requires c κs = search needs
+
+all-between-requires-2 : tie.Need-all-between-requires-2
+all-between-requires-2 c κs = search needs
+
+all-between-requires-3 : tie.Need-all-between-requires-3
+all-between-requires-3 c κs = search needs
+
+returns : tie.Need-returns
+returns c = search numbers-are
+
+pub row-numbers-fit-spec : {M : Type 1} → statement M
+row-numbers-fit-spec =
+    tie.close (tie.spec all-between-requires all-between-requires-2 all-between-requires-3 returns)

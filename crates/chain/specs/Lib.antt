@@ -1,0 +1,5 @@
+pub mod Table
+pub mod Records
+pub mod Read
+pub mod Tests
+pub mod Write

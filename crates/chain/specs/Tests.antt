@@ -1,0 +1,65 @@
+-- The rules of a chain record with its rows, as tests. The record checker asks for all of them; the writer asks for them in its order.
+use Prim.Native.Nat.{ℕ}
+use mathlib.Core.Bool.{Bool, true, false, _&&_}
+use mathlib.Core.List.{List}
+use lib.ListN.{length, take}
+use lib.Dec.{leb}
+use Rattle.ledger.specs.declared.Strand.{Strand}
+use Rattle.ledger.specs.declared.Strand.the-variants.{Plus, Minus, Dot}
+use Rattle.ledger.specs.Limits.{nameLimit, largestPosition, chainScoreLimit, chainIdLimit}
+use Rattle.text.specs.declared.Class.the-variants.{Graphic}
+use Rattle.text.specs.Scan.{endOf}
+use Rattle.blocks.specs.Blocks.{blocksFill, allBetween, countFits, rowsOf}
+use Rattle.chain.specs.declared.Chain.{Chain}
+use Rattle.chain.specs.Records.{spanFits}
+
+-- a name's length
+abbrev pub lengthFits : ℕ → Bool
+lengthFits n = leb 1 n && leb n nameLimit
+
+-- the two names by their lengths
+unfoldable pub namesFit : ℕ → ℕ → Bool
+namesFit t q = lengthFits t && lengthFits q
+
+-- bytes that all show: 33 to 126
+abbrev pub allGraphic : List ℕ → Bool
+allGraphic w = leb (length w) (endOf Graphic w 0)
+
+-- the query's strand is `+` or `-`
+abbrev pub strandFits : Strand → Bool
+strandFits Plus = true
+strandFits Minus = true
+strandFits Dot = false
+
+-- a sequence's size is at least 1
+abbrev pub sizeFits : ℕ → Bool
+sizeFits n = leb 1 n && leb n largestPosition
+
+-- the numbers of the record in their ranges
+unfoldable pub fieldsFit : Chain → Bool
+fieldsFit r =
+    leb (r .score) chainScoreLimit && (sizeFits (r .tSize) && (leb (r .tStart) largestPosition && (leb (r .tEnd) largestPosition
+    && (sizeFits (r .qSize) && (leb (r .qStart) largestPosition && (leb (r .qEnd) largestPosition && leb (r .id) chainIdLimit))))))
+
+-- the numbers of the used rows in their ranges
+unfoldable pub rowNumbersFit : List ℕ → List ℕ → List ℕ → Bool
+rowNumbersFit ts qs zs = allBetween 0 largestPosition ts && (allBetween 0 largestPosition qs && allBetween 1 largestPosition zs)
+
+-- the spans of both sides
+unfoldable pub spansFit : Chain → Bool
+spansFit r = spanFits (r .tStart) (r .tEnd) (r .tSize) && spanFits (r .qStart) (r .qEnd) (r .qSize)
+
+-- the blocks fill the spans of both sides
+unfoldable pub rowsFit : Chain → List ℕ → List ℕ → List ℕ → Bool
+rowsFit r ts qs zs = blocksFill (r .tStart) (r .tEnd) ts zs && blocksFill (r .qStart) (r .qEnd) qs zs
+
+-- a valid record with its rows: the first blockCount rows of the three slices
+unfoldable pub chainValid : Chain → List ℕ → List ℕ → List ℕ → Bool
+chainValid r ts qs zs =
+    countFits (r .blockCount) (rowsOf ts qs zs)
+    && (namesFit (r .tName .length) (r .qName .length)
+    && (strandFits (r .qStrand)
+    && (fieldsFit r
+    && (rowNumbersFit (take (r .blockCount) ts) (take (r .blockCount) qs) (take (r .blockCount) zs)
+    && (spansFit r
+    && rowsFit r (take (r .blockCount) ts) (take (r .blockCount) qs) (take (r .blockCount) zs))))))

@@ -1,0 +1,117 @@
+-- Writing a chain: the writers' refusals in their order, and the standard text.
+use Prim.Native.Nat.{ℕ, zero, suc, _+_, _-_, _*_, _<_, _≤_}
+use mathlib.Core.Path.{_≡_}
+use mathlib.Core.Bool.{Bool, true, false, _&&_}
+use mathlib.Core.List.{List, [], _∷_, _++_}
+use lib.ListN.{length, take, drop, getD}
+use Rattle.ledger.specs.declared.Reason.the-variants.{NumberOutOfRange, BadWord, SpanDisagrees, BlockRules}
+use Rattle.ledger.specs.declared.Refusal.{Refusal}
+use Rattle.ledger.specs.Limits.{nameLimit, blockLimit}
+use Rattle.ledger.specs.Strands.{strandLetter}
+use Rattle.text.specs.declared.Check.{Check}
+use Rattle.text.specs.declared.Check.the-variants.{Holds}
+use Rattle.text.specs.declared.Check.the-variants as check
+use Rattle.text.specs.Checks.{require}
+use Rattle.text.specs.Pieces.{joined}
+use Rattle.writing.specs.Digits.{digits}
+use Rattle.writing.specs.declared.Writing.{Writing}
+use Rattle.writing.specs.declared.Writing.the-variants as writing
+use Rattle.writing.specs.Answers.{roomAnswer, leftAfter}
+use Rattle.kinds.specs.declared.Fixed.the-variants as fixed
+use Rattle.kinds.specs.Kinds.{fixedText}
+use Rattle.blocks.specs.Blocks.{countFits, rowsOf}
+use Rattle.columns.specs.Lines.{fedLine}
+use Rattle.chain.specs.declared.Chain.{Chain}
+use Rattle.chain.specs.Table.{chainColumns}
+use Rattle.chain.specs.Tests.{namesFit, allGraphic, strandFits, fieldsFit, rowNumbersFit, spansFit, rowsFit, chainValid}
+
+-- the names that are handed in: their lengths, and that all their bytes show
+unfoldable pub namesShow : List ℕ → List ℕ → Bool
+namesShow tName qName = namesFit (length tName) (length qName) && (allGraphic tName && allGraphic qName)
+
+-- the refusals, each at place 0: a bad row count (9); names and strand (6); the numbers, a row's too (5); spans (7); blocks (9)
+unfoldable pub writeCheck : Chain → List ℕ → List ℕ → List ℕ → List ℕ → List ℕ → Check
+writeCheck r tName qName ts qs zs =
+    require (countFits (r .blockCount) (rowsOf ts qs zs)) BlockRules 0
+    (require (namesShow tName qName && strandFits (r .qStrand)) BadWord 0
+    (require (fieldsFit r && rowNumbersFit (take (r .blockCount) ts) (take (r .blockCount) qs) (take (r .blockCount) zs)) NumberOutOfRange 0
+    (require (spansFit r) SpanDisagrees 0
+    (require (rowsFit r (take (r .blockCount) ts) (take (r .blockCount) qs) (take (r .blockCount) zs)) BlockRules 0
+    Holds))))
+
+-- the thirteen words of a header
+unfoldable pub headWords : Chain → List ℕ → List ℕ → List (List ℕ)
+headWords r tName qName =
+    fixedText fixed.Chain ∷ digits (r .score) ∷ tName ∷ digits (r .tSize) ∷ fixedText fixed.Plus ∷ digits (r .tStart) ∷ digits (r .tEnd)
+    ∷ qName ∷ digits (r .qSize) ∷ (strandLetter (r .qStrand) ∷ []) ∷ digits (r .qStart) ∷ digits (r .qEnd) ∷ digits (r .id) ∷ []
+
+-- a line of words: one space between them, and a line feed
+abbrev pub fedWords : List (List ℕ) → List ℕ
+fedWords ws = joined 32 ws ++ (10 ∷ [])
+
+-- from the end of a block that starts at a with size z to the next one's start
+abbrev pub gapTo : ℕ → ℕ → ℕ → ℕ
+gapTo a z next = next - (a + z)
+
+-- the words of the line of row i, before another: its size, and the gaps to the next row on the target and on the query
+unfoldable pub gapWords : ℕ → List ℕ → List ℕ → List ℕ → List (List ℕ)
+gapWords i ts qs zs =
+    digits (getD zs i 0) ∷ digits (gapTo (getD ts i 0) (getD zs i 0) (getD ts (suc i) 0)) ∷ digits (gapTo (getD qs i 0) (getD zs i 0) (getD qs (suc i) 0)) ∷ []
+
+-- the lines of row i and of the k rows after it: the last one has its size alone
+unfoldable pub blockText : ℕ → ℕ → List ℕ → List ℕ → List ℕ → List ℕ
+blockText zero i ts qs zs = fedWords (digits (getD zs i 0) ∷ [])
+blockText (suc k) i ts qs zs = fedWords (gapWords i ts qs zs) ++ blockText k (suc i) ts qs zs
+
+-- THE STANDARD TEXT: the header's line, then the block lines of the first blockCount rows
+unfoldable pub chainText : Chain → List ℕ → List ℕ → List ℕ → List ℕ → List ℕ → List ℕ
+chainText r tName qName ts qs zs = fedWords (headWords r tName qName) ++ blockText (r .blockCount - 1) 0 ts qs zs
+
+-- the header as values by column, for the line writer: two numbers a column, a name's length and where it stands in a text of names
+unfoldable pub chainValues : Chain → ℕ → ℕ → List ℕ
+chainValues r tName qName =
+    0 ∷ 0 ∷ r .score ∷ 0 ∷ tName ∷ 0 ∷ r .tSize ∷ 0 ∷ 0 ∷ 0 ∷ r .tStart ∷ 0 ∷ r .tEnd ∷ 0
+    ∷ qName ∷ nameLimit ∷ r .qSize ∷ 0 ∷ strandLetter (r .qStrand) ∷ 0 ∷ r .qStart ∷ 0 ∷ r .qEnd ∷ 0 ∷ r .id ∷ 0 ∷ []
+
+-- the same text by the line writer's header
+unfoldable pub textOf : List ℕ → List ℕ → ℕ → List ℕ → List ℕ → List ℕ → List ℕ
+textOf names vs n ts qs zs = fedLine chainColumns 32 names vs [] ++ blockText (n - 1) 0 ts qs zs
+
+abbrev pub thenWrite : Check → Writing → Writing
+thenWrite Holds rest = rest
+thenWrite (check.Refused x) rest = writing.Refused x
+
+-- THE WRITER: the checks, then the text's length (1), then the room (11)
+unfoldable pub chainWrite : Chain → List ℕ → List ℕ → List ℕ → List ℕ → List ℕ → ℕ → Writing
+chainWrite r tName qName ts qs zs room = thenWrite (writeCheck r tName qName ts qs zs) (roomAnswer (length (chainText r tName qName ts qs zs)) room)
+
+-- what the writer promises: the answer, and the buffer with the text at its front, or as it was
+pub record ChainWrote (r : Chain) (tName qName ts qs zs before after : List ℕ) (x : Writing) : Type 0 where
+  pub is : x ≡ chainWrite r tName qName ts qs zs (length before)
+  pub left : after ≡ leftAfter x (chainText r tName qName ts qs zs) before
+
+-- THE RECORD CHECKER: any breach is 9, at place 0
+unfoldable pub recordCheck : Chain → List ℕ → List ℕ → List ℕ → Check
+recordCheck r ts qs zs = require (chainValid r ts qs zs) BlockRules 0 Holds
+
+-- the stages of writing a record that passed the checks: two names in a text of their own, and the rows in use
+pub record NamesShort (tName qName names : List ℕ) : Type 0 where
+  pub long : length names ≡ 2 * nameLimit
+  pub tShort : length tName ≤ nameLimit
+  pub qShort : length qName ≤ nameLimit
+
+pub record NamesPut (tName qName names : List ℕ) : Type 0 where
+  pub tAt : take (length tName) (drop 0 names) ≡ tName
+  pub qAt : take (length qName) (drop nameLimit names) ≡ qName
+
+pub record RowsThere (n : ℕ) (ts qs zs : List ℕ) : Type 0 where
+  pub some : 1 ≤ n
+  pub few : n ≤ blockLimit
+  pub targets : n ≤ length ts
+  pub queries : n ≤ length qs
+  pub sizes : n ≤ length zs
+
+pub record Writable (r : Chain) (tName qName ts qs zs : List ℕ) : Type 0 where
+  pub tShort : length tName ≤ nameLimit
+  pub qShort : length qName ≤ nameLimit
+  pub rows : RowsThere (r .blockCount) ts qs zs

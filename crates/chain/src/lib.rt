@@ -1,0 +1,823 @@
+// One chain: reader, text checker, record checker, writer, over three flat slices of blocks.
+ghost use mathlib.Core.Path.{_≡_};
+ghost use Prim.Native.Nat.{_+_, _-_, _*_, _≤_, _<_};
+ghost use lib.ListN.{length, set, getD, take, drop};
+ghost use Rattle.ledger.specs.Limits.{nameLimit, blockLimit};
+ghost use Rattle.ledger.specs.Strands.{strandOf};
+ghost use Rattle.text.specs.Checks.{require};
+ghost use Rattle.writing.specs.Puts.{Put};
+ghost use Rattle.writing.specs.Answers.{Wrote};
+ghost use Rattle.chain.specs.Records.{partAt, strandIs, chainRecord, spanFits};
+ghost use Rattle.chain.specs.Read.{headCheck, spanCheck, isBlockCount, blockWords, blockIs, fillCheck, afterLast, afterLines, afterSpans, afterColumns, afterWords, afterText, chainCheck, LineCounted, NumbersRead, BlockRead, Counted, Begins, Walked, Headed, Walks, Staged, Held, RowsStored, ChainRead};
+ghost use Rattle.chain.specs.Tests.{lengthFits, namesFit, allGraphic, strandFits, sizeFits, fieldsFit, rowNumbersFit, spansFit, rowsFit, chainValid};
+ghost use Rattle.chain.specs.Write.{namesShow, writeCheck, fedWords, gapTo, gapWords, blockText, chainText, chainValues, textOf, ChainWrote, recordCheck, NamesShort, NamesPut, RowsThere, Writable};
+ghost use Rattle.chain.specs.Table.{blockColumns};
+ghost use Rattle.columns.specs.Lines.{fedLine};
+ghost use mathlib.Core.List.{[], _∷_};
+use columns::Columns;
+use ledger::Part;
+use ledger::Reason;
+use ledger::Refusal;
+use ledger::Strand;
+use text::Check;
+use text::Class;
+use writing::Writing;
+
+// The record of a chain. A name is a part of the text; with `-`, qStart and qEnd count on the reversed query.
+pub struct Chain {
+    pub score: u64,
+    pub tName: Part,
+    pub tSize: u64,
+    pub tStart: u64,
+    pub tEnd: u64,
+    pub qName: Part,
+    pub qSize: u64,
+    pub qStrand: Strand,
+    pub qStart: u64,
+    pub qEnd: u64,
+    pub id: u64,
+    pub blockCount: u64,
+}
+
+pub enum ChainAnswer {
+    Accepted(Chain),
+    Refused(Refusal),
+}
+
+// One block line: the last one's size; or a size and the gaps after it on the target and on the query; or the refusal.
+pub enum Block {
+    Last(u64),
+    Gap(u64, u64, u64),
+    Refused(Refusal),
+}
+
+// Where the block lines end: the last line's place, the number of blocks, and where the last block ends on either side.
+pub struct Ending {
+    pub line: usize,
+    pub count: u64,
+    pub target: u64,
+    pub query: u64,
+}
+
+// All block lines: where they end, or the first refusal.
+pub enum Lines {
+    Ended(Ending),
+    Refused(Refusal),
+}
+
+// The codes of specs/Table.antt's columns.
+const CHAIN: [u8; 13] = [11, 4, 0, 2, 12, 1, 1, 0, 2, 9, 1, 1, 5];
+
+const BLOCK: [u8; 3] = [2, 1, 1];
+
+// The header's number of words (2).
+fn check_head(text: &[u8], n: usize) -> Check
+    ensures { λ r. ⌜ r ≡ headCheck (now (text .entry)) n ⌝ }
+{
+    if 13 < n {
+        let w = text::word_at(text, 0, 13);
+        return Check::Refused(Refusal {
+            reason: Reason::WrongCount,
+            place: w.start,
+        });
+    }
+    if n < 13 {
+        let e = text::line_end(text, 0);
+        return Check::Refused(Refusal {
+            reason: Reason::WrongCount,
+            place: e,
+        });
+    }
+    Check::Holds
+}
+
+// The strand of a letter.
+fn strand_of(v: u64) -> Strand
+    ensures { λ r. ⌜ r ≡ strandIs (strandOf v) ⌝ }
+{
+    if v == 43 {
+        return Strand::Plus;
+    }
+    if v == 45 {
+        return Strand::Minus;
+    }
+    Strand::Dot
+}
+
+// A name by its first byte and length.
+fn part_of(start: u64, length: u64) -> Part
+    ensures { λ r. ⌜ r ≡ partAt start length ⌝ }
+{
+    Part {
+        start: start as usize,
+        length: length as usize,
+    }
+}
+
+// The record of a header, from its columns' values, with so many blocks.
+fn record_of(values: &[u64], count: u64) -> Chain
+    ensures { λ r. ⌜ r ≡ chainRecord (now (values .entry)) count ⌝ }
+{
+    Chain {
+        score: columns::value_at(values, 2),
+        tName: part_of(columns::value_at(values, 5), columns::value_at(values, 4)),
+        tSize: columns::value_at(values, 6),
+        tStart: columns::value_at(values, 10),
+        tEnd: columns::value_at(values, 12),
+        qName: part_of(columns::value_at(values, 15), columns::value_at(values, 14)),
+        qSize: columns::value_at(values, 16),
+        qStrand: strand_of(columns::value_at(values, 18)),
+        qStart: columns::value_at(values, 20),
+        qEnd: columns::value_at(values, 22),
+        id: columns::value_at(values, 24),
+        blockCount: count,
+    }
+}
+
+// start < end ≤ size
+fn span_fits(start: u64, end: u64, size: u64) -> bool
+    ensures { λ r. ⌜ r ≡ spanFits start end size ⌝ }
+{
+    (start < end) & (end <= size)
+}
+
+// The spans (7).
+fn check_spans(r: Chain, values: &[u64]) -> Check
+    ensures { λ x. ⌜ x ≡ spanCheck r (now (values .entry)) ⌝ }
+{
+    if !span_fits(r.tStart, r.tEnd, r.tSize) {
+        let end = columns::value_at(values, 13) as usize;
+        return Check::Refused(Refusal {
+            reason: Reason::SpanDisagrees,
+            place: end,
+        });
+    }
+    if !span_fits(r.qStart, r.qEnd, r.qSize) {
+        let end = columns::value_at(values, 23) as usize;
+        return Check::Refused(Refusal {
+            reason: Reason::SpanDisagrees,
+            place: end,
+        });
+    }
+    Check::Holds
+}
+
+// Whether a block line may have so many words.
+fn is_block_count(n: usize) -> bool
+    ensures { λ r. ⌜ r ≡ isBlockCount n ⌝ }
+{
+    (n == 1) | (n == 3)
+}
+
+// A block line's number of words (2).
+fn check_count(text: &[u8], line: usize, n: usize) -> Check
+    ensures { λ r. ⌜ r ≡ blockWords (now (text .entry)) line n ⌝ }
+{
+    if 3 < n {
+        let w = text::word_at(text, line, 3);
+        return Check::Refused(Refusal {
+            reason: Reason::WrongCount,
+            place: w.start,
+        });
+    }
+    if !is_block_count(n) {
+        let e = text::line_end(text, line);
+        return Check::Refused(Refusal {
+            reason: Reason::WrongCount,
+            place: e,
+        });
+    }
+    Check::Holds
+}
+
+// The block that the values of a line of n words say.
+fn block_of(values: &[u64], n: usize) -> Block
+    ensures { λ r. ⌜ r ≡ blockIs n (now (values .entry)) ⌝ }
+{
+    let size = columns::value_at(values, 0);
+    if n == 1 {
+        return Block::Last(size);
+    }
+    Block::Gap(
+        size,
+        columns::value_at(values, 2),
+        columns::value_at(values, 4),
+    )
+}
+
+// The columns of a block line of n words.
+fn read_numbers(text: &[u8], line: usize, n: usize) -> Block
+    requires { ⌜ LineCounted (now text) line n ⌝ }
+    ensures { λ r. ⌜ NumbersRead (now (text .entry)) line n r ⌝ }
+{
+    let table = BLOCK;
+    let mut values = [0u64; 6];
+    let mut none = [0u64; 0];
+    match columns::read_columns(text, line, &table[..n], &mut values, &mut none) {
+        Columns::Refused(x) => Block::Refused(x),
+        Columns::Next(_) => block_of(&values, n),
+    }
+}
+
+// The block line at a place.
+fn read_block(text: &[u8], line: usize) -> Block
+    ensures { λ r. ⌜ BlockRead (now (text .entry)) line r ⌝ }
+{
+    let n = text::count_words(text, line);
+    match check_count(text, line, n) {
+        Check::Refused(x) => Block::Refused(x),
+        Check::Holds => read_numbers(text, line, n),
+    }
+}
+
+// Stores row i in the working room.
+fn put_row(rows: &mut [u64], i: u64, t: u64, q: u64, z: u64)
+    requires { ⌜ i < blockLimit ⌝ }
+    ensures { λ _. ⌜ now (rows .exit) ≡ set (set (set (now (rows .entry)) i t) (blockLimit + i) q) (2 * blockLimit + i) z ⌝ }
+{
+    let b = ledger::BLOCK_LIMIT as usize;
+    let at = i as usize;
+    numbers::store(rows, at, t);
+    numbers::store(rows, b + at, q);
+    numbers::store(rows, 2 * b + at, z);
+}
+
+// The block lines from the one at a place on, the first block starting at target and query: their rows to the working room.
+fn walk_lines(text: &[u8], from: usize, target: u64, query: u64, rows: &mut [u64]) -> Lines
+    requires { ⌜ Begins target query (now rows) ⌝ }
+    ensures { λ x. ⌜ Walked (now (text .entry)) from target query (now (rows .entry)) (now (rows .exit)) x ⌝ }
+{
+    let mut line = from;
+    let mut t = target;
+    let mut q = query;
+    let mut left = ledger::BLOCK_LIMIT;
+    while line < text.len() {
+        if left == 0 {
+            return Lines::Refused(Refusal {
+                reason: Reason::NoRoom,
+                place: line,
+            });
+        }
+        match read_block(text, line) {
+            Block::Refused(x) => {
+                return Lines::Refused(x);
+            }
+            Block::Last(z) => {
+                put_row(rows, ledger::BLOCK_LIMIT - left, t, q, z);
+                return Lines::Ended(Ending {
+                    line,
+                    count: ledger::BLOCK_LIMIT - (left - 1),
+                    target: t + z,
+                    query: q + z,
+                });
+            }
+            Block::Gap(z, dt, dq) => {
+                put_row(rows, ledger::BLOCK_LIMIT - left, t, q, z);
+                t = t + z + dt;
+                q = q + z + dq;
+                line = text::next_line(text, line);
+            }
+        }
+        left -= 1;
+    }
+    Lines::Refused(Refusal {
+        reason: Reason::WrongCount,
+        place: text.len(),
+    })
+}
+
+// The blocks (9).
+fn check_fill(text: &[u8], r: Chain, e: Ending) -> Check
+    ensures { λ x. ⌜ x ≡ fillCheck (now (text .entry)) r e ⌝ }
+{
+    if (e.target == r.tEnd) & (e.query == r.qEnd) {
+        return Check::Holds;
+    }
+    Check::Refused(Refusal {
+        reason: Reason::BlockRules,
+        place: text.len(),
+    })
+}
+
+// The record, and the blocks.
+fn after_last(text: &[u8], values: &[u64], e: Ending) -> ChainAnswer
+    ensures { λ x. ⌜ x ≡ afterLast (now (text .entry)) (now (values .entry)) e ⌝ }
+{
+    let r = record_of(values, e.count);
+    match check_fill(text, r, e) {
+        Check::Refused(x) => ChainAnswer::Refused(x),
+        Check::Holds => ChainAnswer::Accepted(r),
+    }
+}
+
+// A surplus line, and on.
+fn after_lines(text: &[u8], values: &[u64], e: Ending) -> ChainAnswer
+    ensures { λ x. ⌜ x ≡ afterLines (now (text .entry)) (now (values .entry)) e ⌝ }
+{
+    match text::check_last_line(text, e.line) {
+        Check::Refused(x) => ChainAnswer::Refused(x),
+        Check::Holds => after_last(text, values, e),
+    }
+}
+
+// The block lines from the top, and on.
+fn after_spans(text: &[u8], values: &[u64], rows: &mut [u64]) -> ChainAnswer
+    requires { ⌜ Headed (now values) (now rows) ⌝ }
+    ensures { λ x. ⌜ Staged (now (text .entry)) (afterSpans (now (text .entry)) (now (values .entry))) (now (rows .exit)) x ⌝ }
+{
+    let first = text::next_line(text, 0);
+    let target = columns::value_at(values, 10);
+    let query = columns::value_at(values, 20);
+    match walk_lines(text, first, target, query, rows) {
+        Lines::Refused(x) => ChainAnswer::Refused(x),
+        Lines::Ended(e) => after_lines(text, values, e),
+    }
+}
+
+// The spans, and on.
+fn after_columns(text: &[u8], values: &[u64], rows: &mut [u64]) -> ChainAnswer
+    requires { ⌜ Headed (now values) (now rows) ⌝ }
+    ensures { λ x. ⌜ Staged (now (text .entry)) (afterColumns (now (text .entry)) (now (values .entry))) (now (rows .exit)) x ⌝ }
+{
+    match check_spans(record_of(values, 0), values) {
+        Check::Refused(x) => ChainAnswer::Refused(x),
+        Check::Holds => after_spans(text, values, rows),
+    }
+}
+
+// The header's columns from the left, and on.
+fn after_words(text: &[u8], rows: &mut [u64]) -> ChainAnswer
+    requires { ⌜ Counted (now text) (now rows) ⌝ }
+    ensures { λ x. ⌜ Staged (now (text .entry)) (afterWords (now (text .entry))) (now (rows .exit)) x ⌝ }
+{
+    let table = CHAIN;
+    let mut values = [0u64; 26];
+    let mut none = [0u64; 0];
+    match columns::read_columns(text, 0, &table, &mut values, &mut none) {
+        Columns::Refused(x) => ChainAnswer::Refused(x),
+        Columns::Next(_) => after_columns(text, &values, rows),
+    }
+}
+
+// The header's number of words, and on.
+fn after_text(text: &[u8], rows: &mut [u64]) -> ChainAnswer
+    requires { ⌜ length (now rows) ≡ 3 * blockLimit ⌝ }
+    ensures { λ x. ⌜ Staged (now (text .entry)) (afterText (now (text .entry))) (now (rows .exit)) x ⌝ }
+{
+    let n = text::count_words(text, 0);
+    match check_head(text, n) {
+        Check::Refused(x) => ChainAnswer::Refused(x),
+        Check::Holds => after_words(text, rows),
+    }
+}
+
+// All checks of a text, the rows of an accepted chain in the working room.
+fn stage(text: &[u8], rows: &mut [u64]) -> ChainAnswer
+    requires { ⌜ length (now rows) ≡ 3 * blockLimit ⌝ }
+    ensures { λ x. ⌜ Staged (now (text .entry)) (chainCheck (now (text .entry))) (now (rows .exit)) x ⌝ }
+{
+    match text::check_text(text) {
+        Check::Refused(x) => ChainAnswer::Refused(x),
+        Check::Holds => after_text(text, rows),
+    }
+}
+
+// Working room for the rows of a record: targets, queries, sizes.
+fn working_room() -> [u64; 1536]
+    ensures { λ r. ⌜ length r ≡ 3 * blockLimit ⌝ }
+{
+    [0; 1536]
+}
+
+// THE TEXT CHECKER: what the reader answers, given room.
+pub fn check_chain_text(text: &[u8]) -> ChainAnswer
+    ensures { λ r. ⌜ r ≡ chainCheck (now (text .entry)) ⌝ }
+{
+    let mut rows = working_room();
+    stage(text, &mut rows)
+}
+
+// The room (11), then the rows into the lent slices.
+fn store_rows(
+    text: &[u8],
+    r: Chain,
+    rows: &[u64],
+    targets: &mut [u64],
+    queries: &mut [u64],
+    sizes: &mut [u64],
+) -> ChainAnswer
+    requires { ⌜ Held (now text) r (now rows) ⌝ }
+    ensures { λ x. ⌜ RowsStored (now (text .entry)) r (now (targets .entry)) (now (targets .exit)) (now (queries .entry))
+        (now (queries .exit)) (now (sizes .entry)) (now (sizes .exit)) x ⌝ }
+{
+    let room = blocks::rows_of(targets, queries, sizes);
+    let count = r.blockCount as usize;
+    if room < count {
+        return ChainAnswer::Refused(Refusal {
+            reason: Reason::NoRoom,
+            place: text.len(),
+        });
+    }
+    let b = ledger::BLOCK_LIMIT as usize;
+    let c = 2 * b;
+    blocks::copy_numbers(rows, count, targets);
+    blocks::copy_numbers(&rows[b..], count, queries);
+    blocks::copy_numbers(&rows[c..], count, sizes);
+    ChainAnswer::Accepted(r)
+}
+
+// THE READER: one chain, its blocks to the front of three lent slices. A refusal leaves them as they were, and rows past the
+// blocks stay.
+pub fn read_chain(
+    text: &[u8],
+    targets: &mut [u64],
+    queries: &mut [u64],
+    sizes: &mut [u64],
+) -> ChainAnswer
+    ensures { λ x. ⌜ ChainRead (now (text .entry)) (now (targets .entry)) (now (targets .exit)) (now (queries .entry))
+        (now (queries .exit)) (now (sizes .entry)) (now (sizes .exit)) x ⌝ }
+{
+    let mut rows = working_room();
+    match stage(text, &mut rows) {
+        ChainAnswer::Refused(x) => ChainAnswer::Refused(x),
+        ChainAnswer::Accepted(r) => store_rows(text, r, &rows, targets, queries, sizes),
+    }
+}
+
+fn length_fits(n: usize) -> bool
+    ensures { λ r. ⌜ r ≡ lengthFits n ⌝ }
+{
+    (1 <= n) & (n <= ledger::NAME_LIMIT)
+}
+
+// The two names by their lengths.
+fn names_fit(t: usize, q: usize) -> bool
+    ensures { λ r. ⌜ r ≡ namesFit t q ⌝ }
+{
+    length_fits(t) & length_fits(q)
+}
+
+fn strand_fits(s: Strand) -> bool
+    ensures { λ r. ⌜ r ≡ strandFits s ⌝ }
+{
+    match s {
+        Strand::Plus => true,
+        Strand::Minus => true,
+        Strand::Dot => false,
+    }
+}
+
+fn size_fits(n: u64) -> bool
+    ensures { λ r. ⌜ r ≡ sizeFits n ⌝ }
+{
+    (1 <= n) & (n <= ledger::Position::LARGEST)
+}
+
+// The numbers of the record.
+fn fields_fit(r: Chain) -> bool
+    ensures { λ x. ⌜ x ≡ fieldsFit r ⌝ }
+{
+    let most = ledger::Position::LARGEST;
+    (r.score <= ledger::CHAIN_SCORE_LIMIT)
+        & (size_fits(r.tSize)
+            & ((r.tStart <= most)
+                & ((r.tEnd <= most)
+                    & (size_fits(r.qSize)
+                        & ((r.qStart <= most)
+                            & ((r.qEnd <= most) & (r.id <= ledger::CHAIN_ID_LIMIT)))))))
+}
+
+// The numbers of the used rows.
+fn row_numbers_fit(targets: &[u64], queries: &[u64], sizes: &[u64], count: usize) -> bool
+    ensures { λ x. ⌜ x ≡ rowNumbersFit (take count (now (targets .entry))) (take count (now (queries .entry))) (take count (now
+        (sizes .entry))) ⌝ }
+{
+    let most = ledger::Position::LARGEST;
+    blocks::all_between(targets, count, 0, most)
+        & (blocks::all_between(queries, count, 0, most)
+            & blocks::all_between(sizes, count, 1, most))
+}
+
+fn spans_fit(r: Chain) -> bool
+    ensures { λ x. ⌜ x ≡ spansFit r ⌝ }
+{
+    span_fits(r.tStart, r.tEnd, r.tSize) & span_fits(r.qStart, r.qEnd, r.qSize)
+}
+
+// The blocks of the used rows.
+fn rows_fit(r: Chain, targets: &[u64], queries: &[u64], sizes: &[u64], count: usize) -> bool
+    ensures { λ x. ⌜ x ≡ rowsFit r (take count (now (targets .entry))) (take count (now (queries .entry))) (take count (now
+        (sizes .entry))) ⌝ }
+{
+    blocks::blocks_fill(targets, sizes, count, r.tStart, r.tEnd)
+        & blocks::blocks_fill(queries, sizes, count, r.qStart, r.qEnd)
+}
+
+// All rules of a record with its rows.
+fn record_fits(r: Chain, targets: &[u64], queries: &[u64], sizes: &[u64]) -> bool
+    ensures { λ x. ⌜ x ≡ chainValid r (now (targets .entry)) (now (queries .entry)) (now (sizes .entry)) ⌝ }
+{
+    let rows = blocks::rows_of(targets, queries, sizes);
+    let count = r.blockCount as usize;
+    let strand = r.qStrand;
+    blocks::count_fits(r.blockCount, rows)
+        & (names_fit(r.tName.length, r.qName.length)
+            & (strand_fits(strand)
+                & (fields_fit(r)
+                    & (row_numbers_fit(targets, queries, sizes, count)
+                        & (spans_fit(r) & rows_fit(r, targets, queries, sizes, count))))))
+}
+
+// THE RECORD CHECKER: a record with the first blockCount rows of three slices; any breach is 9.
+pub fn check_chain(r: Chain, targets: &[u64], queries: &[u64], sizes: &[u64]) -> Check
+    ensures { λ x. ⌜ x ≡ recordCheck r (now (targets .entry)) (now (queries .entry)) (now (sizes .entry)) ⌝ }
+{
+    if record_fits(r, targets, queries, sizes) {
+        return Check::Holds;
+    }
+    Check::Refused(Refusal {
+        reason: Reason::BlockRules,
+        place: 0,
+    })
+}
+
+// Whether all bytes of a name show.
+fn all_graphic(w: &[u8]) -> bool
+    ensures { λ r. ⌜ r ≡ allGraphic (now (w .entry)) ⌝ }
+{
+    w.len() <= text::scan(w, 0, Class::Graphic)
+}
+
+// The names that are handed in.
+fn names_show(tName: &[u8], qName: &[u8]) -> bool
+    ensures { λ x. ⌜ x ≡ namesShow (now (tName .entry)) (now (qName .entry)) ⌝ }
+{
+    names_fit(tName.len(), qName.len()) & (all_graphic(tName) & all_graphic(qName))
+}
+
+// Where a test holds, the rest; else a refusal at place 0.
+fn or_refuse(test: bool, reason: Reason, rest: Check) -> Check
+    ensures { λ x. ⌜ x ≡ require test reason 0 rest ⌝ }
+{
+    if test {
+        return rest;
+    }
+    Check::Refused(Refusal { reason, place: 0 })
+}
+
+// The writers' refusals in their order.
+fn check_write(
+    r: Chain,
+    tName: &[u8],
+    qName: &[u8],
+    targets: &[u64],
+    queries: &[u64],
+    sizes: &[u64],
+) -> Check
+    ensures { λ x. ⌜ x ≡ writeCheck r (now (tName .entry)) (now (qName .entry)) (now (targets .entry)) (now (queries .entry))
+        (now (sizes .entry)) ⌝ }
+{
+    let count = r.blockCount as usize;
+    let rows = blocks::rows_of(targets, queries, sizes);
+    let strand = r.qStrand;
+    let blocks = or_refuse(
+        rows_fit(r, targets, queries, sizes, count),
+        Reason::BlockRules,
+        Check::Holds,
+    );
+    let spans = or_refuse(spans_fit(r), Reason::SpanDisagrees, blocks);
+    let numbers = or_refuse(
+        fields_fit(r) & row_numbers_fit(targets, queries, sizes, count),
+        Reason::NumberOutOfRange,
+        spans,
+    );
+    let words = or_refuse(
+        names_show(tName, qName) & strand_fits(strand),
+        Reason::BadWord,
+        numbers,
+    );
+    or_refuse(
+        blocks::count_fits(r.blockCount, rows),
+        Reason::BlockRules,
+        words,
+    )
+}
+
+// A header's columns as the line writer takes them: the names stand one after the other in their own text.
+fn values_of(r: Chain, tName: usize, qName: usize) -> [u64; 26]
+    ensures { λ x. ⌜ x ≡ chainValues r tName qName ⌝ }
+{
+    let strand = r.qStrand;
+    let letter = strand.letter() as u64;
+    [
+        0,
+        0,
+        r.score,
+        0,
+        tName as u64,
+        0,
+        r.tSize,
+        0,
+        0,
+        0,
+        r.tStart,
+        0,
+        r.tEnd,
+        0,
+        qName as u64,
+        ledger::NAME_LIMIT as u64,
+        r.qSize,
+        0,
+        letter,
+        0,
+        r.qStart,
+        0,
+        r.qEnd,
+        0,
+        r.id,
+        0,
+    ]
+}
+
+// The names one after the other, in a text of their own.
+fn put_names(tName: &[u8], qName: &[u8], names: &mut [u8])
+    requires { ⌜ NamesShort (now tName) (now qName) (now names) ⌝ }
+    ensures { λ _. ⌜ NamesPut (now (tName .entry)) (now (qName .entry)) (now (names .exit)) ⌝ }
+{
+    writing::put_bytes(names, 0, tName);
+    writing::put_bytes(names, ledger::NAME_LIMIT, qName);
+}
+
+// Room for two names.
+fn name_room() -> [u8; 128]
+    ensures { λ r. ⌜ length r ≡ 2 * nameLimit ⌝ }
+{
+    [0; 128]
+}
+
+// From the end of a block to the next one's start; 0 where that lies before it.
+fn gap_to(a: u64, z: u64, next: u64) -> u64
+    ensures { λ r. ⌜ r ≡ gapTo a z next ⌝ }
+{
+    if next < a {
+        return 0;
+    }
+    if next - a < z {
+        return 0;
+    }
+    next - a - z
+}
+
+// A block line of 3 words, or of 1.
+fn put_block(buf: &mut [u8], at: usize, n: usize, z: u64, dt: u64, dq: u64) -> usize
+    requires { ⌜ n ≤ 3 ⌝ }
+    ensures { λ r. ⌜ Put (fedLine (take n blockColumns) 32 [] (z ∷ 0 ∷ dt ∷ 0 ∷ dq ∷ 0 ∷ []) []) at (now (buf .entry))
+        (now (buf .exit)) r ⌝ }
+{
+    let table = BLOCK;
+    let values = [z, 0, dt, 0, dq, 0];
+    let names = [0u8; 0];
+    let lists = [0u64; 0];
+    columns::put_line(buf, at, &table[..n], b' ', &names, &values, &lists)
+}
+
+// The line of row i, before another.
+fn put_gap(
+    buf: &mut [u8],
+    at: usize,
+    i: usize,
+    targets: &[u64],
+    queries: &[u64],
+    sizes: &[u64],
+) -> usize
+    requires { ⌜ i < blockLimit ⌝ }
+    ensures { λ r. ⌜ Put (fedWords (gapWords i (now (targets .entry)) (now (queries .entry)) (now (sizes .entry)))) at (now (buf .entry))
+        (now (buf .exit)) r ⌝ }
+{
+    let z = columns::value_at(sizes, i);
+    let dt = gap_to(
+        columns::value_at(targets, i),
+        z,
+        columns::value_at(targets, i + 1),
+    );
+    let dq = gap_to(
+        columns::value_at(queries, i),
+        z,
+        columns::value_at(queries, i + 1),
+    );
+    put_block(buf, at, 3, z, dt, dq)
+}
+
+// The lines of the first so many rows.
+fn put_blocks(
+    buf: &mut [u8],
+    at: usize,
+    count: usize,
+    targets: &[u64],
+    queries: &[u64],
+    sizes: &[u64],
+) -> usize
+    requires { ⌜ RowsThere count (now targets) (now queries) (now sizes) ⌝ }
+    ensures { λ r. ⌜ Put (blockText (count - 1) 0 (now (targets .entry)) (now (queries .entry)) (now (sizes .entry))) at (now (buf .entry))
+        (now (buf .exit)) r ⌝ }
+{
+    let last = count - 1;
+    let mut p = at;
+    let mut i = 0;
+    while i < last {
+        p = put_gap(buf, p, i, targets, queries, sizes);
+        i += 1;
+    }
+    put_block(buf, p, 1, columns::value_at(sizes, last), 0, 0)
+}
+
+// The header's line, then the block lines.
+fn put_text(
+    buf: &mut [u8],
+    names: &[u8],
+    values: &[u64],
+    count: usize,
+    targets: &[u64],
+    queries: &[u64],
+    sizes: &[u64],
+) -> usize
+    requires { ⌜ RowsThere count (now targets) (now queries) (now sizes) ⌝ }
+    ensures { λ r. ⌜ Put (textOf (now (names .entry)) (now (values .entry)) count (now (targets .entry)) (now (queries .entry))
+        (now (sizes .entry))) 0 (now (buf .entry)) (now (buf .exit)) r ⌝ }
+{
+    let table = CHAIN;
+    let lists = [0u64; 0];
+    let p = columns::put_line(buf, 0, &table, b' ', names, values, &lists);
+    put_blocks(buf, p, count, targets, queries, sizes)
+}
+
+// Writes the lines to the front of a buffer: a text over the text limit is refused (1), then one over the room (11).
+fn write_lines(
+    buf: &mut [u8],
+    names: &[u8],
+    values: &[u64],
+    count: usize,
+    targets: &[u64],
+    queries: &[u64],
+    sizes: &[u64],
+) -> Writing
+    requires { ⌜ RowsThere count (now targets) (now queries) (now sizes) ⌝ }
+    ensures { λ r. ⌜ Wrote (textOf (now (names .entry)) (now (values .entry)) count (now (targets .entry)) (now (queries .entry))
+        (now (sizes .entry))) (now (buf .entry)) (now (buf .exit)) r ⌝ }
+{
+    let mut none = [0u8; 0];
+    let n = put_text(&mut none, names, values, count, targets, queries, sizes);
+    match writing::room_for(n, buf.len()) {
+        Writing::Refused(x) => Writing::Refused(x),
+        Writing::Written(_) => Writing::Written(put_text(
+            buf,
+            names,
+            values,
+            count,
+            targets,
+            queries,
+            sizes,
+        )),
+    }
+}
+
+// Writes the standard text of a record that passed the checks.
+fn write_text(
+    r: Chain,
+    tName: &[u8],
+    qName: &[u8],
+    targets: &[u64],
+    queries: &[u64],
+    sizes: &[u64],
+    buf: &mut [u8],
+) -> Writing
+    requires { ⌜ Writable r (now tName) (now qName) (now targets) (now queries) (now sizes) ⌝ }
+    ensures { λ x. ⌜ Wrote (chainText r (now (tName .entry)) (now (qName .entry)) (now (targets .entry)) (now (queries .entry))
+        (now (sizes .entry))) (now (buf .entry)) (now (buf .exit)) x ⌝ }
+{
+    let mut names = name_room();
+    put_names(tName, qName, &mut names);
+    let values = values_of(r, tName.len(), qName.len());
+    let count = r.blockCount as usize;
+    write_lines(buf, &names, &values, count, targets, queries, sizes)
+}
+
+// THE WRITER: a record with its names and rows to the front of a buffer, or the first refusal in the writers' order, which
+// leaves the buffer.
+pub fn write_chain(
+    r: Chain,
+    tName: &[u8],
+    qName: &[u8],
+    targets: &[u64],
+    queries: &[u64],
+    sizes: &[u64],
+    buf: &mut [u8],
+) -> Writing
+    ensures { λ x. ⌜ ChainWrote r (now (tName .entry)) (now (qName .entry)) (now (targets .entry)) (now (queries .entry))
+        (now (sizes .entry)) (now (buf .entry)) (now (buf .exit)) x ⌝ }
+{
+    match check_write(r, tName, qName, targets, queries, sizes) {
+        Check::Refused(x) => Writing::Refused(x),
+        Check::Holds => write_text(r, tName, qName, targets, queries, sizes, buf),
+    }
+}
