@@ -1,0 +1,328 @@
+-- A text is accepted exactly when it is a PSL line, and then with the record that it says. Assumes nothing.
+use mathlib.Core.Path.{_≡_, refl, sym, ap, _∙_}
+use mathlib.Core.Bool.{Bool, true, false, _&&_, _||_}
+use mathlib.Core.List.{List, [], _∷_}
+use Prim.Native.Nat.{ℕ, _+_, _-_, _*_, _≤_, _<_}
+use native.Mathlib.Omega.{arith}
+use lib.ListN.{length, getD, drop, length-take}
+use lib.Dec.{leb, eqb}
+use borrow.Author.Tests.{eqb-true}
+use Rattle.ledger.specs.declared.Part.{Part}
+use Rattle.ledger.specs.declared.Strand.{Strand}
+use Rattle.ledger.specs.Strands.{strandOf, strandLetter, strandIs}
+use Rattle.ledger.specs.Parts.{partAt}
+use Rattle.ledger.proofs.Laws.{strand-of-letter}
+use Rattle.text.specs.declared.Class.the-variants.{Word}
+use Rattle.text.specs.declared.Check.the-variants.{Holds}
+use Rattle.text.specs.Scan.{run, endOf}
+use Rattle.text.specs.Words.{wordAt, bytesOf}
+use Rattle.text.proofs.Laws.{word-ends}
+use Rattle.text.proofs.TextLaws.{both}
+use Rattle.text.proofs.CheckLaws.{run-most, require-holds}
+use Rattle.text.proofs.PieceLaws.{word-bytes}
+use Rattle.numbers.specs.declared.Spelt.the-variants.{Means}
+use Rattle.numbers.specs.Ranges.{Between}
+use Rattle.numbers.specs.Lists.{valuesOf}
+use Rattle.kinds.specs.declared.Range.{Range}
+use Rattle.kinds.specs.declared.Range.the-variants.{Coordinate, Size}
+use Rattle.kinds.specs.declared.Kind.the-variants.{Name, Items}
+use Rattle.kinds.specs.Kinds.{leastOf, mostOf, spelt, isStrand}
+use Rattle.kinds.proofs.RangeLaws.{name-spelt, strand-spelt, items-spelt}
+use Rattle.columns.specs.declared.Columns.{Columns}
+use Rattle.columns.specs.declared.Columns.the-variants.{Next}
+use Rattle.columns.specs.declared.Columns.the-variants as columns
+use Rattle.columns.specs.Columns.{valuesFrom}
+use Rattle.columns.specs.Spells.{firsts}
+use Rattle.columns.specs.Places.{kindAt, countBefore}
+use Rattle.columns.specs.OneLine.{lineRead, OneLine}
+use Rattle.columns.proofs.SpellsLaws.{columns-spell, place-is}
+use Rattle.columns.proofs.PlaceLaws.{spelt-at, value-first, value-second}
+use Rattle.columns.proofs.OneLineLaws.{line-found, one-line-of, LineIs, one-line-is}
+use Rattle.blocks.specs.Blocks.{blocksFill}
+use Rattle.blocks.specs.Rules.{Fills}
+use Rattle.blocks.proofs.RuleLaws.{fills-of, fills-is}
+use Rattle.psl.specs.declared.Counts.{Counts}
+use Rattle.psl.specs.declared.Side.{Side}
+use Rattle.psl.specs.declared.Psl.{Psl}
+use Rattle.psl.specs.declared.PslAnswer.{PslAnswer}
+use Rattle.psl.specs.declared.PslAnswer.the-variants.{Accepted, Refused}
+use Rattle.psl.specs.Table.{pslColumns}
+use Rattle.psl.specs.Records.{countsOf, sideOf, pslRecord, pslSizes, pslQueries, pslTargets}
+use Rattle.psl.specs.Rows.{spanFits, firstOn, lastOn, rowsFit, countsFit}
+use Rattle.psl.specs.Read.{spanCheck, rowCheck, thenLine, thenCheck, afterSpans, afterLine, pslCheck}
+use Rattle.psl.specs.Rules.{partOf, SideSays, SpanIn, CountRules, PslLine}
+use Rattle.psl.proofs.ColumnLaws.{check-then, accepted-record}
+use Rattle.psl.proofs.RuleLaws.{and-i, span-of, span-is, counts-of, counts-is}
+
+-- the values of a line: two numbers for each of its words
+abbrev pub lineValues : List ℕ → List ℕ
+lineValues s = valuesFrom pslColumns 0 s 0
+
+-- what the row of checks found of a line that is accepted with the record r
+pub record Accepts (s : List ℕ) (r : Psl) : Type 0 where
+  pub end : ℕ
+  pub read : lineRead pslColumns s ≡ Next end
+  pub is : r ≡ pslRecord (lineValues s)
+  pub spans : spanCheck r (lineValues s) ≡ Holds
+  pub rows : rowCheck s r ≡ Holds
+
+record Went (c : Columns) (rest : PslAnswer) (r : Psl) : Type 0 where
+  end : ℕ
+  read : c ≡ Next end
+  on : rest ≡ Accepted r
+
+line-then : (c : Columns) (rest : PslAnswer) (r : Psl) → thenLine c rest ≡ Accepted r → Went c rest r
+line-then (Next n) rest r e = record { end = n; read = refl; on = e }
+line-then (columns.Refused x) rest r e = absurd (let z : _≡_ {A = ℕ} 0 1 = cc in omega arith)
+
+module _ (s : List ℕ) (r : Psl) where
+  pub accepts-of : pslCheck s ≡ Accepted r → Accepts s r
+  unfolding pslCheck afterLine afterSpans
+  accepts-of e =
+      let vs = lineValues s in
+      let a = line-then (lineRead pslColumns s) (afterLine s vs) r e in
+      let i = accepted-record s vs r (a .on) in
+      let b = check-then (spanCheck (pslRecord vs) vs) (afterSpans s (pslRecord vs)) r (a .on) in
+      let c = check-then (rowCheck s (pslRecord vs)) (Accepted (pslRecord vs)) r (b .1) in
+      record { end = a .end; read = a .read; is = sym i; spans = rw i at (b .0); rows = rw i at (c .0) }
+
+  pub accepts-is : Accepts s r → pslCheck s ≡ Accepted r
+  unfolding pslCheck afterLine afterSpans
+  accepts-is a = rw (a .read, ← (a .is), a .spans, a .rows)
+
+-- the checks one by one
+module _ (r : Psl) (vs : List ℕ) where
+  spans-of : spanCheck r vs ≡ Holds → SpanIn (r .query) × SpanIn (r .target)
+  unfolding spanCheck
+  spans-of e =
+      let a = require-holds (spanFits (r .query)) _ _ e in
+      let b = require-holds (spanFits (r .target)) _ _ (a .1) in
+      (span-of (r .query) (a .0), span-of (r .target) (b .0))
+
+  spans-is : SpanIn (r .query) → SpanIn (r .target) → spanCheck r vs ≡ Holds
+  unfolding spanCheck
+  spans-is a b = rw (span-is (r .query) a, span-is (r .target) b)
+
+-- the rules of the rows, one by one
+record RowsHold (s : List ℕ) (r : Psl) : Type 0 where
+  targets : Fills (r .target .start) (r .target .end) (r .blockCount) (pslTargets s) (pslSizes s)
+  queries : Fills (firstOn (r .strand) (r .query)) (lastOn (r .strand) (r .query)) (r .blockCount) (pslQueries s) (pslSizes s)
+  counts : CountRules (r .counts) (pslTargets s) (pslQueries s) (pslSizes s)
+
+module _ (s : List ℕ) (r : Psl) (lt : length (pslTargets s) ≡ r .blockCount) (lq : length (pslQueries s) ≡ r .blockCount) (lz : length (pslSizes s) ≡ r .blockCount) where
+  rows-of : rowCheck s r ≡ Holds → RowsHold s r
+  unfolding rowCheck rowsFit
+  rows-of e =
+      let a = require-holds (rowsFit r (pslTargets s) (pslQueries s) (pslSizes s)) _ _ e in
+      let b = require-holds (countsFit (r .counts) (pslTargets s) (pslQueries s) (pslSizes s)) _ _ (a .1) in
+      let c = both (blocksFill (r .target .start) (r .target .end) (pslTargets s) (pslSizes s)) _ (a .0) in
+      record {
+        targets = fills-of _ _ (r .blockCount) (pslTargets s) (pslSizes s) lt lz (c .0);
+        queries = fills-of _ _ (r .blockCount) (pslQueries s) (pslSizes s) lq lz (c .1);
+        counts = counts-of (r .counts) (pslTargets s) (pslQueries s) (pslSizes s) (b .0);
+      }
+
+  rows-fit : RowsHold s r → rowsFit r (pslTargets s) (pslQueries s) (pslSizes s) ≡ true
+  unfolding rowsFit
+  rows-fit h = and-i _ _ (fills-is _ _ (r .blockCount) (pslTargets s) (pslSizes s) lt lz (h .targets)) (fills-is _ _ (r .blockCount) (pslQueries s) (pslSizes s) lq lz (h .queries))
+
+  rows-is : RowsHold s r → rowCheck s r ≡ Holds
+  unfolding rowCheck
+  rows-is h = rw (rows-fit h, counts-is (r .counts) (pslTargets s) (pslQueries s) (pslSizes s) (h .counts))
+
+-- a word's bytes are as many as its extent says
+pub word-length : (s : List ℕ) (k : ℕ) → length (bytesOf s (wordAt s 0 k)) ≡ wordAt s 0 k .end - wordAt s 0 k .start
+unfolding bytesOf endOf
+word-length s k =
+    let w = wordAt s 0 k in
+    let a : w .end ≡ w .start + run Word (drop (w .start) s) = word-ends s 0 k in
+    let b = run-most Word (drop (w .start) s) in
+    rw length-take (omega arith)
+
+-- the columns of a line that is read, by their numbers
+module _ (s : List ℕ) (e : ℕ) (found : lineRead pslColumns s ≡ Next e) where
+  module _ (k : ℕ) (h : k < 21) where
+    -- word k spells value k
+    pub value-spelt : spelt (kindAt pslColumns k) (countBefore pslColumns 0 (firsts (lineValues s)) 0 k) (bytesOf s (wordAt s 0 k)) ≡ Means (getD (lineValues s) (2 * k) 0)
+    unfolding pslColumns
+    value-spelt =
+        let f = line-found pslColumns s e found in
+        let p = spelt-at (columns-spell pslColumns 0 s 0 e (f .count) (f .read)) k h in
+        rw (word-bytes s 0 k, ← value-first (lineValues s) k) p
+
+    -- and stands at place k
+    pub place-spelt : getD (lineValues s) (2 * k + 1) 0 ≡ wordAt s 0 k .start
+    unfolding pslColumns
+    place-spelt = sym (value-second (lineValues s) k) ∙ place-is pslColumns 0 s 0 e (line-found pslColumns s e found .read) k h
+
+    pub name-part : kindAt pslColumns k ≡ Name → partAt (getD (lineValues s) (2 * k + 1) 0) (getD (lineValues s) (2 * k) 0) ≡ partOf (wordAt s 0 k)
+    name-part q =
+        let p = name-spelt _ (bytesOf s (wordAt s 0 k)) (getD (lineValues s) (2 * k) 0) (rw q at value-spelt) in
+        let v : getD (lineValues s) (2 * k) 0 ≡ wordAt s 0 k .end - wordAt s 0 k .start = p .0 ∙ word-length s k in
+        rw (place-spelt, v)
+
+  -- the strand's letter
+  pub letter-told : isStrand false (getD (lineValues s) 16 0 ∷ []) ≡ true
+  unfolding pslColumns
+  letter-told = strand-spelt false _ (bytesOf s (wordAt s 0 8)) (getD (lineValues s) 16 0) (value-spelt 8 (omega arith)) .0
+
+  -- a list: its numbers in their range, as many as blockCount says
+  pub sizes-are : Between (leastOf Size) (mostOf Size) (pslSizes s) × (length (pslSizes s) ≡ getD (lineValues s) 34 0)
+  unfolding pslColumns pslSizes
+  sizes-are =
+      let c = items-spelt Size (getD (firsts (lineValues s)) 17 0) (bytesOf s (wordAt s 0 18)) (getD (lineValues s) 36 0) (value-spelt 18 (omega arith)) in
+      (c .1, c .2 ∙ value-first (lineValues s) 17)
+
+  pub queries-are : Between (leastOf Coordinate) (mostOf Coordinate) (pslQueries s) × (length (pslQueries s) ≡ getD (lineValues s) 34 0)
+  unfolding pslColumns pslQueries
+  queries-are =
+      let c = items-spelt Coordinate (getD (firsts (lineValues s)) 17 0) (bytesOf s (wordAt s 0 19)) (getD (lineValues s) 38 0) (value-spelt 19 (omega arith)) in
+      (c .1, c .2 ∙ value-first (lineValues s) 17)
+
+  pub targets-are : Between (leastOf Coordinate) (mostOf Coordinate) (pslTargets s) × (length (pslTargets s) ≡ getD (lineValues s) 34 0)
+  unfolding pslColumns pslTargets
+  targets-are =
+      let c = items-spelt Coordinate (getD (firsts (lineValues s)) 17 0) (bytesOf s (wordAt s 0 20)) (getD (lineValues s) 40 0) (value-spelt 20 (omega arith)) in
+      (c .1, c .2 ∙ value-first (lineValues s) 17)
+
+-- a strand is read from its letter, and a letter from its strand
+strand-is : (t : Strand) (v : ℕ) → strandLetter t ≡ v → t ≡ strandIs (strandOf v)
+strand-is t v e = rw (← e, strand-of-letter t)
+
+letter-is : (v : ℕ) → isStrand false (v ∷ []) ≡ true → strandLetter (strandIs (strandOf v)) ≡ v
+letter-is v h = go (eqb v 43) (eqb v 45) refl refl h
+  where
+    go : (x y : Bool) → eqb v 43 ≡ x → eqb v 45 ≡ y → (x || (y || false)) ≡ true → strandLetter (strandIs (strandOf v)) ≡ v
+    go true y e f k = rw e (sym (eqb-true v 43 e))
+    go false true e f k = rw (e, f) (sym (eqb-true v 45 f))
+    go false false e f k = absurd (let q : _≡_ {A = ℕ} 0 1 = cc in omega arith)
+
+-- two records with the same fields are the same
+counts-same : (c d : Counts) → c .matches ≡ d .matches → c .misMatches ≡ d .misMatches → c .repMatches ≡ d .repMatches → c .nCount ≡ d .nCount → c .qNumInsert ≡ d .qNumInsert → c .qBaseInsert ≡ d .qBaseInsert → c .tNumInsert ≡ d .tNumInsert → c .tBaseInsert ≡ d .tBaseInsert → c ≡ d
+counts-same c d e f g h i j k l =
+    let z : _≡_ {A = Counts} (record {
+      matches = c .matches;
+      misMatches = c .misMatches;
+      repMatches = c .repMatches;
+      nCount = c .nCount;
+      qNumInsert = c .qNumInsert;
+      qBaseInsert = c .qBaseInsert;
+      tNumInsert = c .tNumInsert;
+      tBaseInsert = c .tBaseInsert;
+    }) d = rw (e, f, g, h, i, j, k, l) in
+    z
+
+side-same : (x y : Side) → x .name ≡ y .name → x .size ≡ y .size → x .start ≡ y .start → x .end ≡ y .end → x ≡ y
+side-same x y e f g h =
+    let z : _≡_ {A = Side} (record { name = x .name; size = x .size; start = x .start; end = x .end }) y = rw (e, f, g, h) in
+    z
+
+psl-same : (r q : Psl) → r .counts ≡ q .counts → r .strand ≡ q .strand → r .query ≡ q .query → r .target ≡ q .target → r .blockCount ≡ q .blockCount → r ≡ q
+psl-same r q e f g h i =
+    let z : _≡_ {A = Psl} (record { counts = r .counts; strand = r .strand; query = r .query; target = r .target; blockCount = r .blockCount }) q = rw (e, f, g, h, i) in
+    z
+
+-- an accepted line is a PSL line that says its record
+module _ (s : List ℕ) (r : Psl) (ok : pslCheck s ≡ Accepted r) where
+  abbrev a : Accepts s r
+  a = accepts-of s r ok
+
+  abbrev us : List ℕ
+  us = lineValues s
+
+  first-at : (k : ℕ) → getD us (2 * k) 0 ≡ getD (firsts us) k 0
+  first-at k = sym (value-first us k)
+
+  count-is : r .blockCount ≡ getD us 34 0
+  unfolding pslRecord
+  count-is = rw (a .is)
+
+  query-says : SideSays s (firsts us) 9 (sideOf us 9)
+  unfolding sideOf pslColumns
+  query-says = record { name = name-part s (a .end) (a .read) 9 (omega arith) refl; size = first-at 10; start = first-at 11; end = first-at 12 }
+
+  target-says : SideSays s (firsts us) 13 (sideOf us 13)
+  unfolding sideOf pslColumns
+  target-says = record { name = name-part s (a .end) (a .read) 13 (omega arith) refl; size = first-at 14; start = first-at 15; end = first-at 16 }
+
+  pub accepted-targets : length (pslTargets s) ≡ r .blockCount
+  accepted-targets = targets-are s (a .end) (a .read) .1 ∙ sym count-is
+
+  pub accepted-queries : length (pslQueries s) ≡ r .blockCount
+  accepted-queries = queries-are s (a .end) (a .read) .1 ∙ sym count-is
+
+  pub accepted-sizes : length (pslSizes s) ≡ r .blockCount
+  accepted-sizes = sizes-are s (a .end) (a .read) .1 ∙ sym count-is
+
+  some-columns : 1 ≤ length pslColumns
+  unfolding pslColumns
+  some-columns = omega arith
+
+  pub line-of : PslLine s (firsts (valuesFrom pslColumns 0 s 0)) r
+  unfolding pslRecord countsOf
+  line-of =
+      let i = a .is in
+      let spans = spans-of r us (a .spans) in
+      let rows = rows-of s r accepted-targets accepted-queries accepted-sizes (a .rows) in
+      record {
+        line = one-line-of pslColumns s (a .end) some-columns (a .read);
+        matches = rw i (first-at 0);
+        misMatches = rw i (first-at 1);
+        repMatches = rw i (first-at 2);
+        nCount = rw i (first-at 3);
+        qNumInsert = rw i (first-at 4);
+        qBaseInsert = rw i (first-at 5);
+        tNumInsert = rw i (first-at 6);
+        tBaseInsert = rw i (first-at 7);
+        strand = rw i (letter-is (getD us 16 0) (letter-told s (a .end) (a .read)) ∙ first-at 8);
+        query = rw i query-says;
+        target = rw i target-says;
+        blockCount = rw i (first-at 17);
+        querySpan = spans .0;
+        targetSpan = spans .1;
+        targetBlocks = rows .targets;
+        queryBlocks = rows .queries;
+        counts = rows .counts;
+      }
+
+-- and a PSL line is accepted, with the record that it says
+module _ (s : List ℕ) (r : Psl) (vs : List ℕ) (line : PslLine s vs r) where
+  reads : LineIs pslColumns s vs
+  reads = one-line-is pslColumns s vs (line .line)
+
+  value-at : (k : ℕ) → getD vs k 0 ≡ getD (lineValues s) (2 * k) 0
+  value-at k = sym (ap (λ (l : List ℕ). getD l k 0) (reads .values)) ∙ value-first (lineValues s) k
+
+  part-at : (k : ℕ) → k < 21 → kindAt pslColumns k ≡ Name → partOf (wordAt s 0 k) ≡ partAt (getD (lineValues s) (2 * k + 1) 0) (getD (lineValues s) (2 * k) 0)
+  part-at k h q = sym (name-part s (reads .end) (reads .read) k h q)
+
+  said : r ≡ pslRecord (lineValues s)
+  unfolding pslRecord countsOf sideOf pslColumns
+  said =
+      let us = lineValues s in
+      let x = line .query in
+      let y = line .target in
+      psl-same r (pslRecord us)
+      (counts-same (r .counts) (countsOf us) (line .matches ∙ value-at 0) (line .misMatches ∙ value-at 1) (line .repMatches ∙ value-at 2) (line .nCount ∙ value-at 3) (line .qNumInsert ∙ value-at 4) (line .qBaseInsert ∙ value-at 5)
+      (line .tNumInsert ∙ value-at 6) (line .tBaseInsert ∙ value-at 7))
+      (strand-is (r .strand) (getD us 16 0) (line .strand ∙ value-at 8))
+      (side-same (r .query) (sideOf us 9) (x .name ∙ part-at 9 (omega arith) refl) (x .size ∙ value-at 10) (x .start ∙ value-at 11) (x .end ∙ value-at 12))
+      (side-same (r .target) (sideOf us 13) (y .name ∙ part-at 13 (omega arith) refl) (y .size ∙ value-at 14) (y .start ∙ value-at 15) (y .end ∙ value-at 16))
+      (line .blockCount ∙ value-at 17)
+
+  line-accepts : Accepts s r
+  line-accepts =
+      let n : r .blockCount ≡ getD (lineValues s) 34 0 = line .blockCount ∙ value-at 17 in
+      let lt : length (pslTargets s) ≡ r .blockCount = targets-are s (reads .end) (reads .read) .1 ∙ sym n in
+      let lq : length (pslQueries s) ≡ r .blockCount = queries-are s (reads .end) (reads .read) .1 ∙ sym n in
+      let lz : length (pslSizes s) ≡ r .blockCount = sizes-are s (reads .end) (reads .read) .1 ∙ sym n in
+      record {
+        end = reads .end;
+        read = reads .read;
+        is = said;
+        spans = spans-is r (lineValues s) (line .querySpan) (line .targetSpan);
+        rows = rows-is s r lt lq lz (record { targets = line .targetBlocks; queries = line .queryBlocks; counts = line .counts });
+      }
+
+pub line-is : (s : List ℕ) (r : Psl) (vs : List ℕ) → PslLine s vs r → pslCheck s ≡ Accepted r
+line-is s r vs line = accepts-is s r (line-accepts s r vs line)

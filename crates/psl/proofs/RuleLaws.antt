@@ -1,0 +1,179 @@
+-- The test of a PSL record with its rows and the rules stated one by one say the same. Assumes nothing.
+use mathlib.Core.Path.{_≡_, refl}
+use mathlib.Core.Bool.{Bool, true, false, _&&_}
+use mathlib.Core.List.{List}
+use Prim.Native.Nat.{ℕ, _+_, _≤_, _<_}
+use native.Mathlib.Omega.{arith}
+use lib.ListN.{length, take}
+use lib.Seq.{length-take-le}
+use lib.Dec.{leb, ltb, eqb}
+use borrow.Author.Tests.{leb-true, ltb-true, eqb-true, le-leb, lt-ltb, eq-eqb}
+use Rattle.ledger.specs.declared.Strand.{Strand}
+use Rattle.ledger.specs.declared.Strand.the-variants.{Plus, Minus, Dot}
+use Rattle.ledger.specs.Limits.{blockLimit, nameLimit, largestPosition}
+use Rattle.text.proofs.TextLaws.{both}
+use Rattle.blocks.specs.Blocks.{countFits, rowsOf, sumOf, gapCount, gapBases}
+use Rattle.blocks.proofs.RuleLaws.{fills-of, fills-is, ranged-of, ranged-is}
+use Rattle.blocks.proofs.TakeLaws.{fills-take, fills-back, ranged-take, ranged-back}
+use Rattle.psl.specs.declared.Counts.{Counts}
+use Rattle.psl.specs.declared.Side.{Side}
+use Rattle.psl.specs.declared.Psl.{Psl}
+use Rattle.psl.specs.Rows.{spanFits, firstOn, lastOn, rowsFit, countsFit}
+use Rattle.psl.specs.Tests.{lengthFits, isTold, sideFits, countNumbersFit, fieldsFit, rowNumbersFit, spansFit, pslValid}
+use Rattle.psl.specs.Rules.{SpanIn, CountRules, SideRange, PslRules}
+
+-- two tests that hold
+pub and-i : (a b : Bool) → a ≡ true → b ≡ true → (a && b) ≡ true
+and-i a b h k = rw (h, k)
+
+-- a strand that is told
+pub told-of : (t : Strand) → isTold t ≡ true → t ≡ Dot → ⊥
+told-of Plus h e = let z : _≡_ {A = ℕ} 0 1 = cc in omega arith
+told-of Minus h e = let z : _≡_ {A = ℕ} 0 1 = cc in omega arith
+told-of Dot h e = let z : _≡_ {A = ℕ} 0 1 = cc in omega arith
+
+pub told-is : (t : Strand) → (t ≡ Dot → ⊥) → isTold t ≡ true
+told-is Plus h = refl
+told-is Minus h = refl
+told-is Dot h = absurd (h refl)
+
+-- a span
+pub span-of : (x : Side) → spanFits x ≡ true → SpanIn x
+span-of x e =
+    let b = both (ltb (x .start) (x .end)) (leb (x .end) (x .size)) e in
+    record { some = ltb-true _ _ (b .0); within = leb-true _ _ (b .1) }
+
+pub span-is : (x : Side) → SpanIn x → spanFits x ≡ true
+span-is x h = and-i _ _ (lt-ltb (x .start) (x .end) (h .some)) (le-leb (x .end) (x .size) (h .within))
+
+-- the numbers of a side, and its name's length
+pub side-of : (x : Side) → lengthFits (x .name .length) ≡ true → sideFits x ≡ true → SideRange x
+side-of x n e =
+    let name = both (leb 1 (x .name .length)) (leb (x .name .length) nameLimit) n in
+    let numbers = both (leb 1 (x .size) && leb (x .size) largestPosition) (leb (x .start) largestPosition && leb (x .end) largestPosition) e in
+    let size = both (leb 1 (x .size)) (leb (x .size) largestPosition) (numbers .0) in
+    let span = both (leb (x .start) largestPosition) (leb (x .end) largestPosition) (numbers .1) in
+    record {
+      nameSome = leb-true _ _ (name .0);
+      nameShort = leb-true _ _ (name .1);
+      sizeSome = leb-true _ _ (size .0);
+      sizeRange = leb-true _ _ (size .1);
+      startRange = leb-true _ _ (span .0);
+      endRange = leb-true _ _ (span .1);
+    }
+
+pub name-is : (x : Side) → SideRange x → lengthFits (x .name .length) ≡ true
+name-is x h = and-i _ _ (le-leb 1 (x .name .length) (h .nameSome)) (le-leb (x .name .length) nameLimit (h .nameShort))
+
+pub side-is : (x : Side) → SideRange x → sideFits x ≡ true
+side-is x h =
+    and-i _ _ (and-i _ _ (le-leb 1 (x .size) (h .sizeSome)) (le-leb (x .size) largestPosition (h .sizeRange)))
+    (and-i _ _ (le-leb (x .start) largestPosition (h .startRange)) (le-leb (x .end) largestPosition (h .endRange)))
+
+-- the house counts
+module _ (c : Counts) (ts qs zs : List ℕ) where
+  pub counts-of : countsFit c ts qs zs ≡ true → CountRules c ts qs zs
+  unfolding countsFit
+  counts-of e =
+      let bases = both _ _ e in
+      let queryGaps = both _ _ (bases .1) in
+      let queryBases = both _ _ (queryGaps .1) in
+      let targets = both _ _ (queryBases .1) in
+      record {
+        bases = eqb-true _ _ (bases .0);
+        queryGaps = eqb-true _ _ (queryGaps .0);
+        queryBases = eqb-true _ _ (queryBases .0);
+        targetGaps = eqb-true _ _ (targets .0);
+        targetBases = eqb-true _ _ (targets .1);
+      }
+
+  pub counts-is : CountRules c ts qs zs → countsFit c ts qs zs ≡ true
+  unfolding countsFit
+  counts-is h = and-i _ _ (eq-eqb _ _ (h .bases)) (and-i _ _ (eq-eqb _ _ (h .queryGaps)) (and-i _ _ (eq-eqb _ _ (h .queryBases)) (and-i _ _ (eq-eqb _ _ (h .targetGaps)) (eq-eqb _ _ (h .targetBases)))))
+
+-- THE TEST SAYS THE RULES
+pub rules-of : (r : Psl) (ts qs zs : List ℕ) → pslValid r ts qs zs ≡ true → PslRules r ts qs zs
+unfolding pslValid countNumbersFit fieldsFit rowNumbersFit spansFit rowsFit
+rules-of r ts qs zs e =
+    let n = r .blockCount in
+    let count = both _ _ e in
+    let some = both (leb 1 n) _ (count .0) in
+    let fits = both (leb n blockLimit) (leb n (rowsOf ts qs zs)) (some .1) in
+    let held = leb-true n (rowsOf ts qs zs) (fits .1) in
+    let ht : n ≤ length ts = omega arith in
+    let hq : n ≤ length qs = omega arith in
+    let hz : n ≤ length zs = omega arith in
+    let names = both _ _ (count .1) in
+    let query = both (lengthFits (r .query .name .length)) _ (names .0) in
+    let target = both (lengthFits (r .target .name .length)) (isTold (r .strand)) (query .1) in
+    let fields = both _ _ (names .1) in
+    let counts = both _ _ (fields .0) in
+    let sides = both (sideFits (r .query)) (sideFits (r .target)) (counts .1) in
+    let matches = both _ _ (counts .0) in
+    let misMatches = both _ _ (matches .1) in
+    let repMatches = both _ _ (misMatches .1) in
+    let nCount = both _ _ (repMatches .1) in
+    let qNumInsert = both _ _ (nCount .1) in
+    let qBaseInsert = both _ _ (qNumInsert .1) in
+    let tInsert = both _ _ (qBaseInsert .1) in
+    let numbers = both _ _ (fields .1) in
+    let targets = both _ _ (numbers .0) in
+    let queries = both _ _ (targets .1) in
+    let spans = both _ _ (numbers .1) in
+    let span = both (spanFits (r .query)) (spanFits (r .target)) (spans .0) in
+    let rows = both _ _ (spans .1) in
+    let blocks = both _ _ (rows .0) in
+    let lt = length-take-le n ts ht in
+    let lq = length-take-le n qs hq in
+    let lz = length-take-le n zs hz in
+    record {
+      someBlock = leb-true 1 n (some .0);
+      fewBlocks = leb-true n blockLimit (fits .0);
+      targetRows = ht;
+      queryRows = hq;
+      sizeRows = hz;
+      strand = told-of (r .strand) (target .1);
+      queryRange = side-of (r .query) (query .0) (sides .0);
+      targetRange = side-of (r .target) (target .0) (sides .1);
+      matchesRange = leb-true _ _ (matches .0);
+      misMatchesRange = leb-true _ _ (misMatches .0);
+      repMatchesRange = leb-true _ _ (repMatches .0);
+      nCountRange = leb-true _ _ (nCount .0);
+      qNumInsertRange = leb-true _ _ (qNumInsert .0);
+      qBaseInsertRange = leb-true _ _ (qBaseInsert .0);
+      tNumInsertRange = leb-true _ _ (tInsert .0);
+      tBaseInsertRange = leb-true _ _ (tInsert .1);
+      targetsRange = ranged-back 0 largestPosition n ts (ranged-of 0 largestPosition n (take n ts) lt (targets .0));
+      queriesRange = ranged-back 0 largestPosition n qs (ranged-of 0 largestPosition n (take n qs) lq (queries .0));
+      sizesRange = ranged-back 1 largestPosition n zs (ranged-of 1 largestPosition n (take n zs) lz (queries .1));
+      querySpan = span-of (r .query) (span .0);
+      targetSpan = span-of (r .target) (span .1);
+      targetBlocks = fills-back _ _ n ts zs (fills-of _ _ n (take n ts) (take n zs) lt lz (blocks .0));
+      queryBlocks = fills-back _ _ n qs zs (fills-of _ _ n (take n qs) (take n zs) lq lz (blocks .1));
+      counts = counts-of (r .counts) (take n ts) (take n qs) (take n zs) (rows .1);
+    }
+
+-- THE RULES PASS THE TEST
+pub rules-is : (r : Psl) (ts qs zs : List ℕ) → PslRules r ts qs zs → pslValid r ts qs zs ≡ true
+unfolding pslValid countNumbersFit fieldsFit rowNumbersFit spansFit rowsFit
+rules-is r ts qs zs b =
+    let n = r .blockCount in
+    let held : n ≤ rowsOf ts qs zs = omega (arith, b .targetRows, b .queryRows, b .sizeRows) in
+    let lt = length-take-le n ts (b .targetRows) in
+    let lq = length-take-le n qs (b .queryRows) in
+    let lz = length-take-le n zs (b .sizeRows) in
+    let count : countFits n (rowsOf ts qs zs) ≡ true = and-i _ _ (le-leb _ _ (b .someBlock)) (and-i _ _ (le-leb _ _ (b .fewBlocks)) (le-leb _ _ held)) in
+    let names = and-i _ _ (name-is (r .query) (b .queryRange)) (and-i _ _ (name-is (r .target) (b .targetRange)) (told-is (r .strand) (b .strand))) in
+    let inserts = and-i _ _ (le-leb _ _ (b .qNumInsertRange)) (and-i _ _ (le-leb _ _ (b .qBaseInsertRange)) (and-i _ _ (le-leb _ _ (b .tNumInsertRange)) (le-leb _ _ (b .tBaseInsertRange)))) in
+    let numbers : countNumbersFit (r .counts) ≡ true = and-i _ _ (le-leb _ _ (b .matchesRange)) (and-i _ _ (le-leb _ _ (b .misMatchesRange)) (and-i _ _ (le-leb _ _ (b .repMatchesRange)) (and-i _ _ (le-leb _ _ (b .nCountRange)) inserts))) in
+    let fields : fieldsFit r ≡ true = and-i _ _ numbers (and-i _ _ (side-is (r .query) (b .queryRange)) (side-is (r .target) (b .targetRange))) in
+    let targets = ranged-is 0 largestPosition n (take n ts) lt (ranged-take 0 largestPosition n ts (b .targetsRange)) in
+    let queries = ranged-is 0 largestPosition n (take n qs) lq (ranged-take 0 largestPosition n qs (b .queriesRange)) in
+    let sizes = ranged-is 1 largestPosition n (take n zs) lz (ranged-take 1 largestPosition n zs (b .sizesRange)) in
+    let rowNumbers : rowNumbersFit (take n ts) (take n qs) (take n zs) ≡ true = and-i _ _ targets (and-i _ _ queries sizes) in
+    let spans : spansFit r ≡ true = and-i _ _ (span-is (r .query) (b .querySpan)) (span-is (r .target) (b .targetSpan)) in
+    let targetBlocks = fills-is _ _ n (take n ts) (take n zs) lt lz (fills-take _ _ n ts zs (b .targetBlocks)) in
+    let queryBlocks = fills-is _ _ n (take n qs) (take n zs) lq lz (fills-take _ _ n qs zs (b .queryBlocks)) in
+    let rows : rowsFit r (take n ts) (take n qs) (take n zs) ≡ true = and-i _ _ targetBlocks queryBlocks in
+    let counts = counts-is (r .counts) (take n ts) (take n qs) (take n zs) (b .counts) in
+    and-i _ _ count (and-i _ _ names (and-i _ _ fields (and-i _ _ rowNumbers (and-i _ _ spans (and-i _ _ rows counts)))))

@@ -1,0 +1,151 @@
+-- An accepted PSL line is a valid record with its rows. Assumes nothing.
+use mathlib.Core.Path.{_≡_, refl, sym, ap, _∙_}
+use mathlib.Core.Bool.{Bool, true, false}
+use mathlib.Core.List.{List, [], _∷_}
+use Prim.Native.Nat.{ℕ, _+_, _*_, _≤_, _<_}
+use native.Mathlib.Omega.{arith}
+use lib.ListN.{length, getD, take}
+use lib.Seq.{take-all}
+use Rattle.ledger.specs.declared.Part.{Part}
+use Rattle.ledger.specs.declared.Strand.the-variants.{Dot}
+use Rattle.ledger.specs.Limits.{nameLimit, blockLimit, largestPosition}
+use Rattle.ledger.specs.Strands.{strandLetter}
+use Rattle.text.specs.Words.{wordAt, bytesOf}
+use Rattle.numbers.specs.declared.Spelt.the-variants.{Means}
+use Rattle.kinds.specs.declared.Range.{Range}
+use Rattle.kinds.specs.declared.Range.the-variants.{Coordinate, Size}
+use Rattle.kinds.specs.declared.Kind.the-variants.{Name, Number}
+use Rattle.kinds.specs.Kinds.{leastOf, mostOf, spelt, isStrand}
+use Rattle.kinds.proofs.RangeLaws.{number-spelt, count-spelt, name-spelt}
+use Rattle.columns.specs.Spells.{firsts}
+use Rattle.columns.specs.Places.{kindAt, countBefore}
+use Rattle.columns.proofs.PlaceLaws.{value-first}
+use Rattle.blocks.proofs.RuleLaws.{between-is, ranged-of}
+use Rattle.psl.specs.declared.Side.{Side}
+use Rattle.psl.specs.declared.Psl.{Psl}
+use Rattle.psl.specs.declared.PslAnswer.the-variants.{Accepted}
+use Rattle.psl.specs.Table.{pslColumns}
+use Rattle.psl.specs.Records.{pslSizes, pslQueries, pslTargets}
+use Rattle.psl.specs.Read.{pslCheck}
+use Rattle.psl.specs.Tests.{pslValid}
+use Rattle.psl.specs.Rules.{partOf, SideSays, SideRange, CountRules, PslLine, PslRules}
+use Rattle.psl.proofs.RuleLaws.{rules-is}
+use Rattle.psl.proofs.LineLaws.{lineValues, Accepts, accepts-of, word-length, value-spelt, letter-told, sizes-are, queries-are, targets-are, accepted-targets, accepted-queries, accepted-sizes, line-of}
+
+module _ (s : List ℕ) (r : Psl) (ok : pslCheck s ≡ Accepted r) where
+  abbrev a : Accepts s r
+  a = accepts-of s r ok
+
+  abbrev vs : List ℕ
+  vs = firsts (lineValues s)
+
+  abbrev line : PslLine s vs r
+  line = line-of s r ok
+
+  abbrev before : ℕ → ℕ
+  before k = countBefore pslColumns 0 vs 0 k
+
+  -- the words' values in their ranges
+  value-says : (k : ℕ) → k < 21 → spelt (kindAt pslColumns k) (before k) (bytesOf s (wordAt s 0 k)) ≡ Means (getD vs k 0)
+  value-says k h = rw (value-first (lineValues s) k) (value-spelt s (a .end) (a .read) k h)
+
+  number-at : (k : ℕ) (c : Range) → k < 21 → kindAt pslColumns k ≡ Number c → (leastOf c ≤ getD vs k 0) × (getD vs k 0 ≤ mostOf c)
+  number-at k c h q = number-spelt c (before k) (bytesOf s (wordAt s 0 k)) (getD vs k 0) (rw q at (value-says k h))
+
+  name-at : (k : ℕ) (p : Part) → k < 21 → kindAt pslColumns k ≡ Name → p ≡ partOf (wordAt s 0 k) → (1 ≤ p .length) × (p .length ≤ nameLimit)
+  name-at k p h q e =
+      let c = name-spelt (before k) (bytesOf s (wordAt s 0 k)) (getD vs k 0) (rw q at (value-says k h)) in
+      let l : p .length ≡ getD vs k 0 = ap (λ (x : Part). x .length) e ∙ sym (c .0 ∙ word-length s k) in
+      (rw l (c .1), rw l (c .2))
+
+  count-at : (1 ≤ r .blockCount) × (r .blockCount ≤ blockLimit)
+  unfolding pslColumns
+  count-at =
+      let c = count-spelt (before 17) (bytesOf s (wordAt s 0 17)) (getD vs 17 0) (value-says 17 (omega arith)) in
+      rw (line .blockCount) (c .0, c .1)
+
+  told : r .strand ≡ Dot → ⊥
+  told e =
+      let l : getD (lineValues s) 16 0 ≡ 46 = sym (value-first (lineValues s) 8) ∙ sym (line .strand) ∙ ap strandLetter e in
+      let h : isStrand false (46 ∷ []) ≡ true = rw l at (letter-told s (a .end) (a .read)) in
+      let z : _≡_ {A = ℕ} 0 1 = cc in
+      omega arith
+
+  query-range : SideRange (r .query)
+  unfolding pslColumns
+  query-range =
+      let x = line .query in
+      let name = name-at 9 (r .query .name) (omega arith) refl (x .name) in
+      let size = number-at 10 Size (omega arith) refl in
+      record {
+        nameSome = name .0;
+        nameShort = name .1;
+        sizeSome = rw (x .size) (size .0);
+        sizeRange = rw (x .size) (size .1);
+        startRange = rw (x .start) (number-at 11 Coordinate (omega arith) refl .1);
+        endRange = rw (x .end) (number-at 12 Coordinate (omega arith) refl .1);
+      }
+
+  target-range : SideRange (r .target)
+  unfolding pslColumns
+  target-range =
+      let x = line .target in
+      let name = name-at 13 (r .target .name) (omega arith) refl (x .name) in
+      let size = number-at 14 Size (omega arith) refl in
+      record {
+        nameSome = name .0;
+        nameShort = name .1;
+        sizeSome = rw (x .size) (size .0);
+        sizeRange = rw (x .size) (size .1);
+        startRange = rw (x .start) (number-at 15 Coordinate (omega arith) refl .1);
+        endRange = rw (x .end) (number-at 16 Coordinate (omega arith) refl .1);
+      }
+
+  -- all rows are used
+  targets-all : take (r .blockCount) (pslTargets s) ≡ pslTargets s
+  targets-all = take-all (r .blockCount) (pslTargets s) (omega (arith, accepted-targets s r ok))
+
+  queries-all : take (r .blockCount) (pslQueries s) ≡ pslQueries s
+  queries-all = take-all (r .blockCount) (pslQueries s) (omega (arith, accepted-queries s r ok))
+
+  sizes-all : take (r .blockCount) (pslSizes s) ≡ pslSizes s
+  sizes-all = take-all (r .blockCount) (pslSizes s) (omega (arith, accepted-sizes s r ok))
+
+  -- THE RULES OF AN ACCEPTED LINE'S RECORD
+  pub accepted-rules : PslRules r (pslTargets s) (pslQueries s) (pslSizes s)
+  unfolding pslColumns
+  accepted-rules =
+      let n = r .blockCount in
+      let lt = accepted-targets s r ok in
+      let lq = accepted-queries s r ok in
+      let lz = accepted-sizes s r ok in
+      record {
+        someBlock = count-at .0;
+        fewBlocks = count-at .1;
+        targetRows = omega arith;
+        queryRows = omega arith;
+        sizeRows = omega arith;
+        strand = told;
+        queryRange = query-range;
+        targetRange = target-range;
+        matchesRange = rw (line .matches) (number-at 0 Coordinate (omega arith) refl .1);
+        misMatchesRange = rw (line .misMatches) (number-at 1 Coordinate (omega arith) refl .1);
+        repMatchesRange = rw (line .repMatches) (number-at 2 Coordinate (omega arith) refl .1);
+        nCountRange = rw (line .nCount) (number-at 3 Coordinate (omega arith) refl .1);
+        qNumInsertRange = rw (line .qNumInsert) (number-at 4 Coordinate (omega arith) refl .1);
+        qBaseInsertRange = rw (line .qBaseInsert) (number-at 5 Coordinate (omega arith) refl .1);
+        tNumInsertRange = rw (line .tNumInsert) (number-at 6 Coordinate (omega arith) refl .1);
+        tBaseInsertRange = rw (line .tBaseInsert) (number-at 7 Coordinate (omega arith) refl .1);
+        targetsRange = ranged-of 0 largestPosition n (pslTargets s) lt (between-is 0 largestPosition (pslTargets s) (targets-are s (a .end) (a .read) .0));
+        queriesRange = ranged-of 0 largestPosition n (pslQueries s) lq (between-is 0 largestPosition (pslQueries s) (queries-are s (a .end) (a .read) .0));
+        sizesRange = ranged-of 1 largestPosition n (pslSizes s) lz (between-is 1 largestPosition (pslSizes s) (sizes-are s (a .end) (a .read) .0));
+        querySpan = line .querySpan;
+        targetSpan = line .targetSpan;
+        targetBlocks = line .targetBlocks;
+        queryBlocks = line .queryBlocks;
+        counts = rw (targets-all, queries-all, sizes-all) (line .counts);
+      }
+
+  -- so its record passes the test
+  pub accepted-valid : pslValid r (pslTargets s) (pslQueries s) (pslSizes s) ≡ true
+  accepted-valid = rules-is r (pslTargets s) (pslQueries s) (pslSizes s) accepted-rules
