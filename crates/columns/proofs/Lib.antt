@@ -4,3 +4,4 @@ pub mod BackLaws
 pub mod SpellsLaws
 pub mod PlaceLaws
 pub mod OneLineLaws
+pub mod NameLaws

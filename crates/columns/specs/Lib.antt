@@ -4,3 +4,4 @@ pub mod Places
 pub mod Lines
 pub mod Ranges
 pub mod OneLine
+pub mod Names

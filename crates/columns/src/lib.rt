@@ -10,6 +10,7 @@ ghost use Rattle.writing.specs.Answers.{Wrote};
 ghost use Rattle.kinds.specs.Kinds.{kindOf, spelt, itemsIn, baseAfter, Spelled};
 ghost use Rattle.columns.specs.Columns.{columnLimit, tableOf, FieldRead, ColumnsWalked, ColumnsRead};
 ghost use Rattle.columns.specs.OneLine.{countCheck, CountedRead, LineRead};
+ghost use Rattle.columns.specs.Names.{namesIn};
 ghost use Rattle.columns.specs.Lines.{gapOf, lineFrom, lineText, fedLine};
 use kinds::Kind;
 use ledger::Reason;
@@ -288,4 +289,12 @@ pub fn read_line(text: &[u8], table: &[u8], out: &mut [u64], lists: &mut [u64]) 
             Check::Holds => read_counted(text, table, out, lists),
         },
     }
+}
+
+// Puts two names into a text of their own, as far as it reaches.
+pub fn put_names(first: &[u8], second: &[u8], names: &mut [u8])
+    ensures { λ _. ⌜ now (names .exit) ≡ namesIn (now (first .entry)) (now (second .entry)) (now (names .entry)) ⌝ }
+{
+    writing::put_bytes(names, 0, first);
+    writing::put_bytes(names, ledger::NAME_LIMIT, second);
 }

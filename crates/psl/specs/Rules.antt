@@ -107,3 +107,13 @@ pub record PslRules (r : Psl) (ts qs zs : List ℕ) : Type 0 where
   pub queryBlocks : Fills (firstOn (r .strand) (r .query)) (lastOn (r .strand) (r .query)) (r .blockCount) qs zs
   -- the house counts
   pub counts : CountRules (r .counts) (take (r .blockCount) ts) (take (r .blockCount) qs) (take (r .blockCount) zs)
+
+-- the record with its names where they stand in a text: what the reader makes of the record's standard text
+unfoldable pub placed : List ℕ → Psl → Psl
+placed s r = record {
+  counts = r .counts;
+  strand = r .strand;
+  query = record { name = partOf (wordAt s 0 9); size = r .query .size; start = r .query .start; end = r .query .end };
+  target = record { name = partOf (wordAt s 0 13); size = r .target .size; start = r .target .start; end = r .target .end };
+  blockCount = r .blockCount;
+}

@@ -27,3 +27,47 @@ use Rattle.psl.specs.Tests.{lengthFits, isTold, fieldsFit, rowNumbersFit
 -- THE RECORD CHECKER: any breach is 9, at place 0
 unfoldable pub recordCheck : Psl → List ℕ → List ℕ → List ℕ → Check
 recordCheck r ts qs zs = require (pslValid r ts qs zs) BlockRules 0 Holds
+
+-- bytes that all show: 33 to 126
+abbrev pub allGraphic : List ℕ → Bool
+allGraphic w = leb (length w) (endOf Graphic w 0)
+
+-- the names that are handed in: their lengths, and that all their bytes show; and the strand
+unfoldable pub wordsShow : Psl → List ℕ → List ℕ → Bool
+wordsShow r qName tName = (lengthFits (length qName) && (lengthFits (length tName) && isTold (r .strand))) && (allGraphic qName && allGraphic tName)
+
+-- the refusals, each at place 0: a bad row count (9); names and strand (6); the numbers, a row's too (5); spans (7); blocks (9); counts (10)
+unfoldable pub writeCheck : Psl → List ℕ → List ℕ → List ℕ → List ℕ → List ℕ → Check
+writeCheck r qName tName ts qs zs =
+    require (countFits (r .blockCount) (rowsOf ts qs zs)) BlockRules 0
+    (require (wordsShow r qName tName) BadWord 0
+    (require (fieldsFit r && rowNumbersFit (take (r .blockCount) ts) (take (r .blockCount) qs) (take (r .blockCount) zs)) NumberOutOfRange 0
+    (require (spansFit r) SpanDisagrees 0
+    (require (rowsFit r (take (r .blockCount) ts) (take (r .blockCount) qs) (take (r .blockCount) zs)) BlockRules 0
+    (require (countsFit (r .counts) (take (r .blockCount) ts) (take (r .blockCount) qs) (take (r .blockCount) zs)) CountsDisagree 0
+    Holds)))))
+
+-- the twenty-one words of a record: ts, qs and zs are the targets, queries and sizes of its rows
+unfoldable pub pslWords : Psl → List ℕ → List ℕ → List ℕ → List ℕ → List ℕ → List (List ℕ)
+pslWords r qName tName ts qs zs =
+    digits (r .counts .matches) ∷ digits (r .counts .misMatches) ∷ digits (r .counts .repMatches) ∷ digits (r .counts .nCount)
+    ∷ digits (r .counts .qNumInsert) ∷ digits (r .counts .qBaseInsert) ∷ digits (r .counts .tNumInsert) ∷ digits (r .counts .tBaseInsert) ∷ (strandLetter (r .strand) ∷ [])
+    ∷ qName ∷ digits (r .query .size) ∷ digits (r .query .start) ∷ digits (r .query .end) ∷ tName ∷ digits (r .target .size) ∷ digits (r .target .start) ∷ digits (r .target .end)
+    ∷ digits (r .blockCount) ∷ listText (take (r .blockCount) zs) ∷ listText (take (r .blockCount) qs) ∷ listText (take (r .blockCount) ts) ∷ []
+
+-- THE STANDARD TEXT: the words, a tab between them, and a line feed
+unfoldable pub pslText : Psl → List ℕ → List ℕ → List ℕ → List ℕ → List ℕ → List ℕ
+pslText r qName tName ts qs zs = joined 9 (pslWords r qName tName ts qs zs) ++ (10 ∷ [])
+
+abbrev pub thenWrite : Check → Writing → Writing
+thenWrite Holds rest = rest
+thenWrite (check.Refused x) rest = writing.Refused x
+
+-- THE WRITER: the checks, then the text's length (1), then the room (11)
+unfoldable pub pslWrite : Psl → List ℕ → List ℕ → List ℕ → List ℕ → List ℕ → ℕ → Writing
+pslWrite r qName tName ts qs zs room = thenWrite (writeCheck r qName tName ts qs zs) (roomAnswer (length (pslText r qName tName ts qs zs)) room)
+
+-- what the writer promises: the answer, and the buffer with the text at its front, or as it was
+pub record PslWrote (r : Psl) (qName tName ts qs zs before after : List ℕ) (x : Writing) : Type 0 where
+  pub is : x ≡ pslWrite r qName tName ts qs zs (length before)
+  pub left : after ≡ leftAfter x (pslText r qName tName ts qs zs) before
