@@ -8,7 +8,9 @@ use lib.ListN.{take}
 use lib.Dec.{leb}
 use borrow.Author.Tests.{leb-true, not-true, not-false}
 use Rattle.ledger.specs.Limits.{largestPosition}
-use Rattle.ledger.specs.declared.Reason.the-variants.{BlockRules}
+use Rattle.ledger.specs.declared.Reason.the-variants.{NumberOutOfRange, SpanDisagrees, BlockRules, CountsDisagree}
+use Rattle.text.specs.declared.Check.{Check}
+use Rattle.text.specs.Checks.{require}
 use Rattle.text.specs.declared.Check.the-variants.{Holds}
 use Rattle.text.specs.declared.Check.the-variants as check
 use Rattle.text.proofs.TextLaws.{both}
@@ -17,7 +19,7 @@ use Rattle.psl.specs.declared.Psl.{Psl}
 use Rattle.psl.specs.Rows.{rowsFit, countsFit}
 use Rattle.psl.specs.Read.{CountsRange}
 use Rattle.psl.specs.Tests.{lengthFits, isTold, countNumbersFit, fieldsFit, rowNumbersFit, spansFit, headFits, pslValid}
-use Rattle.psl.specs.Write.{recordCheck}
+use Rattle.psl.specs.Write.{numbersCheck, recordCheck}
 
 -- counts in range
 pub counts-range : (r : Psl) → fieldsFit r ≡ true → CountsRange (r .counts)
@@ -83,3 +85,20 @@ module _ (r : Psl) (ts qs zs : List ℕ) (t : Bool) (et : t ≡ pslValid r ts qs
   pub record-bad : t ≡ false → check.Refused (record { reason = BlockRules; place = 0 }) ≡ recordCheck r ts qs zs
   unfolding recordCheck
   record-bad q = rw (← et, q)
+
+-- the writer's checks from the numbers on
+module _ (r : Psl) (ts qs zs : List ℕ) (f : Bool) (ef : f ≡ fieldsFit r) where
+  pub numbers-bad : not f ≡ true → check.Refused (record { reason = NumberOutOfRange; place = 0 }) ≡ numbersCheck r ts qs zs
+  unfolding numbersCheck
+  numbers-bad q = rw (← ef, not-true f q)
+
+  module _ (good : not f ≡ false) where
+    pub numbers-range : CountsRange (r .counts)
+    numbers-range = counts-range r (sym ef ∙ not-false f good)
+
+    pub numbers-on : (x : Check) → x ≡ require (rowNumbersFit (take (r .blockCount) ts) (take (r .blockCount) qs) (take (r .blockCount) zs)) NumberOutOfRange 0
+        (require (spansFit r) SpanDisagrees 0
+        (require (rowsFit r (take (r .blockCount) ts) (take (r .blockCount) qs) (take (r .blockCount) zs)) BlockRules 0
+        (require (countsFit (r .counts) (take (r .blockCount) ts) (take (r .blockCount) qs) (take (r .blockCount) zs)) CountsDisagree 0 Holds))) → x ≡ numbersCheck r ts qs zs
+    unfolding numbersCheck
+    numbers-on x e = rw (← ef, not-false f good) e

@@ -47,6 +47,15 @@ writeCheck r qName tName ts qs zs =
     (require (countsFit (r .counts) (take (r .blockCount) ts) (take (r .blockCount) qs) (take (r .blockCount) zs)) CountsDisagree 0
     Holds)))))
 
+-- the same from the numbers on
+unfoldable pub numbersCheck : Psl → List ℕ → List ℕ → List ℕ → Check
+numbersCheck r ts qs zs =
+    require (fieldsFit r && rowNumbersFit (take (r .blockCount) ts) (take (r .blockCount) qs) (take (r .blockCount) zs)) NumberOutOfRange 0
+    (require (spansFit r) SpanDisagrees 0
+    (require (rowsFit r (take (r .blockCount) ts) (take (r .blockCount) qs) (take (r .blockCount) zs)) BlockRules 0
+    (require (countsFit (r .counts) (take (r .blockCount) ts) (take (r .blockCount) qs) (take (r .blockCount) zs)) CountsDisagree 0
+    Holds)))
+
 -- the twenty-one words of a record: ts, qs and zs are the targets, queries and sizes of its rows
 unfoldable pub pslWords : Psl → List ℕ → List ℕ → List ℕ → List ℕ → List ℕ → List (List ℕ)
 pslWords r qName tName ts qs zs =

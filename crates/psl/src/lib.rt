@@ -3,10 +3,11 @@ ghost use mathlib.Core.Path.{_≡_};
 ghost use Prim.Native.Nat.{_+_, _-_, _*_, _≤_};
 ghost use lib.ListN.{length, getD, take, drop};
 ghost use Rattle.ledger.specs.Limits.{blockLimit};
+ghost use Rattle.text.specs.Checks.{require};
 ghost use Rattle.psl.specs.Records.{countsOf, sideOf, pslRecord};
 ghost use Rattle.psl.specs.Rows.{spanFits, firstOn, lastOn, rowsFit, countsFit};
 ghost use Rattle.psl.specs.Tests.{lengthFits, isTold, sideFits, countNumbersFit, fieldsFit, rowNumbersFit, spansFit, headFits, pslValid};
-ghost use Rattle.psl.specs.Write.{recordCheck};
+ghost use Rattle.psl.specs.Write.{allGraphic, wordsShow, numbersCheck, writeCheck, recordCheck};
 ghost use Rattle.psl.specs.Read.{spanCheck, rowCheck, afterSpans, afterLine, pslCheck, CountsRange, Listed, Ready, Staged, RowsStored, PslRead};
 use columns::Columns;
 use ledger::Part;
@@ -14,6 +15,7 @@ use ledger::Reason;
 use ledger::Refusal;
 use ledger::Strand;
 use text::Check;
+use text::Class;
 
 // The eight counts of a PSL line.
 pub struct Counts {
@@ -445,4 +447,82 @@ pub fn check_psl(r: Psl, targets: &[u64], queries: &[u64], sizes: &[u64]) -> Che
         reason: Reason::BlockRules,
         place: 0,
     })
+}
+
+// Whether all bytes of a name show.
+fn all_graphic(w: &[u8]) -> bool
+    ensures { λ r. ⌜ r ≡ allGraphic (now (w .entry)) ⌝ }
+{
+    w.len() <= text::scan(w, 0, Class::Graphic)
+}
+
+// The names that are handed in, and the strand.
+fn words_show(r: Psl, query: &[u8], target: &[u8]) -> bool
+    ensures { λ x. ⌜ x ≡ wordsShow r (now (query .entry)) (now (target .entry)) ⌝ }
+{
+    let strand = r.strand;
+    (length_fits(query.len()) & (length_fits(target.len()) & is_told(strand)))
+        & (all_graphic(query) & all_graphic(target))
+}
+
+// Where a test holds, the rest; else a refusal at place 0.
+fn or_refuse(test: bool, reason: Reason, rest: Check) -> Check
+    ensures { λ x. ⌜ x ≡ require test reason 0 rest ⌝ }
+{
+    if test {
+        return rest;
+    }
+    Check::Refused(Refusal { reason, place: 0 })
+}
+
+// The numbers (5), a row's too, then the spans (7), the blocks (9) and the counts (10).
+fn check_numbers(r: Psl, targets: &[u64], queries: &[u64], sizes: &[u64]) -> Check
+    ensures { λ x. ⌜ x ≡ numbersCheck r (now (targets .entry)) (now (queries .entry)) (now (sizes .entry)) ⌝ }
+{
+    if !fields_fit(r) {
+        return Check::Refused(Refusal {
+            reason: Reason::NumberOutOfRange,
+            place: 0,
+        });
+    }
+    let count = r.blockCount as usize;
+    let counts = r.counts;
+    let last = or_refuse(
+        counts_fit(counts, targets, queries, sizes, count),
+        Reason::CountsDisagree,
+        Check::Holds,
+    );
+    let blocks = or_refuse(
+        rows_fit(r, targets, queries, sizes, count),
+        Reason::BlockRules,
+        last,
+    );
+    let spans = or_refuse(spans_fit(r), Reason::SpanDisagrees, blocks);
+    or_refuse(
+        row_numbers_fit(targets, queries, sizes, count),
+        Reason::NumberOutOfRange,
+        spans,
+    )
+}
+
+// The writers' refusals in their order.
+fn check_write(
+    r: Psl,
+    query: &[u8],
+    target: &[u8],
+    targets: &[u64],
+    queries: &[u64],
+    sizes: &[u64],
+) -> Check
+    ensures { λ x. ⌜ x ≡ writeCheck r (now (query .entry)) (now (target .entry)) (now (targets .entry))
+        (now (queries .entry)) (now (sizes .entry)) ⌝ }
+{
+    let rows = blocks::rows_of(targets, queries, sizes);
+    let numbers = check_numbers(r, targets, queries, sizes);
+    let words = or_refuse(words_show(r, query, target), Reason::BadWord, numbers);
+    or_refuse(
+        blocks::count_fits(r.blockCount, rows),
+        Reason::BlockRules,
+        words,
+    )
 }
