@@ -4,3 +4,7 @@ pub mod CheckLaws
 pub mod RuleLaws
 pub mod LineLaws
 pub mod ValidLaws
+pub mod WriteLaws
+pub mod BackWordLaws
+pub mod BackLaws
+pub mod Vectors

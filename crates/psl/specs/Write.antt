@@ -80,3 +80,31 @@ pslWrite r qName tName ts qs zs room = thenWrite (writeCheck r qName tName ts qs
 pub record PslWrote (r : Psl) (qName tName ts qs zs before after : List ℕ) (x : Writing) : Type 0 where
   pub is : x ≡ pslWrite r qName tName ts qs zs (length before)
   pub left : after ≡ leftAfter x (pslText r qName tName ts qs zs) before
+
+-- the words as values by column, for the line writer: two numbers a column, a name's length and where it stands in a text of names
+unfoldable pub pslValues : Psl → ℕ → ℕ → List ℕ
+pslValues r query target =
+    r .counts .matches ∷ 0 ∷ r .counts .misMatches ∷ 0 ∷ r .counts .repMatches ∷ 0 ∷ r .counts .nCount ∷ 0 ∷ r .counts .qNumInsert ∷ 0 ∷ r .counts .qBaseInsert ∷ 0
+    ∷ r .counts .tNumInsert ∷ 0 ∷ r .counts .tBaseInsert ∷ 0 ∷ strandLetter (r .strand) ∷ 0 ∷ query ∷ 0 ∷ r .query .size ∷ 0 ∷ r .query .start ∷ 0 ∷ r .query .end ∷ 0
+    ∷ target ∷ nameLimit ∷ r .target .size ∷ 0 ∷ r .target .start ∷ 0 ∷ r .target .end ∷ 0 ∷ r .blockCount ∷ 0 ∷ r .blockCount ∷ 0 ∷ r .blockCount ∷ 0 ∷ r .blockCount ∷ 0 ∷ []
+
+-- the stages of writing a record that passed the checks: the three lists of its blocks
+pub record RowsThere (n : ℕ) (ts qs zs lists : List ℕ) : Type 0 where
+  pub long : length lists ≡ 3 * blockLimit
+  pub few : n ≤ blockLimit
+  pub targets : n ≤ length ts
+  pub queries : n ≤ length qs
+  pub sizes : n ≤ length zs
+
+pub record ListsPut (n : ℕ) (ts qs zs lists : List ℕ) : Type 0 where
+  pub sizes : take n (drop 0 lists) ≡ take n zs
+  pub queries : take n (drop blockLimit lists) ≡ take n qs
+  pub targets : take n (drop (2 * blockLimit) lists) ≡ take n ts
+
+pub record Writable (r : Psl) (query target ts qs zs : List ℕ) : Type 0 where
+  pub queryShort : length query ≤ nameLimit
+  pub targetShort : length target ≤ nameLimit
+  pub few : r .blockCount ≤ blockLimit
+  pub targets : r .blockCount ≤ length ts
+  pub queries : r .blockCount ≤ length qs
+  pub sizes : r .blockCount ≤ length zs

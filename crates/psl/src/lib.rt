@@ -2,12 +2,13 @@
 ghost use mathlib.Core.Path.{_≡_};
 ghost use Prim.Native.Nat.{_+_, _-_, _*_, _≤_};
 ghost use lib.ListN.{length, getD, take, drop};
-ghost use Rattle.ledger.specs.Limits.{blockLimit};
+ghost use Rattle.ledger.specs.Limits.{nameLimit, blockLimit};
+ghost use Rattle.writing.specs.Answers.{Wrote};
 ghost use Rattle.text.specs.Checks.{require};
 ghost use Rattle.psl.specs.Records.{countsOf, sideOf, pslRecord};
 ghost use Rattle.psl.specs.Rows.{spanFits, firstOn, lastOn, rowsFit, countsFit};
 ghost use Rattle.psl.specs.Tests.{lengthFits, isTold, sideFits, countNumbersFit, fieldsFit, rowNumbersFit, spansFit, headFits, pslValid};
-ghost use Rattle.psl.specs.Write.{allGraphic, wordsShow, numbersCheck, writeCheck, recordCheck};
+ghost use Rattle.psl.specs.Write.{allGraphic, wordsShow, numbersCheck, writeCheck, pslText, pslValues, RowsThere, ListsPut, Writable, PslWrote, recordCheck};
 ghost use Rattle.psl.specs.Read.{spanCheck, rowCheck, afterSpans, afterLine, pslCheck, CountsRange, Listed, Ready, Staged, RowsStored, PslRead};
 use columns::Columns;
 use ledger::Part;
@@ -16,6 +17,7 @@ use ledger::Refusal;
 use ledger::Strand;
 use text::Check;
 use text::Class;
+use writing::Writing;
 
 // The eight counts of a PSL line.
 pub struct Counts {
@@ -525,4 +527,123 @@ fn check_write(
         Reason::BlockRules,
         words,
     )
+}
+
+// The sizes, the query starts and the target starts, as the line writer takes them.
+fn put_lists(count: usize, targets: &[u64], queries: &[u64], sizes: &[u64], lists: &mut [u64])
+    requires { ⌜ RowsThere count (now targets) (now queries) (now sizes) (now lists) ⌝ }
+    ensures { λ _. ⌜ ListsPut count (now (targets .entry)) (now (queries .entry)) (now (sizes .entry)) (now (lists .exit)) ⌝ }
+{
+    let b = ledger::BLOCK_LIMIT as usize;
+    let d = 2 * b;
+    blocks::copy_numbers(sizes, count, lists);
+    blocks::copy_numbers(queries, count, &mut lists[b..]);
+    blocks::copy_numbers(targets, count, &mut lists[d..]);
+}
+
+// A record's columns as the line writer takes them: the names stand one after the other in their own text.
+fn values_of(r: Psl, query: usize, target: usize) -> [u64; 42]
+    ensures { λ x. ⌜ x ≡ pslValues r query target ⌝ }
+{
+    let c = r.counts;
+    let q = r.query;
+    let t = r.target;
+    let strand = r.strand;
+    let letter = strand.letter() as u64;
+    let n = r.blockCount;
+    [
+        c.matches,
+        0,
+        c.misMatches,
+        0,
+        c.repMatches,
+        0,
+        c.nCount,
+        0,
+        c.qNumInsert,
+        0,
+        c.qBaseInsert,
+        0,
+        c.tNumInsert,
+        0,
+        c.tBaseInsert,
+        0,
+        letter,
+        0,
+        query as u64,
+        0,
+        q.size,
+        0,
+        q.start,
+        0,
+        q.end,
+        0,
+        target as u64,
+        ledger::NAME_LIMIT as u64,
+        t.size,
+        0,
+        t.start,
+        0,
+        t.end,
+        0,
+        n,
+        0,
+        n,
+        0,
+        n,
+        0,
+        n,
+        0,
+    ]
+}
+
+// Room for two names.
+const NAMES: usize = 2 * ledger::NAME_LIMIT;
+
+fn name_room() -> [u8; NAMES]
+    ensures { λ r. ⌜ length r ≡ 2 * nameLimit ⌝ }
+{
+    [0; NAMES]
+}
+
+// Writes the standard text of a record that passed the checks.
+fn write_text(
+    r: Psl,
+    query: &[u8],
+    target: &[u8],
+    targets: &[u64],
+    queries: &[u64],
+    sizes: &[u64],
+    buf: &mut [u8],
+) -> Writing
+    requires { ⌜ Writable r (now query) (now target) (now targets) (now queries) (now sizes) ⌝ }
+    ensures { λ x. ⌜ Wrote (pslText r (now (query .entry)) (now (target .entry)) (now (targets .entry))
+        (now (queries .entry)) (now (sizes .entry))) (now (buf .entry)) (now (buf .exit)) x ⌝ }
+{
+    let mut names = name_room();
+    columns::put_names(query, target, &mut names);
+    let mut lists = working_room();
+    put_lists(r.blockCount as usize, targets, queries, sizes, &mut lists);
+    let values = values_of(r, query.len(), target.len());
+    let table = PSL;
+    columns::write_line(buf, &table, b'\t', &names, &values, &lists)
+}
+
+// THE WRITER: a record with its names and rows to the front of a buffer, or the first refusal in the writers' order, which leaves the buffer.
+pub fn write_psl(
+    r: Psl,
+    query: &[u8],
+    target: &[u8],
+    targets: &[u64],
+    queries: &[u64],
+    sizes: &[u64],
+    buf: &mut [u8],
+) -> Writing
+    ensures { λ x. ⌜ PslWrote r (now (query .entry)) (now (target .entry)) (now (targets .entry)) (now (queries .entry))
+        (now (sizes .entry)) (now (buf .entry)) (now (buf .exit)) x ⌝ }
+{
+    match check_write(r, query, target, targets, queries, sizes) {
+        Check::Refused(x) => Writing::Refused(x),
+        Check::Holds => write_text(r, query, target, targets, queries, sizes, buf),
+    }
 }

@@ -1,0 +1,147 @@
+-- The standard text of a PSL record that may be written reads back as that record, with the same names and the same rows. Assumes nothing.
+use mathlib.Core.Path.{_≡_, refl, ap, _∙_}
+use mathlib.Core.List.{List, [], _∷_}
+use Prim.Native.Nat.{ℕ, _≤_}
+use native.Mathlib.Omega.{arith}
+use lib.ListN.{length, take, getD}
+use borrow.Author.Tests.{le-leb}
+use Rattle.ledger.specs.Limits.{textLimit, largestPosition}
+use Rattle.text.specs.declared.Class.the-variants.{Allowed}
+use Rattle.text.specs.declared.Check.the-variants.{Holds}
+use Rattle.text.specs.declared.Extent.{Extent}
+use Rattle.text.specs.Scan.{run}
+use Rattle.text.specs.Parts.{partBytes}
+use Rattle.text.specs.Pieces.{linesOf, lineOf, wordsOf}
+use Rattle.text.specs.Words.{wordAt, wordCount, bytesOf}
+use Rattle.text.proofs.CheckLaws.{fed-allowed, fed-line}
+use Rattle.text.proofs.PieceLaws.{Worded, line-joined, words-joined, word-bytes}
+use Rattle.writing.proofs.ListLaws.{list-values}
+use Rattle.blocks.specs.Rules.{Fills}
+use Rattle.blocks.proofs.TakeLaws.{fills-take}
+use Rattle.psl.specs.declared.Psl.{Psl}
+use Rattle.psl.specs.declared.PslAnswer.the-variants.{Accepted}
+use Rattle.psl.specs.Table.{pslColumns}
+use Rattle.psl.specs.Records.{pslSizes, pslQueries, pslTargets}
+use Rattle.psl.specs.Read.{roomCheck, pslCheck, pslRead}
+use Rattle.psl.specs.Rules.{partOf, PslLine, placed}
+use Rattle.psl.specs.Write.{writeCheck, pslWords, pslText}
+use Rattle.psl.proofs.LineLaws.{line-is}
+use Rattle.psl.proofs.BackWordLaws.{named, on-renamed, MayWrite, may-write, wordValues, sizes-between, queries-between, targets-between, words-spell, words-worded}
+
+-- the bytes of a word, as a part and as an extent
+part-bytes : (s : List ℕ) (w : Extent) → partBytes s (partOf w) ≡ bytesOf s w
+unfolding partBytes bytesOf
+part-bytes s w = refl
+
+-- what a record that may be written reads back as
+module _ (r : Psl) (qName tName ts qs zs : List ℕ) (ok : MayWrite r qName tName ts qs zs) where
+  abbrev s : List ℕ
+  s = pslText r qName tName ts qs zs
+
+  abbrev words : List (List ℕ)
+  words = pslWords r qName tName ts qs zs
+
+  abbrev n : ℕ
+  n = r .blockCount
+
+  worded : Worded words
+  worded = words-worded r qName tName ts qs zs ok
+
+  text-words : wordsOf (lineOf s) ≡ words
+  unfolding pslText
+  text-words = rw (line-joined 9 words [] refl worded) (words-joined 9 words refl worded)
+
+  text-count : wordCount s 0 ≡ length pslColumns
+  unfolding wordCount pslWords pslColumns
+  text-count = ap length text-words
+
+  text-allowed : run Allowed s ≡ length s
+  unfolding pslText
+  text-allowed = fed-allowed 9 refl words worded
+
+  text-line : linesOf s ≡ lineOf s ∷ []
+  unfolding pslText
+  text-line = fed-line 9 refl words worded
+
+  text-word : (k : ℕ) → bytesOf s (wordAt s 0 k) ≡ getD words k []
+  text-word k = word-bytes s 0 k ∙ ap (λ (x : List (List ℕ)). getD x k []) text-words
+
+  -- the three lists
+  sizes-read : pslSizes s ≡ take n zs
+  unfolding pslSizes pslWords
+  sizes-read = rw (text-word 18) (list-values 1 largestPosition (take n zs) (omega arith) (sizes-between r qName tName ts qs zs ok))
+
+  queries-read : pslQueries s ≡ take n qs
+  unfolding pslQueries pslWords
+  queries-read = rw (text-word 19) (list-values 0 largestPosition (take n qs) (omega arith) (queries-between r qName tName ts qs zs ok))
+
+  targets-read : pslTargets s ≡ take n ts
+  unfolding pslTargets pslWords
+  targets-read = rw (text-word 20) (list-values 0 largestPosition (take n ts) (omega arith) (targets-between r qName tName ts qs zs ok))
+
+  -- the names
+  query-read : partBytes s (placed s r .query .name) ≡ qName
+  unfolding placed pslWords
+  query-read = part-bytes s (wordAt s 0 9) ∙ text-word 9
+
+  target-read : partBytes s (placed s r .target .name) ≡ tName
+  unfolding placed pslWords
+  target-read = part-bytes s (wordAt s 0 13) ∙ text-word 13
+
+  -- the text is a PSL line that says the record
+  line-read : length s ≤ textLimit → PslLine s (wordValues r qName tName) (placed s r)
+  unfolding placed
+  line-read short =
+      let k = ok .rules in
+      let onQuery = on-renamed (λ (a b : ℕ). Fills a b n qs zs) (r .strand) (named r qName tName .query) (partOf (wordAt s 0 9)) (k .queryBlocks) in
+      record {
+        line = record { short = short; allowed = text-allowed; oneLine = text-line; count = text-count; spelt = rw text-words (words-spell r qName tName ts qs zs ok) };
+        matches = refl;
+        misMatches = refl;
+        repMatches = refl;
+        nCount = refl;
+        qNumInsert = refl;
+        qBaseInsert = refl;
+        tNumInsert = refl;
+        tBaseInsert = refl;
+        strand = refl;
+        query = record { name = refl; size = refl; start = refl; end = refl };
+        target = record { name = refl; size = refl; start = refl; end = refl };
+        blockCount = refl;
+        querySpan = record { some = k .querySpan .some; within = k .querySpan .within };
+        targetSpan = record { some = k .targetSpan .some; within = k .targetSpan .within };
+        targetBlocks = rw (targets-read, sizes-read) (fills-take _ _ n ts zs (k .targetBlocks));
+        queryBlocks = rw (queries-read, sizes-read) (fills-take _ _ n qs zs onQuery);
+        counts = rw (targets-read, queries-read, sizes-read) (k .counts);
+      }
+
+-- THE ROUND TRIP: the writer's checks hold, and the text is short enough
+module _ (r : Psl) (qName tName ts qs zs : List ℕ) (ok : writeCheck r qName tName ts qs zs ≡ Holds) (short : length (pslText r qName tName ts qs zs) ≤ textLimit) where
+  abbrev text : List ℕ
+  text = pslText r qName tName ts qs zs
+
+  may : MayWrite r qName tName ts qs zs
+  may = may-write r qName tName ts qs zs ok
+
+  pub back-check : pslCheck text ≡ Accepted (placed text r)
+  back-check = line-is text (placed text r) (wordValues r qName tName) (line-read r qName tName ts qs zs may short)
+
+  pub back-query : partBytes text (placed text r .query .name) ≡ qName
+  back-query = query-read r qName tName ts qs zs may
+
+  pub back-target : partBytes text (placed text r .target .name) ≡ tName
+  back-target = target-read r qName tName ts qs zs may
+
+  pub back-sizes : pslSizes text ≡ take (r .blockCount) zs
+  back-sizes = sizes-read r qName tName ts qs zs may
+
+  pub back-queries : pslQueries text ≡ take (r .blockCount) qs
+  back-queries = queries-read r qName tName ts qs zs may
+
+  pub back-targets : pslTargets text ≡ take (r .blockCount) ts
+  back-targets = targets-read r qName tName ts qs zs may
+
+  -- and with room for its blocks the text is read
+  pub back-read : (room : ℕ) → r .blockCount ≤ room → pslRead text room ≡ Accepted (placed text r)
+  unfolding pslRead roomCheck placed
+  back-read room h = rw (back-check, le-leb (r .blockCount) room h)

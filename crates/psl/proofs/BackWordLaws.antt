@@ -1,0 +1,192 @@
+-- A PSL record that may be written: the rules that it obeys, and that each of its words is there, shows, and spells its column. Assumes nothing.
+use mathlib.Core.Path.{_≡_, refl, ap, _∙_}
+use mathlib.Core.Bool.{true, false, _&&_}
+use mathlib.Core.List.{List, [], _∷_}
+use Prim.Native.Nat.{ℕ, _+_, _≤_, zero-le}
+use native.Mathlib.Omega.{arith}
+use lib.ListN.{length, take, drop}
+use lib.Seq.{take-all, take-length, length-take-le}
+use borrow.Author.Tests.{leb-true}
+use Rattle.ledger.specs.declared.Part.{Part}
+use Rattle.ledger.specs.declared.Strand.{Strand}
+use Rattle.ledger.specs.declared.Strand.the-variants.{Plus, Minus, Dot}
+use Rattle.ledger.specs.Limits.{nameLimit, largestPosition}
+use Rattle.ledger.specs.Strands.{strandLetter}
+use Rattle.ledger.specs.Parts.{partAt}
+use Rattle.text.specs.declared.Class.the-variants.{Graphic}
+use Rattle.text.specs.declared.Check.the-variants.{Holds}
+use Rattle.text.specs.Scan.{run, endOf}
+use Rattle.text.proofs.CheckLaws.{run-most, require-holds}
+use Rattle.text.proofs.TextLaws.{All, both}
+use Rattle.text.proofs.PieceLaws.{Worded, worded-none, worded-more}
+use Rattle.numbers.specs.Ranges.{Between}
+use Rattle.writing.specs.Digits.{digits, listText}
+use Rattle.kinds.specs.declared.Range.{Range}
+use Rattle.kinds.specs.declared.Range.the-variants.{Coordinate, Size}
+use Rattle.kinds.specs.declared.Kind.{Kind}
+use Rattle.kinds.specs.declared.Kind.the-variants.{Name, Number, Count, Items, Stranded}
+use Rattle.kinds.specs.Kinds.{leastOf, mostOf, countAfter}
+use Rattle.kinds.proofs.BackLaws.{Written, written}
+use Rattle.columns.specs.Spells.{Spells, spells-none, spells-more}
+use Rattle.blocks.specs.Blocks.{blocksFill, allBetween, countFits, rowsOf}
+use Rattle.blocks.proofs.RuleLaws.{between-of}
+use Rattle.psl.specs.declared.Side.{Side}
+use Rattle.psl.specs.declared.Psl.{Psl}
+use Rattle.psl.specs.Table.{pslColumns}
+use Rattle.psl.specs.Rows.{firstOn, lastOn, rowsFit, countsFit}
+use Rattle.psl.specs.Rules.{PslRules}
+use Rattle.psl.specs.Tests.{lengthFits, isTold, fieldsFit, rowNumbersFit, spansFit, pslValid}
+use Rattle.psl.specs.Write.{allGraphic, wordsShow, writeCheck, pslWords}
+use Rattle.psl.proofs.RuleLaws.{and-i, rules-of}
+
+-- a side with another name, and the record with names of these lengths
+abbrev pub renamed : Side → Part → Side
+renamed x p = record { name = p; size = x .size; start = x .start; end = x .end }
+
+abbrev pub named : Psl → List ℕ → List ℕ → Psl
+named r qName tName = record {
+  counts = r .counts;
+  strand = r .strand;
+  query = renamed (r .query) (partAt 0 (length qName));
+  target = renamed (r .target) (partAt 0 (length tName));
+  blockCount = r .blockCount;
+}
+
+-- where a side's blocks start and end does not depend on its name
+pub on-renamed : (P : ℕ → ℕ → Type 0) (t : Strand) (x : Side) (p : Part) → P (firstOn t x) (lastOn t x) → P (firstOn t (renamed x p)) (lastOn t (renamed x p))
+on-renamed P Plus x p h = h
+on-renamed P Minus x p h = h
+on-renamed P Dot x p h = h
+
+-- what the writer's checks show of a record, its names and its rows
+pub record MayWrite (r : Psl) (qName tName ts qs zs : List ℕ) : Type 0 where
+  pub rules : PslRules (named r qName tName) ts qs zs
+  pub told : isTold (r .strand) ≡ true
+  pub queryShows : All Graphic qName
+  pub targetShows : All Graphic tName
+  pub targets : allBetween 0 largestPosition (take (r .blockCount) ts) ≡ true
+  pub queries : allBetween 0 largestPosition (take (r .blockCount) qs) ≡ true
+  pub sizes : allBetween 1 largestPosition (take (r .blockCount) zs) ≡ true
+
+all-graphic : (w : List ℕ) → allGraphic w ≡ true → All Graphic w
+unfolding endOf
+all-graphic w e =
+    let l : length w ≤ 0 + run Graphic w = leb-true (length w) (endOf Graphic w 0) e in
+    omega (arith, run-most Graphic w)
+
+-- THE WRITER'S CHECKS, ONE BY ONE
+pub may-write : (r : Psl) (qName tName ts qs zs : List ℕ) → writeCheck r qName tName ts qs zs ≡ Holds → MayWrite r qName tName ts qs zs
+unfolding writeCheck wordsShow pslValid fieldsFit rowNumbersFit spansFit rowsFit
+may-write r qName tName ts qs zs e =
+    let n = r .blockCount in
+    let count = require-holds (countFits n (rowsOf ts qs zs)) _ _ e in
+    let words = require-holds (wordsShow r qName tName) _ _ (count .1) in
+    let numbers = require-holds (fieldsFit r && rowNumbersFit (take n ts) (take n qs) (take n zs)) _ _ (words .1) in
+    let spans = require-holds (spansFit r) _ _ (numbers .1) in
+    let rows = require-holds (rowsFit r (take n ts) (take n qs) (take n zs)) _ _ (spans .1) in
+    let counts = require-holds (countsFit (r .counts) (take n ts) (take n qs) (take n zs)) _ _ (rows .1) in
+    let names = both (lengthFits (length qName) && (lengthFits (length tName) && isTold (r .strand))) (allGraphic qName && allGraphic tName) (words .0) in
+    let query = both (lengthFits (length qName)) (lengthFits (length tName) && isTold (r .strand)) (names .0) in
+    let target = both (lengthFits (length tName)) (isTold (r .strand)) (query .1) in
+    let shown = both (allGraphic qName) (allGraphic tName) (names .1) in
+    let fields = both (fieldsFit r) (rowNumbersFit (take n ts) (take n qs) (take n zs)) (numbers .0) in
+    let targets = both (allBetween 0 largestPosition (take n ts)) (allBetween 0 largestPosition (take n qs) && allBetween 1 largestPosition (take n zs)) (fields .1) in
+    let others = both (allBetween 0 largestPosition (take n qs)) (allBetween 1 largestPosition (take n zs)) (targets .1) in
+    let blocks = both (blocksFill (r .target .start) (r .target .end) (take n ts) (take n zs)) (blocksFill (firstOn (r .strand) (r .query)) (lastOn (r .strand) (r .query)) (take n qs) (take n zs)) (rows .0) in
+    let onQuery = on-renamed (λ (a b : ℕ). blocksFill a b (take n qs) (take n zs) ≡ true) (r .strand) (r .query) (partAt 0 (length qName)) (blocks .1) in
+    let valid : pslValid (named r qName tName) ts qs zs ≡ true = and-i _ _ (count .0) (and-i _ _ (names .0) (and-i _ _ (fields .0) (and-i _ _ (fields .1) (and-i _ _ (spans .0) (and-i _ _ (and-i _ _ (blocks .0) onQuery) (counts .0)))))) in
+    record {
+      rules = rules-of (named r qName tName) ts qs zs valid;
+      told = target .1;
+      queryShows = all-graphic qName (shown .0);
+      targetShows = all-graphic tName (shown .1);
+      targets = targets .0;
+      queries = others .0;
+      sizes = others .1;
+    }
+
+-- one word of each kind
+name-written : (n : ℕ) (w : List ℕ) → 1 ≤ length w → length w ≤ nameLimit → All Graphic w → Written Name n (length w) w []
+name-written n w some short shows =
+    let a : take (length w) (drop 0 w) ≡ w = take-length w in
+    rw a at (written Name w [] n 0 (length w) 0 (record { some = some; short = short; there = ap length a; shows = ap (run Graphic) a ∙ shows }))
+
+strand-written : (n : ℕ) (t : Strand) → isTold t ≡ true → Written (Stranded false) n (strandLetter t) (strandLetter t ∷ []) []
+strand-written n Plus h = written (Stranded false) [] [] n 0 43 0 refl
+strand-written n Minus h = written (Stranded false) [] [] n 0 45 0 refl
+strand-written n Dot h = absurd (let z : _≡_ {A = ℕ} 0 1 = cc in omega arith)
+
+list-written : (c : Range) (n : ℕ) (xs : List ℕ) → 1 ≤ n → length xs ≡ n → Between (leastOf c) (mostOf c) xs → Written (Items c) n n (listText xs) xs
+list-written c n xs some l b =
+    let a : take n (drop 0 xs) ≡ xs = take-all n xs (omega arith) in
+    rw a at (written (Items c) [] xs n 0 n 0 (record { some = some; count = refl; there = ap length a ∙ l; range = rw a b }))
+
+coordinate-written : (n v : ℕ) → v ≤ largestPosition → Written (Number Coordinate) n v (digits v) []
+coordinate-written n v h = written (Number Coordinate) [] [] n 0 v 0 (zero-le, h)
+
+-- the words ws of the columns cs are there, show, and spell the values vs
+data Row : List Kind → ℕ → List (List ℕ) → List ℕ → Type 0 where
+  row-none : {n : ℕ} → Row [] n [] []
+  row-more : {n v : ℕ} {c : Kind} {cs : List Kind} {w held : List ℕ} {ws : List (List ℕ)} {vs : List ℕ} → Written c n v w held → Row cs (countAfter c v n) ws vs → Row (c ∷ cs) n (w ∷ ws) (v ∷ vs)
+
+row-spells : {n : ℕ} {cs : List Kind} {ws : List (List ℕ)} {vs : List ℕ} → Row cs n ws vs → Spells cs n ws vs
+row-spells row-none = spells-none
+row-spells (row-more g t) = spells-more (g .back) (row-spells t)
+
+row-worded : {n : ℕ} {cs : List Kind} {ws : List (List ℕ)} {vs : List ℕ} → Row cs n ws vs → Worded ws
+row-worded row-none = worded-none
+row-worded (row-more {w = w} g t) = worded-more w (g .some) (g .shows) (row-worded t)
+
+-- the values of a record's twenty-one columns; a name means its length, and a list too
+abbrev pub wordValues : Psl → List ℕ → List ℕ → List ℕ
+wordValues r qName tName =
+    r .counts .matches ∷ r .counts .misMatches ∷ r .counts .repMatches ∷ r .counts .nCount ∷ r .counts .qNumInsert ∷ r .counts .qBaseInsert ∷ r .counts .tNumInsert ∷ r .counts .tBaseInsert
+    ∷ strandLetter (r .strand) ∷ length qName ∷ r .query .size ∷ r .query .start ∷ r .query .end ∷ length tName ∷ r .target .size ∷ r .target .start ∷ r .target .end
+    ∷ r .blockCount ∷ r .blockCount ∷ r .blockCount ∷ r .blockCount ∷ []
+
+-- THE WORDS OF A RECORD SPELL IT
+module _ (r : Psl) (qName tName ts qs zs : List ℕ) (ok : MayWrite r qName tName ts qs zs) where
+  pub sizes-between : Between 1 largestPosition (take (r .blockCount) zs)
+  sizes-between = between-of 1 largestPosition (take (r .blockCount) zs) (ok .sizes)
+
+  pub queries-between : Between 0 largestPosition (take (r .blockCount) qs)
+  queries-between = between-of 0 largestPosition (take (r .blockCount) qs) (ok .queries)
+
+  pub targets-between : Between 0 largestPosition (take (r .blockCount) ts)
+  targets-between = between-of 0 largestPosition (take (r .blockCount) ts) (ok .targets)
+
+  row : Row pslColumns 0 (pslWords r qName tName ts qs zs) (wordValues r qName tName)
+  unfolding pslColumns pslWords
+  row =
+      let k = ok .rules in
+      let n = r .blockCount in
+      let q = k .queryRange in
+      let t = k .targetRange in
+      row-more (coordinate-written 0 (r .counts .matches) (k .matchesRange))
+      (row-more (coordinate-written 0 (r .counts .misMatches) (k .misMatchesRange))
+      (row-more (coordinate-written 0 (r .counts .repMatches) (k .repMatchesRange))
+      (row-more (coordinate-written 0 (r .counts .nCount) (k .nCountRange))
+      (row-more (coordinate-written 0 (r .counts .qNumInsert) (k .qNumInsertRange))
+      (row-more (coordinate-written 0 (r .counts .qBaseInsert) (k .qBaseInsertRange))
+      (row-more (coordinate-written 0 (r .counts .tNumInsert) (k .tNumInsertRange))
+      (row-more (coordinate-written 0 (r .counts .tBaseInsert) (k .tBaseInsertRange))
+      (row-more (strand-written 0 (r .strand) (ok .told))
+      (row-more (name-written 0 qName (q .nameSome) (q .nameShort) (ok .queryShows))
+      (row-more (written (Number Size) [] [] 0 0 (r .query .size) 0 (q .sizeSome, q .sizeRange))
+      (row-more (coordinate-written 0 (r .query .start) (q .startRange))
+      (row-more (coordinate-written 0 (r .query .end) (q .endRange))
+      (row-more (name-written 0 tName (t .nameSome) (t .nameShort) (ok .targetShows))
+      (row-more (written (Number Size) [] [] 0 0 (r .target .size) 0 (t .sizeSome, t .sizeRange))
+      (row-more (coordinate-written 0 (r .target .start) (t .startRange))
+      (row-more (coordinate-written 0 (r .target .end) (t .endRange))
+      (row-more (written Count [] [] 0 0 n 0 (k .someBlock, k .fewBlocks))
+      (row-more (list-written Size n (take n zs) (k .someBlock) (length-take-le n zs (k .sizeRows)) sizes-between)
+      (row-more (list-written Coordinate n (take n qs) (k .someBlock) (length-take-le n qs (k .queryRows)) queries-between)
+      (row-more (list-written Coordinate n (take n ts) (k .someBlock) (length-take-le n ts (k .targetRows)) targets-between)
+      row-none))))))))))))))))))))
+
+  pub words-spell : Spells pslColumns 0 (pslWords r qName tName ts qs zs) (wordValues r qName tName)
+  words-spell = row-spells row
+
+  pub words-worded : Worded (pslWords r qName tName ts qs zs)
+  words-worded = row-worded row
