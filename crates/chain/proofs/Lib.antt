@@ -4,3 +4,9 @@ pub mod WalkLaws
 pub mod StageLaws
 pub mod TestLaws
 pub mod WriteLaws
+pub mod RuleLaws
+pub mod LineLaws
+pub mod TextLaws
+pub mod ValidLaws
+pub mod BackLaws
+pub mod Vectors

@@ -1,8 +1,8 @@
 -- The stages of reading a chain: one that refuses, and one that goes on. Assumes nothing.
-use mathlib.Core.Path.{_≡_, refl, sym, ap, _∙_}
+use mathlib.Core.Path.{_≡_, refl, sym, _∙_}
 use mathlib.Core.Bool.{Bool, true, false}
 use mathlib.Core.List.{List, [], _∷_}
-use Prim.Native.Nat.{ℕ, _+_, _-_, _*_, _≤_, _<_}
+use Prim.Native.Nat.{ℕ, _-_, _*_, _≤_, _<_}
 use native.Mathlib.Omega.{arith}
 use lib.ListN.{length, replicate, getD, take, drop, length-drop}
 use lib.Seq.{sets, take-all}
@@ -37,7 +37,7 @@ use Rattle.chain.specs.declared.ChainAnswer.{ChainAnswer}
 use Rattle.chain.specs.declared.ChainAnswer.the-variants.{Accepted, Refused}
 use Rattle.chain.specs.Table.{chainColumns}
 use Rattle.chain.specs.Records.{chainRecord, chainTargets, chainQueries, chainSizes}
-use Rattle.chain.specs.Read.{thenCheck, headCheck, spanCheck, fillCheck, roomCheck, linesFrom, afterLast, afterLines, afterSpans, afterColumns, afterWords, afterText, chainCheck, chainRead, rowsAfter, Counted, Begins, Placed, Walked, Headed, Held, Staged, RowsStored, ChainRead}
+use Rattle.chain.specs.Read.{thenCheck, headCheck, spanCheck, fillCheck, roomCheck, afterLast, afterLines, afterSpans, afterColumns, afterWords, afterText, chainCheck, chainRead, Counted, Walked, Headed, Held, Staged, RowsStored, ChainRead}
 use Rattle.chain.proofs.BlockLaws.{stored-at, zeros}
 
 -- the codes of the table in the code
@@ -79,9 +79,6 @@ unfolding afterLines afterLast
 lines-record s vs e b q = record-of (lastLineCheck s (e .line)) (fillCheck s (chainRecord vs (e .count)) e) (chainRecord vs (e .count)) b q
 
 -- the block lines
-pub spans-begin : (vs rows : List ℕ) (t q : ℕ) → Headed vs rows → t ≡ getD vs 10 0 → q ≡ getD vs 20 0 → Begins t q rows
-spans-begin vs rows t q h et eq = record { target = rw et (h .target); query = rw eq (h .query); long = h .long }
-
 module _ (s vs rows rows′ : List ℕ) (from t q : ℕ) (ef : from ≡ nextLine s 0) (et : t ≡ getD vs 10 0) (eq : q ≡ getD vs 20 0) (x : Lines) (walked : Walked s from t q rows rows′ x) where
   pub spans-refused : (y : Refusal) → x ≡ lines.Refused y → Staged s (afterSpans s vs) rows′ (Refused y)
   unfolding afterSpans

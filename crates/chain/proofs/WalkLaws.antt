@@ -5,7 +5,6 @@ use Prim.Native.Nat.{ℕ, zero, suc, _+_, _-_, _*_, _≤_, _<_}
 use native.Mathlib.Omega.{arith}
 use lib.ListN.{length, set, take, drop, length-set, length-drop}
 use lib.Seq.{take-suc-set, take-set-le, drop-set-lt, drop-set-add}
-use lib.Dec.{ltb}
 use mir.Val.{Fits}
 use mir.Syntax.{w64}
 use borrow.Author.Tests.{lt-ltb, le-ltb}
@@ -17,7 +16,6 @@ use Rattle.chain.specs.declared.Block.{Block}
 use Rattle.chain.specs.declared.Block.the-variants.{Last, Gap}
 use Rattle.chain.specs.declared.Block.the-variants as block
 use Rattle.chain.specs.declared.Ending.{Ending}
-use Rattle.chain.specs.declared.Lines.{Lines}
 use Rattle.chain.specs.declared.Lines.the-variants.{Ended}
 use Rattle.chain.specs.declared.Lines.the-variants as lines
 use Rattle.chain.specs.Records.{sizeAt, targetGap, queryGap, targetsFrom, queriesFrom, sizesFrom}
@@ -109,12 +107,12 @@ module _ (s : List ℕ) (line t q : ℕ) where
     from-refused zero x y g = absurd (y refl)
     from-refused (suc k) x y g = rw (lt-ltb line (length s) h, g)
 
-    from-last : (k z : ℕ) → (k ≡ 0 → ⊥) → blockLine s line ≡ Last z → linesFrom k s line t q ≡ Ended (endingAt line (blockLimit - (k - 1)) (t + z) (q + z))
+    pub from-last : (k z : ℕ) → (k ≡ 0 → ⊥) → blockLine s line ≡ Last z → linesFrom k s line t q ≡ Ended (endingAt line (blockLimit - (k - 1)) (t + z) (q + z))
     unfolding linesFrom
     from-last zero z y g = absurd (y refl)
     from-last (suc k) z y g = let o : suc k - 1 ≡ k = omega arith in rw (lt-ltb line (length s) h, g, o)
 
-    from-gap : (k z dt dq : ℕ) → (k ≡ 0 → ⊥) → blockLine s line ≡ Gap z dt dq → linesFrom k s line t q ≡ linesFrom (k - 1) s (nextLine s line) (t + z + dt) (q + z + dq)
+    pub from-gap : (k z dt dq : ℕ) → (k ≡ 0 → ⊥) → blockLine s line ≡ Gap z dt dq → linesFrom k s line t q ≡ linesFrom (k - 1) s (nextLine s line) (t + z + dt) (q + z + dq)
     unfolding linesFrom
     from-gap zero z dt dq y g = absurd (y refl)
     from-gap (suc k) z dt dq y g = let o : suc k - 1 ≡ k = omega arith in rw (lt-ltb line (length s) h, g, o)

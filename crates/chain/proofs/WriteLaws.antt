@@ -1,12 +1,12 @@
 -- Writing a chain: what each stage shows, on plain values. Assumes nothing.
 use mathlib.Core.Path.{_≡_, refl, sym, ap, _∙_}
-use mathlib.Core.Bool.{Bool, true, false, _&&_}
+use mathlib.Core.Bool.{Bool, true, false}
 use mathlib.Core.List.{List, [], _∷_, _++_}
-use Prim.Native.Nat.{ℕ, zero, suc, _+_, _-_, _*_, _%_, _≤_, _<_}
+use Prim.Native.Nat.{ℕ, suc, _+_, _-_, _%_, _≤_, _<_}
 use native.Mathlib.Numerals.{add-one}
 use native.Mathlib.Omega.{arith}
-use lib.ListN.{length, getD, take, drop, length-take}
-use lib.Seq.{sets, length-sets}
+use lib.ListN.{length, getD, take, length-take}
+use lib.Seq.{length-sets}
 use lib.Dec.{leb}
 use borrow.Author.Tests.{leb-true}
 use Rattle.ledger.specs.Limits.{nameLimit, blockLimit}
@@ -18,7 +18,6 @@ use Rattle.text.specs.declared.Check.{Check}
 use Rattle.text.specs.declared.Check.the-variants.{Holds}
 use Rattle.text.specs.declared.Check.the-variants as check
 use Rattle.text.specs.Checks.{pickCheck}
-use Rattle.text.specs.Pieces.{joined}
 use Rattle.text.proofs.TextLaws.{both}
 use Rattle.writing.specs.Digits.{digits}
 use Rattle.writing.specs.Puts.{Put}
@@ -31,11 +30,11 @@ use Rattle.columns.specs.Lines.{lineText, fedLine}
 use Rattle.columns.specs.Ranges.{wordsFrom}
 use Rattle.columns.proofs.BackLaws.{line-joins}
 use Rattle.columns.proofs.PlaceLaws.{sets-keep, sets-there}
-use Rattle.blocks.specs.Blocks.{countFits, rowsOf}
+use Rattle.blocks.specs.Blocks.{rowsOf}
 use Rattle.chain.specs.declared.Chain.{Chain}
 use Rattle.chain.specs.Table.{chainColumns, blockColumns}
-use Rattle.chain.specs.Tests.{lengthFits, namesFit, strandFits, fieldsFit, rowNumbersFit, spansFit, rowsFit}
-use Rattle.chain.specs.Write.{namesShow, writeCheck, headWords, fedWords, gapTo, gapWords, blockText, chainText, chainValues, textOf, chainWrite, ChainWrote, NamesShort, NamesPut, RowsThere, Writable}
+use Rattle.chain.specs.Tests.{lengthFits, namesFit, strandFits}
+use Rattle.chain.specs.Write.{namesShow, writeCheck, headWords, fedWords, gapTo, gapWords, blockText, chainText, chainValues, textOf, chainWrite, ChainWrote, NamesShort, NamesPut, Writable}
 use Rattle.chain.proofs.BlockLaws as blocks
 use Rattle.chain.proofs.StageLaws as stages
 
@@ -143,14 +142,6 @@ module _ (r : Chain) (tName qName names : List ℕ) (put : NamesPut tName qName 
   pub text-wrote : (ts qs zs vs b b′ : List ℕ) (x : Writing) → vs ≡ chainValues r (length tName) (length qName) → Wrote (textOf names vs (r .blockCount) ts qs zs) b b′ x → Wrote (chainText r tName qName ts qs zs) b b′ x
   unfolding textOf chainText
   text-wrote ts qs zs vs b b′ x ev w = rw (ev, head-is) at w
-
--- what the stages ask of a record that passed the checks
-module _ (r : Chain) (tName qName ts qs zs : List ℕ) (w : Writable r tName qName ts qs zs) where
-  pub names-short : (t : List ℕ) → length t ≡ 2 * nameLimit → NamesShort tName qName t
-  names-short t e = record { long = e; tShort = w .tShort; qShort = w .qShort }
-
-  pub rows-there : RowsThere (r .blockCount) ts qs zs
-  rows-there = w .rows
 
 -- a check that holds: its test is true, and what follows it holds
 pub require-holds : (t : Bool) (rest : Check) (x : Refusal) → pickCheck t rest (check.Refused x) ≡ Holds → (t ≡ true) × (rest ≡ Holds)

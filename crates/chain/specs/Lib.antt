@@ -3,3 +3,4 @@ pub mod Records
 pub mod Read
 pub mod Tests
 pub mod Write
+pub mod Rules

@@ -1,13 +1,12 @@
 -- Reading a chain: the checks in the ledger's order. Each stage names what is tested from there on; the last one, `chainRead`, is the reader.
-use Prim.Native.Nat.{ℕ, zero, suc, _+_, _-_, _*_, _≤_, _<_}
+use Prim.Native.Nat.{ℕ, zero, suc, _+_, _-_, _*_, _≤_}
 use mathlib.Core.Path.{_≡_}
 use mathlib.Core.Bool.{Bool, true, false, _&&_, _||_}
-use mathlib.Core.List.{List, [], _∷_}
-use lib.ListN.{length, take, drop, getD, set}
+use mathlib.Core.List.{List, []}
+use lib.ListN.{length, take, drop, getD}
 use lib.Seq.{sets}
 use lib.Dec.{leb, ltb, eqb}
 use Rattle.ledger.specs.declared.Reason.the-variants.{WrongCount, SpanDisagrees, BlockRules, NoRoom}
-use Rattle.ledger.specs.declared.Refusal.{Refusal}
 use Rattle.ledger.specs.Limits.{blockLimit, largestPosition}
 use Rattle.text.specs.declared.Check.{Check}
 use Rattle.text.specs.declared.Check.the-variants.{Holds}
@@ -30,7 +29,7 @@ use Rattle.chain.specs.declared.Lines.the-variants as lines
 use Rattle.chain.specs.declared.ChainAnswer.{ChainAnswer}
 use Rattle.chain.specs.declared.ChainAnswer.the-variants.{Accepted, Refused}
 use Rattle.chain.specs.Table.{chainColumns, blockColumns}
-use Rattle.chain.specs.Records.{chainRecord, spanFits, lineValues, sizeAt, targetGap, queryGap, targetsFrom, queriesFrom, sizesFrom, chainTargets, chainQueries, chainSizes}
+use Rattle.chain.specs.Records.{chainRecord, spanFits, targetGap, queryGap, targetsFrom, queriesFrom, sizesFrom, chainTargets, chainQueries, chainSizes}
 
 -- where a check holds go on, else stop with its refusal
 abbrev pub thenCheck : Check → ChainAnswer → ChainAnswer
@@ -251,11 +250,6 @@ pub record Staged (s : List ℕ) (answer : ChainAnswer) (rows′ : List ℕ) (r 
 pub record Headed (vs rows : List ℕ) : Type 0 where
   pub target : getD vs 10 0 ≤ largestPosition
   pub query : getD vs 20 0 ≤ largestPosition
-  pub long : length rows ≡ 3 * blockLimit
-
--- the rows that the walk left, before the last checks
-pub record Walks (s vs : List ℕ) (e : Ending) (rows : List ℕ) : Type 0 where
-  pub held : Placed s (nextLine s 0) (getD vs 10 0) (getD vs 20 0) (e .count) rows
   pub long : length rows ≡ 3 * blockLimit
 
 -- what storing the rows of an accepted chain promises

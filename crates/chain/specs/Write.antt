@@ -1,11 +1,10 @@
 -- Writing a chain: the writers' refusals in their order, and the standard text.
-use Prim.Native.Nat.{ℕ, zero, suc, _+_, _-_, _*_, _<_, _≤_}
+use Prim.Native.Nat.{ℕ, zero, suc, _+_, _-_, _*_, _≤_}
 use mathlib.Core.Path.{_≡_}
-use mathlib.Core.Bool.{Bool, true, false, _&&_}
+use mathlib.Core.Bool.{Bool, _&&_}
 use mathlib.Core.List.{List, [], _∷_, _++_}
 use lib.ListN.{length, take, drop, getD}
 use Rattle.ledger.specs.declared.Reason.the-variants.{NumberOutOfRange, BadWord, SpanDisagrees, BlockRules}
-use Rattle.ledger.specs.declared.Refusal.{Refusal}
 use Rattle.ledger.specs.Limits.{nameLimit, blockLimit}
 use Rattle.ledger.specs.Strands.{strandLetter}
 use Rattle.text.specs.declared.Check.{Check}

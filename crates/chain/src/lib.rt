@@ -1,14 +1,14 @@
 // One chain: reader, text checker, record checker, writer, over three flat slices of blocks.
 ghost use mathlib.Core.Path.{_≡_};
 ghost use Prim.Native.Nat.{_+_, _-_, _*_, _≤_, _<_};
-ghost use lib.ListN.{length, set, getD, take, drop};
+ghost use lib.ListN.{length, set, take};
 ghost use Rattle.ledger.specs.Limits.{nameLimit, blockLimit};
 ghost use Rattle.ledger.specs.Strands.{strandOf};
 ghost use Rattle.text.specs.Checks.{require};
 ghost use Rattle.writing.specs.Puts.{Put};
 ghost use Rattle.writing.specs.Answers.{Wrote};
 ghost use Rattle.chain.specs.Records.{partAt, strandIs, chainRecord, spanFits};
-ghost use Rattle.chain.specs.Read.{headCheck, spanCheck, isBlockCount, blockWords, blockIs, fillCheck, afterLast, afterLines, afterSpans, afterColumns, afterWords, afterText, chainCheck, LineCounted, NumbersRead, BlockRead, Counted, Begins, Walked, Headed, Walks, Staged, Held, RowsStored, ChainRead};
+ghost use Rattle.chain.specs.Read.{headCheck, spanCheck, isBlockCount, blockWords, blockIs, fillCheck, afterLast, afterLines, afterSpans, afterColumns, afterWords, afterText, chainCheck, LineCounted, NumbersRead, BlockRead, Counted, Begins, Walked, Headed, Staged, Held, RowsStored, ChainRead};
 ghost use Rattle.chain.specs.Tests.{lengthFits, namesFit, allGraphic, strandFits, sizeFits, fieldsFit, rowNumbersFit, spansFit, rowsFit, chainValid};
 ghost use Rattle.chain.specs.Write.{namesShow, writeCheck, fedWords, gapTo, gapWords, blockText, chainText, chainValues, textOf, ChainWrote, recordCheck, NamesShort, NamesPut, RowsThere, Writable};
 ghost use Rattle.chain.specs.Table.{blockColumns};

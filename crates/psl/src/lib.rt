@@ -325,7 +325,8 @@ fn store_rows(
     PslAnswer::Accepted(r)
 }
 
-// THE READER: one PSL line, its blocks to the front of three lent slices. A refusal leaves them as they were, and rows past the blocks stay.
+// THE READER: one PSL line, its blocks to the front of three lent slices. A refusal leaves them as they were, and rows past the
+// blocks stay.
 pub fn read_psl(
     text: &[u8],
     targets: &mut [u64],
@@ -629,7 +630,8 @@ fn write_text(
     columns::write_line(buf, &table, b'\t', &names, &values, &lists)
 }
 
-// THE WRITER: a record with its names and rows to the front of a buffer, or the first refusal in the writers' order, which leaves the buffer.
+// THE WRITER: a record with its names and rows to the front of a buffer, or the first refusal in the writers' order, which
+// leaves the buffer.
 pub fn write_psl(
     r: Psl,
     query: &[u8],

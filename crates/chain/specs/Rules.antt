@@ -1,0 +1,114 @@
+-- What a chain's text and a chain record are: the rules of the UCSC page and of 01, one field for each, with no order of checks in them.
+use Prim.Native.Nat.{ℕ, _+_, _-_, _≤_, _<_}
+use mathlib.Core.Path.{_≡_}
+use mathlib.Core.List.{List, [], _∷_}
+use lib.ListN.{length, take, getD}
+use Rattle.ledger.specs.declared.Part.{Part}
+use Rattle.ledger.specs.declared.Strand.the-variants.{Dot}
+use Rattle.ledger.specs.Limits.{textLimit, nameLimit, blockLimit, largestPosition, chainScoreLimit, chainIdLimit}
+use Rattle.ledger.specs.Strands.{strandLetter}
+use Rattle.text.specs.declared.Class.the-variants.{Allowed}
+use Rattle.text.specs.declared.Extent.{Extent}
+use Rattle.text.specs.Scan.{run}
+use Rattle.text.specs.Pieces.{linesOf, lineOf, wordsOf}
+use Rattle.text.specs.Words.{wordAt}
+use Rattle.columns.specs.Spells.{Spells}
+use Rattle.blocks.specs.Rules.{Fills, Ranged}
+use Rattle.chain.specs.declared.Chain.{Chain}
+use Rattle.chain.specs.Table.{chainColumns, blockColumns}
+
+-- the part of a text that a word stands in
+abbrev pub partOf : Extent → Part
+partOf w = record { start = w .start; length = w .end - w .start }
+
+-- lines of blocks and the rows that they say, the first block starting at t and q: each line but the last spells a size and the gaps to the next block, the
+-- last a size alone, and its block ends at te and qe
+pub data BlockLines (te qe : ℕ) : List (List ℕ) → ℕ → ℕ → List ℕ → List ℕ → List ℕ → Type 0 where
+  last-line : {line : List ℕ} {t q z : ℕ} → Spells (take 1 blockColumns) 0 (wordsOf line) (z ∷ []) → t + z ≡ te → q + z ≡ qe → BlockLines te qe (line ∷ []) t q (t ∷ []) (q ∷ []) (z ∷ [])
+  more-lines : {line : List ℕ} {lines : List (List ℕ)} {t q z dt dq : ℕ} {ts qs zs : List ℕ} → Spells blockColumns 0 (wordsOf line) (z ∷ dt ∷ dq ∷ [])
+      → BlockLines te qe lines (t + z + dt) (q + z + dq) ts qs zs → BlockLines te qe (line ∷ lines) t q (t ∷ ts) (q ∷ qs) (z ∷ zs)
+
+-- the text s is a chain: a first line whose words spell the values vs, one a column, and the lines ls of its blocks; the record r with the rows ts, qs, zs
+-- is what it says
+pub record ChainText (s vs : List ℕ) (ls : List (List ℕ)) (r : Chain) (ts qs zs : List ℕ) : Type 0 where
+  -- the text
+  pub short : length s ≤ textLimit
+  pub allowed : run Allowed s ≡ length s
+  pub lines : linesOf s ≡ lineOf s ∷ ls
+  -- the words of its first line
+  pub spelt : Spells chainColumns 0 (wordsOf (lineOf s)) vs
+  -- the record is what they spell
+  pub score : r .score ≡ getD vs 1 0
+  pub tName : r .tName ≡ partOf (wordAt s 0 2)
+  pub tSize : r .tSize ≡ getD vs 3 0
+  pub tStart : r .tStart ≡ getD vs 5 0
+  pub tEnd : r .tEnd ≡ getD vs 6 0
+  pub qName : r .qName ≡ partOf (wordAt s 0 7)
+  pub qSize : r .qSize ≡ getD vs 8 0
+  pub qStrand : strandLetter (r .qStrand) ≡ getD vs 9 0
+  pub qStart : r .qStart ≡ getD vs 10 0
+  pub qEnd : r .qEnd ≡ getD vs 11 0
+  pub id : r .id ≡ getD vs 12 0
+  -- the spans
+  pub tSpan : r .tStart < r .tEnd
+  pub tInside : r .tEnd ≤ r .tSize
+  pub qSpan : r .qStart < r .qEnd
+  pub qInside : r .qEnd ≤ r .qSize
+  -- the blocks, from the start of either span to its end
+  pub blocks : BlockLines (r .tEnd) (r .qEnd) ls (r .tStart) (r .qStart) ts qs zs
+  pub count : length zs ≡ r .blockCount
+  pub few : r .blockCount ≤ blockLimit
+
+-- the record r with the first blockCount rows of ts, qs, zs is a chain record
+pub record ChainRules (r : Chain) (ts qs zs : List ℕ) : Type 0 where
+  -- the count of blocks
+  pub someBlock : 1 ≤ r .blockCount
+  pub fewBlocks : r .blockCount ≤ blockLimit
+  pub targetRows : r .blockCount ≤ length ts
+  pub queryRows : r .blockCount ≤ length qs
+  pub sizeRows : r .blockCount ≤ length zs
+  -- names and strand
+  pub tNameSome : 1 ≤ r .tName .length
+  pub tNameShort : r .tName .length ≤ nameLimit
+  pub qNameSome : 1 ≤ r .qName .length
+  pub qNameShort : r .qName .length ≤ nameLimit
+  pub stranded : r .qStrand ≡ Dot → ⊥
+  -- ranges
+  pub scoreRange : r .score ≤ chainScoreLimit
+  pub tSizeSome : 1 ≤ r .tSize
+  pub tSizeRange : r .tSize ≤ largestPosition
+  pub tStartRange : r .tStart ≤ largestPosition
+  pub tEndRange : r .tEnd ≤ largestPosition
+  pub qSizeSome : 1 ≤ r .qSize
+  pub qSizeRange : r .qSize ≤ largestPosition
+  pub qStartRange : r .qStart ≤ largestPosition
+  pub qEndRange : r .qEnd ≤ largestPosition
+  pub idRange : r .id ≤ chainIdLimit
+  pub targetRange : Ranged 0 largestPosition (r .blockCount) ts
+  pub queryRange : Ranged 0 largestPosition (r .blockCount) qs
+  pub sizeRange : Ranged 1 largestPosition (r .blockCount) zs
+  -- the spans
+  pub tSpan : r .tStart < r .tEnd
+  pub tInside : r .tEnd ≤ r .tSize
+  pub qSpan : r .qStart < r .qEnd
+  pub qInside : r .qEnd ≤ r .qSize
+  -- the blocks
+  pub tBlocks : Fills (r .tStart) (r .tEnd) (r .blockCount) ts zs
+  pub qBlocks : Fills (r .qStart) (r .qEnd) (r .blockCount) qs zs
+
+-- the record with its names where they stand in a text: what the reader makes of the record's standard text
+unfoldable pub placed : List ℕ → Chain → Chain
+placed s r = record {
+  score = r .score;
+  tName = partOf (wordAt s 0 2);
+  tSize = r .tSize;
+  tStart = r .tStart;
+  tEnd = r .tEnd;
+  qName = partOf (wordAt s 0 7);
+  qSize = r .qSize;
+  qStrand = r .qStrand;
+  qStart = r .qStart;
+  qEnd = r .qEnd;
+  id = r .id;
+  blockCount = r .blockCount;
+}
