@@ -2,3 +2,4 @@ pub mod BlockLaws
 pub mod GapLaws
 pub mod RuleLaws
 pub mod TakeLaws
+pub mod TableLaws

@@ -1,4 +1,4 @@
-// What every layer shares: the reasons of a refusal with their numbers, strands, positions, parts of a text, and the limits by name.
+// What every layer shares: the reasons of a refusal with their numbers, strands, positions, rows, parts of a text, and the limits by name.
 ghost use mathlib.Core.Path.{_≡_};
 ghost use Rattle.ledger.specs.Reasons.{reasonNumber};
 ghost use Rattle.ledger.specs.Strands.{strandOpposite, strandLetter, strandOf, strandIs};
@@ -153,6 +153,13 @@ impl Strand {
         }
         Strand::Dot
     }
+}
+
+// A row of a lent table, one block: where it starts on the target and on the query (with `-`, on the reversed query), and its size.
+pub struct Row {
+    pub target: u64,
+    pub query: u64,
+    pub size: u64,
 }
 
 // Where a name stands in a text: its first byte and its length.
