@@ -4,8 +4,8 @@ use mathlib.Core.List.{List, [], _∷_, _++_, map}
 use Prim.Native.Nat.{ℕ, zero, suc, _+_, _≤_, _<_, min}
 use native.Mathlib.Numerals.{add-one}
 use native.Mathlib.Omega.{arith}
-use lib.ListN.{length, take, drop, getD, length-take, drop-of-length-le}
-use lib.Seq.{drop-cons, getD-take}
+use lib.ListN.{length, take, drop, getD, length-take, length-map, drop-of-length-le, List·getD-map}
+use lib.Seq.{drop-cons, getD-take, length-take-le, ext-getD}
 use Rattle.ledger.specs.declared.Row.{Row}
 use Rattle.blocks.specs.Rows.{rowAs, tableOf, targetsOf, queriesOf, sizesOf, noRow, rowAt}
 
@@ -43,30 +43,20 @@ module _ (n : ℕ) (ts qs zs : List ℕ) (ht : n ≤ length ts) (hq : n ≤ leng
   pub taken-end : (i : ℕ) → n ≤ i → drop i (taken n ts qs zs) ≡ []
   taken-end i h = let l : length (taken n ts qs zs) ≤ i = omega (arith, taken-length) in drop-of-length-le (taken n ts qs zs) l
 
--- the flat lists of a table begin with the slices' numbers
-pub targets-taken : (n : ℕ) (ts qs zs : List ℕ) → n ≤ length ts → n ≤ length qs → n ≤ length zs → take n (targetsOf (tableOf ts qs zs)) ≡ take n ts
-unfolding tableOf
-targets-taken zero ts qs zs ht hq hz = refl
-targets-taken (suc n) [] qs zs ht hq hz = absurd (omega arith)
-targets-taken (suc n) (x ∷ ts) [] zs ht hq hz = absurd (omega arith)
-targets-taken (suc n) (x ∷ ts) (y ∷ qs) [] ht hq hz = absurd (omega arith)
-targets-taken (suc n) (x ∷ ts) (y ∷ qs) (z ∷ zs) ht hq hz = ap (λ (l : List ℕ). x ∷ l) (targets-taken n ts qs zs (omega arith) (omega arith) (omega arith))
-
-pub queries-taken : (n : ℕ) (ts qs zs : List ℕ) → n ≤ length ts → n ≤ length qs → n ≤ length zs → take n (queriesOf (tableOf ts qs zs)) ≡ take n qs
-unfolding tableOf
-queries-taken zero ts qs zs ht hq hz = refl
-queries-taken (suc n) [] qs zs ht hq hz = absurd (omega arith)
-queries-taken (suc n) (x ∷ ts) [] zs ht hq hz = absurd (omega arith)
-queries-taken (suc n) (x ∷ ts) (y ∷ qs) [] ht hq hz = absurd (omega arith)
-queries-taken (suc n) (x ∷ ts) (y ∷ qs) (z ∷ zs) ht hq hz = ap (λ (l : List ℕ). y ∷ l) (queries-taken n ts qs zs (omega arith) (omega arith) (omega arith))
-
-pub sizes-taken : (n : ℕ) (ts qs zs : List ℕ) → n ≤ length ts → n ≤ length qs → n ≤ length zs → take n (sizesOf (tableOf ts qs zs)) ≡ take n zs
-unfolding tableOf
-sizes-taken zero ts qs zs ht hq hz = refl
-sizes-taken (suc n) [] qs zs ht hq hz = absurd (omega arith)
-sizes-taken (suc n) (x ∷ ts) [] zs ht hq hz = absurd (omega arith)
-sizes-taken (suc n) (x ∷ ts) (y ∷ qs) [] ht hq hz = absurd (omega arith)
-sizes-taken (suc n) (x ∷ ts) (y ∷ qs) (z ∷ zs) ht hq hz = ap (λ (l : List ℕ). z ∷ l) (sizes-taken n ts qs zs (omega arith) (omega arith) (omega arith))
+-- a flat list of the table, the column g of its rows, begins with the numbers xs that the rows hold there
+pub column-taken : (g : Row → ℕ) (xs : List ℕ) (n : ℕ) (ts qs zs : List ℕ) → g noRow ≡ 0 → n ≤ length xs → n ≤ length ts → n ≤ length qs → n ≤ length zs
+    → ((i : ℕ) → i < n → g (rowAt ts qs zs i) ≡ getD xs i 0) → take n (map g (tableOf ts qs zs)) ≡ take n xs
+column-taken g xs n ts qs zs z hx ht hq hz e =
+    let l : length (take n (map g (tableOf ts qs zs))) ≡ n = length-take-le n (map g (tableOf ts qs zs)) (omega (arith, length-map (tableOf ts qs zs) g, table-length ts qs zs)) in
+    let m : length (take n xs) ≡ n = length-take-le n xs hx in
+    ext-getD 0 (take n (map g (tableOf ts qs zs))) (take n xs) (l ∙ sym m) (λ i h.
+    let k : i < n = omega arith in
+    getD-take n (map g (tableOf ts qs zs)) i 0 k
+    ∙ ap (λ (d : ℕ). getD (map g (tableOf ts qs zs)) i d) (sym z)
+    ∙ List·getD-map g (tableOf ts qs zs) i noRow
+    ∙ ap g (table-at ts qs zs i (omega arith) (omega arith) (omega arith))
+    ∙ e i k
+    ∙ sym (getD-take n xs i 0 k))
 
 -- three slices that begin with the flat lists of some rows
 table-front : (bs : List Row) (xs ys zs : List ℕ) → tableOf (targetsOf bs ++ xs) (queriesOf bs ++ ys) (sizesOf bs ++ zs) ≡ bs ++ tableOf xs ys zs

@@ -35,6 +35,10 @@ bedScoreLimit = 1000
 abbrev pub colourLimit : ℕ
 colourLimit = 255
 
+-- each field of a tally
+abbrev pub tallyLimit : ℕ
+tallyLimit = 9223372036854775807
+
 -- the largest place that a word of the machine holds; no text, buffer or table is longer
 abbrev pub largestPlace : ℕ
 largestPlace = 18446744073709551615

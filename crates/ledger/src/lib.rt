@@ -26,6 +26,9 @@ pub const BED_SCORE_LIMIT: u64 = 1000;
 // Each of the three numbers of a colour is at most this.
 pub const COLOUR_LIMIT: u64 = 255;
 
+// Each field of a tally is at most this.
+pub const TALLY_LIMIT: u64 = 9223372036854775807;
+
 // The largest place that a word of the machine holds.
 pub const LARGEST_PLACE: usize = 18446744073709551615;
 

@@ -1,0 +1,6 @@
+pub mod RunLaws
+pub mod PairLaws
+pub mod AcceptLaws
+pub mod FindLaws
+pub mod PositionLaws
+pub mod ConversionLaws

@@ -1,0 +1,116 @@
+use Prim.Native.Nat.{_-_, _≤_, _<_}
+use mathlib.Core.Path.{refl}
+use lib.ListN.{getD}
+use native.Mathlib.Omega.{arith}
+use borrow.Author.Needs.{needs}
+use Rattle.lift.specs.Pairs.{forwardOn, pairs}
+use Rattle.lift.proofs.FindLaws.{held, Seeking, seek-on, seek-found, seek-past, told-low}
+use Rattle.lift.proofs.find_partner.Statement.{statement}
+use Rattle.lift.proofs.find_partner.Tie as tie
+use Rattle.lift.proofs.find_partner.Reads as reads
+use Rattle.lift.proofs.find_partner.Lts as lts
+use Rattle.lift.proofs.forward_base.Reads as forward-base-reads
+use Rattle.lift.proofs.in_block.Reads as in-block-reads
+
+abbrev Inv-loop : tie.InvT-loop
+Inv-loop targets queries sizes p n k size i₀ i = Seeking (forwardOn k size) targets queries sizes p n i
+
+abbrev μ-loop : tie.MeasureT-loop
+μ-loop targets queries sizes p n k size i₀ i = n - i
+
+-- src/lib.rt:108:5
+loop-holds : tie.Need-loop-holds Inv-loop μ-loop
+loop-holds c = record { to = search needs; same = refl }
+
+-- src/lib.rt:109:17
+mul-t : tie.Need-mul-t Inv-loop μ-loop
+mul-t c = search needs
+
+-- src/lib.rt:109:17
+shared-slice-read-t : tie.Need-shared-slice-read-t Inv-loop μ-loop
+shared-slice-read-t c = search needs
+
+-- src/lib.rt:110:17
+mul-z : tie.Need-mul-z Inv-loop μ-loop
+mul-z c = search needs
+
+-- src/lib.rt:110:17
+shared-slice-read-z : tie.Need-shared-slice-read-z Inv-loop μ-loop
+shared-slice-read-z c = search needs
+
+-- src/lib.rt:111:12
+in-block-requires : tie.Need-in-block-requires Inv-loop μ-loop
+in-block-requires c κs = search needs
+
+-- src/lib.rt:112:21
+mul-s : tie.Need-mul-s Inv-loop μ-loop
+mul-s c = search needs
+
+-- src/lib.rt:112:21
+shared-slice-read-s : tie.Need-shared-slice-read-s Inv-loop μ-loop
+shared-slice-read-s c = search needs
+
+-- src/lib.rt:112:35
+sub-s : tie.Need-sub-s Inv-loop μ-loop
+sub-s c = search told-low
+
+-- src/lib.rt:112:21
+add-s : tie.Need-add-s Inv-loop μ-loop
+add-s c =
+    let o = c .before .before .before .before .before .before .before .before .before .before .args in let l = c .before .before .before .before .before .before .loop in let r = c .before .before .before .before .before .before .before .before .before .before .pre in
+    let h = held (getD (o .targets .now) (l .i) 0) (getD (o .sizes .now) (l .i) 0) (o .p) _ (c .before .before .in-block .ensures .is) (c .before .if1 .taken) in
+    let b : l .i < o .c .blockCount = search needs in
+    omega (arith, r .qBlock (l .i) b)
+
+-- src/lib.rt:113:34
+forward-base-requires : tie.Need-forward-base-requires Inv-loop μ-loop
+forward-base-requires c κs =
+    let o = c .before .before .before .before .before .before .before .before .before .before .args in let l = c .before .before .before .before .before .before .loop in let r = c .before .before .before .before .before .before .before .before .before .before .pre in
+    let h = held (getD (o .targets .now) (l .i) 0) (getD (o .sizes .now) (l .i) 0) (o .p) _ (c .before .before .in-block .ensures .is) (c .before .if1 .taken) in
+    let b : l .i < o .c .blockCount = search needs in
+    omega (arith, r .qBlock (l .i) b)
+
+-- src/lib.rt:113:13
+returns : tie.Need-returns Inv-loop μ-loop
+unfolding pairs
+returns c = search seek-found
+
+-- src/lib.rt:115:9
+add-i : tie.Need-add-i Inv-loop μ-loop
+add-i c = search needs
+
+-- src/lib.rt:108:5
+loop-less : tie.Need-loop-less Inv-loop μ-loop
+loop-less c = search needs
+
+-- src/lib.rt:108:5
+loop-again : tie.Need-loop-again Inv-loop μ-loop
+loop-again c = search (seek-on, c .if1 .left, c .before .in-block .ensures, c .before .before .before .before .before .loop .inv)
+
+-- src/lib.rt:100:1
+returns-2 : tie.Need-returns-2 Inv-loop μ-loop
+unfolding pairs
+returns-2 c = search seek-past
+
+pub find-partner-spec : {M : Type 1} → statement M
+find-partner-spec =
+    tie.close
+    (tie.spec
+    Inv-loop
+    μ-loop
+    loop-holds
+    mul-t
+    shared-slice-read-t
+    mul-z
+    shared-slice-read-z
+    in-block-requires
+    mul-s
+    shared-slice-read-s
+    sub-s
+    add-s
+    forward-base-requires
+    returns
+    add-i
+    loop-less
+    loop-again
+    returns-2)

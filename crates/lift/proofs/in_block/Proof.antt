@@ -1,0 +1,16 @@
+use Rattle.lift.proofs.FindLaws.{outside-low, inside-is}
+use Rattle.lift.proofs.in_block.Statement.{statement}
+use Rattle.lift.proofs.in_block.Tie as tie
+use Rattle.lift.proofs.in_block.Reads as reads
+use Rattle.lift.proofs.in_block.Lts as lts
+
+-- src/lib.rt:94:9
+returns : tie.Need-returns
+returns c = record { is = search outside-low }
+
+-- src/lib.rt:90:1
+returns-2 : tie.Need-returns-2
+returns-2 c = record { is = search inside-is }
+
+pub in-block-spec : {M : Type 1} → statement M
+in-block-spec = tie.close (tie.spec returns returns-2)

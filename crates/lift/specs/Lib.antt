@@ -1,0 +1,4 @@
+pub mod Accepted
+pub mod Conversion
+pub mod Pairs
+pub mod Positions
