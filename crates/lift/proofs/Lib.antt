@@ -4,3 +4,4 @@ pub mod AcceptLaws
 pub mod FindLaws
 pub mod PositionLaws
 pub mod ConversionLaws
+pub mod Vectors

@@ -1,6 +1,6 @@
 -- Demand 3 on positions: at most one pair for a target base, and a lift exactly where there is one. Assumes nothing.
 use mathlib.Core.Path.{_≡_, refl, sym, ap, ap₂, _∙_}
-use mathlib.Core.Logic.{⊎-elim}
+use mathlib.Core.Logic.{⊎-elim, _↔_}
 use mathlib.Core.Bool.{Bool, true, false, not}
 use mathlib.Core.List.{List, [], _∷_, List·Memᴰ, List·Memᴰ·not-nil, List·Memᴰ·append-cases}
 use Prim.Native.Nat.{ℕ, zero, suc, _+_, _-_, _≤_, _<_}
@@ -111,6 +111,10 @@ module _ (c : Chain) (rows : List Row) (ok : accepted c rows ≡ true) where
       go true Alone k h = absurd (let z : _≡_ {A = ℕ} 0 1 = cc in omega arith)
       go true (Base b) k h = let z : b ≡ q = cc in let y : pos b -ℤ pos p ≡ d = cc in
           (found-mem p q (pairs c rows) (k ∙ ap Base z), sym y ∙ ap (λ (n : ℕ). pos n -ℤ pos p) z)
+
+  -- A POSITION LIFTS TO q EXACTLY WHEN IT STANDS IN A PAIR WITH q
+  pub lifts-exactly : (p q : ℕ) → (liftPosition c rows p ≡ Lifted q (pos q -ℤ pos p)) ↔ List·Memᴰ (pair p q) (pairs c rows)
+  lifts-exactly p q = (λ e. lifted p q (pos q -ℤ pos p) e .0, λ m. lifts p q m)
 
   -- a position inside the target that stands in no pair is refused by 12
   pub lone : (p : ℕ) → p < c .tSize → ((q : ℕ) → List·Memᴰ (pair p q) (pairs c rows) → ⊥) → liftPosition c rows p ≡ notLifted NoPair
