@@ -150,15 +150,15 @@ fn bed_lines_accepted() {
     cases(&[
         (
             "D chr22 1000 5000 cloneA 960 + 1000 5000 0 2 567,488, 0,3512",
-            r"D bed 12 chrom 0+5 1000 5000 name 16+6 960 + 1000 5000 0 2 rows 1000,0,567 4512,567,488 text chr22\t1000\t5000\tcloneA\t960\t+\t1000\t5000\t0\t2\t567,488,\t0,3512,\n checked",
+            r"D bed 12 0+5 1000 5000 name 16+6 960 + 1000 5000 0 2 rows 1000,0,567 4512,567,488 text chr22\t1000\t5000\tcloneA\t960\t+\t1000\t5000\t0\t2\t567,488,\t0,3512,\n check ok checker CHECKER",
         ),
         (
             r"E c\t1 9 n 0 - 4 5 1,2,3\n",
-            r"E bed 9 chrom 0+1 1 9 name 6+1 0 - 4 5 66051 1 rows 1,0,8 text c\t1\t9\tn\t0\t-\t4\t5\t1,2,3\n checked",
+            r"E bed 9 0+1 1 9 name 6+1 0 - 4 5 66051 1 rows 1,0,8 text c\t1\t9\tn\t0\t-\t4\t5\t1,2,3\n check ok checker CHECKER",
         ),
         (
             r"D c 1 2\n",
-            r"D bed 3 chrom 0+1 1 2 name 6+0 0 . 1 2 0 1 rows 1,0,1 text c\t1\t2\n checked",
+            r"D bed 3 0+1 1 2 name 6+0 0 . 1 2 0 1 rows 1,0,1 text c\t1\t2\n check ok checker CHECKER",
         ),
     ]);
 }
@@ -197,23 +197,23 @@ fn bed_records() {
         ),
         (
             "W 3 1 2 0 . 1 2 0 1 5 =c = 1,0,1",
-            "W check ok write refused 11",
+            "W check ok write refused 11 at 0",
         ),
         (
             r"W 4 1 2 0 . 1 2 0 1 9 =c =a\sb 1,0,1",
-            "W check ok write refused 6",
+            "W check ok write refused 6 at 0",
         ),
         (
             "W 3 1 2 5 . 1 2 0 1 9 =c = 1,0,1",
-            "W check refused 9 write refused 5",
+            "W check refused 9 at 0 write refused 5 at 0",
         ),
         (
             "W 3 2 2 0 . 2 2 0 1 9 =c = 2,0,1",
-            "W check refused 9 write refused 7",
+            "W check refused 9 at 0 write refused 7 at 0",
         ),
         (
             "W 3 1 2 0 . 1 2 0 2 9 =c = 1,0,1",
-            "W check refused 9 write refused 9",
+            "W check refused 9 at 0 write refused 9 at 0",
         ),
     ]);
 }

@@ -32,7 +32,7 @@ use Rattle.writing.specs.Puts.{Put}
 use Rattle.writing.proofs.PutLaws.{Completes, completes-all, completes-step, completes-done, put-then}
 use Rattle.cases.specs.Lines.{isCase, pickByte, caseLetter, meant, numberAt, strandAt}
 use Rattle.cases.specs.Marks.{allMarked}
-use Rattle.cases.specs.Texts.{labelled, refusedLabel, reasonText, checkText, strandText, writtenText, rowText, rowsText, spacedText, shownByte, shownText, keptText}
+use Rattle.cases.specs.Texts.{labelled, refusedLabel, reasonText, refusalText, checkText, strandText, writtenText, rowText, rowsText, spacedText, shownByte, shownText, keptText}
 
 -- the first byte of a case, and what follows it
 module _ (s : List ℕ) (b : ℕ) where
@@ -108,10 +108,10 @@ module _ (at r : ℕ) (o o′ : List ℕ) where
   pub check-holds : (c : Check) → c ≡ Holds → Put (checkText Holds) at o o′ r → Put (checkText c) at o o′ r
   check-holds c e f = rw e f
 
-  pub check-refused : (c : Check) (x : Refusal) → c ≡ check.Refused x → Put (reasonText x) at o o′ r → Put (checkText c) at o o′ r
+  pub check-refused : (c : Check) (x : Refusal) → c ≡ check.Refused x → Put (refusalText x) at o o′ r → Put (checkText c) at o o′ r
   check-refused c x e f = rw e f
 
-  pub text-refused : (buf : List ℕ) (w : Writing) (x : Refusal) → w ≡ Refused x → Put (reasonText x) at o o′ r → Put (writtenText buf w) at o o′ r
+  pub text-refused : (buf : List ℕ) (w : Writing) (x : Refusal) → w ≡ Refused x → Put (refusalText x) at o o′ r → Put (writtenText buf w) at o o′ r
   text-refused buf w x e f = rw e f
 
   pub text-written : (buf : List ℕ) (w : Writing) (n m : ℕ) → w ≡ Written n → m ≡ min n (length buf) → Put (shownText (take m buf)) at o o′ r → Put (writtenText buf w) at o o′ r

@@ -31,10 +31,10 @@ reasonText x = labelled refusedLabel (reasonNumber (x .reason))
 abbrev pub refusalText : Refusal → List ℕ
 refusalText x = reasonText x ++ labelled (32 ∷ 97 ∷ 116 ∷ 32 ∷ []) (x .place)
 
--- `ok`, or the reason
+-- `ok`, or the refusal
 abbrev pub checkText : Check → List ℕ
 checkText Holds = 111 ∷ 107 ∷ []
-checkText (check.Refused x) = reasonText x
+checkText (check.Refused x) = refusalText x
 
 -- nothing, or ` touched`
 abbrev pub keptText : Bool → List ℕ
@@ -73,4 +73,4 @@ shownText (b ∷ bs) = shownByte b ++ shownText bs
 -- what a writer wrote to the front of a buffer, or why it wrote nothing
 abbrev pub writtenText : List ℕ → Writing → List ℕ
 writtenText buf (Written n) = shownText (take (min n (length buf)) buf)
-writtenText buf (Refused x) = reasonText x
+writtenText buf (Refused x) = refusalText x

@@ -14,7 +14,6 @@ pub use puts::put_check;
 pub use puts::put_kept;
 pub use puts::put_labelled;
 pub use puts::put_part;
-pub use puts::put_reason;
 pub use puts::put_refusal;
 pub use puts::put_rows;
 pub use puts::put_shown;

@@ -20,7 +20,7 @@ pub fn put_labelled(out: &mut [u8], at: usize, label: &[u8], v: u64) -> usize
 }
 
 // The reason's number.
-pub fn put_reason(out: &mut [u8], at: usize, x: Refusal) -> usize
+fn put_reason(out: &mut [u8], at: usize, x: Refusal) -> usize
     ensures { λ r. ⌜ Put (reasonText x) at (now (out .entry)) (now (out .exit)) r ⌝ }
 {
     let reason = x.reason;
@@ -41,7 +41,7 @@ pub fn put_check(out: &mut [u8], at: usize, check: Check) -> usize
 {
     match check {
         Check::Holds => writing::put_bytes(out, at, b"ok"),
-        Check::Refused(x) => put_reason(out, at, x),
+        Check::Refused(x) => put_refusal(out, at, x),
     }
 }
 
@@ -147,7 +147,7 @@ pub fn put_text(out: &mut [u8], at: usize, buf: &[u8], written: Writing) -> usiz
     ensures { λ r. ⌜ Put (writtenText (now (buf .entry)) written) at (now (out .entry)) (now (out .exit)) r ⌝ }
 {
     match written {
-        Writing::Refused(x) => put_reason(out, at, x),
+        Writing::Refused(x) => put_refusal(out, at, x),
         Writing::Written(n) => {
             let m = least(n, buf.len());
             put_shown(out, at, &buf[..m])

@@ -10,21 +10,16 @@ use reference::ledger::{Answer, Refusal, Strand};
 use reference::rows::Row;
 use reference::text::{self, Part};
 
-/// A refusal with its place.
+/// A refusal: the number and the place.
 pub fn refused(refusal: Refusal) -> Vec<u8> {
     format!("refused {} at {}", refusal.reason.number(), refusal.place).into_bytes()
-}
-
-/// A refusal without its place.
-fn reason(refusal: Refusal) -> Vec<u8> {
-    format!("refused {}", refusal.reason.number()).into_bytes()
 }
 
 /// What a record checker says.
 fn checked(answer: Answer<()>) -> Vec<u8> {
     match answer {
         Ok(()) => b"ok".to_vec(),
-        Err(refusal) => reason(refusal),
+        Err(refusal) => refused(refusal),
     }
 }
 
@@ -37,7 +32,7 @@ fn shown(written: Answer<Vec<u8>>) -> Vec<u8> {
     };
     match written {
         Ok(text) => text.into_iter().flat_map(show).collect(),
-        Err(refusal) => reason(refusal),
+        Err(refusal) => refused(refusal),
     }
 }
 

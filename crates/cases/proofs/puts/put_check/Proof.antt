@@ -5,7 +5,7 @@ use Rattle.cases.proofs.puts.put_check.Statement.{statement}
 use Rattle.cases.proofs.puts.put_check.Tie as tie
 use Rattle.cases.proofs.puts.put_check.Reads as reads
 use Rattle.cases.proofs.puts.put_check.Lts as lts
-use Rattle.cases.proofs.puts.put_reason.Reads as put-reason-reads
+use Rattle.cases.proofs.puts.put_refusal.Reads as put-refusal-reads
 use Rattle.writing.proofs.put_bytes.Reads as put-bytes-reads
 
 enum-told : tie.Need-enum-told
@@ -20,8 +20,8 @@ put-bytes-requires c κs = search needs
 enum-known-check : tie.Need-enum-known-check
 enum-known-check c = search needs
 
-put-reason-requires : tie.Need-put-reason-requires
-put-reason-requires c κs = search needs
+put-refusal-requires : tie.Need-put-refusal-requires
+put-refusal-requires c κs = search needs
 
 same-length : tie.Need-same-length
 same-length c = search needs
@@ -43,7 +43,7 @@ put-check-spec =
     slice-aggregate-put-bytes
     put-bytes-requires
     enum-known-check
-    put-reason-requires
+    put-refusal-requires
     same-length
     returns
     same-length-2

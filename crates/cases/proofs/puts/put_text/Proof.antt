@@ -6,14 +6,14 @@ use Rattle.cases.proofs.puts.put_text.Tie as tie
 use Rattle.cases.proofs.puts.put_text.Reads as reads
 use Rattle.cases.proofs.puts.put_text.Lts as lts
 use Rattle.cases.proofs.least.Reads as least-reads
-use Rattle.cases.proofs.puts.put_reason.Reads as put-reason-reads
+use Rattle.cases.proofs.puts.put_refusal.Reads as put-refusal-reads
 use Rattle.cases.proofs.puts.put_shown.Reads as put-shown-reads
 
 enum-known-written : tie.Need-enum-known-written
 enum-known-written c = search needs
 
-put-reason-requires : tie.Need-put-reason-requires
-put-reason-requires c κs = search needs
+put-refusal-requires : tie.Need-put-refusal-requires
+put-refusal-requires c κs = search needs
 
 enum-known-written-2 : tie.Need-enum-known-written-2
 enum-known-written-2 c = search needs
@@ -44,7 +44,7 @@ put-text-spec =
     tie.close
     (tie.spec
     enum-known-written
-    put-reason-requires
+    put-refusal-requires
     enum-known-written-2
     least-requires
     slice-aggregate-put-shown
