@@ -23,6 +23,8 @@ pub use puts::put_text;
 pub use rooms::bytes_kept;
 pub use rooms::length_of;
 pub use rooms::marked_bytes;
+pub use rooms::marked_pair;
+pub use rooms::marked_row;
 pub use rooms::marked_rows;
 pub use rooms::page;
 pub use rooms::row_numbers;

@@ -16,6 +16,19 @@ pub fn marked_rows() -> [u64; 512]
     [MARK; 512]
 }
 
+// Room for two blocks, and for one.
+pub fn marked_pair() -> [u64; 2]
+    ensures { λ r. ⌜ 2 ≡ length r ⌝ }
+{
+    [MARK; 2]
+}
+
+pub fn marked_row() -> [u64; 1]
+    ensures { λ r. ⌜ 1 ≡ length r ⌝ }
+{
+    [MARK; 1]
+}
+
 pub fn marked_bytes() -> [u8; 65536]
     ensures { λ r. ⌜ 65536 ≡ length r ⌝ }
 {

@@ -1,15 +1,6 @@
 // A text read as a BED line.
-ghost use mathlib.Core.Path.{_≡_};
-ghost use lib.ListN.{length};
 use bed::Bed;
 use bed::BedAnswer;
-
-// Marked room for one block. The contract tells only the length.
-fn marked_row() -> [u64; 1]
-    ensures { λ r. ⌜ 1 ≡ length r ⌝ }
-{
-    [7; 1]
-}
 
 // A record's columns up to the name; a name by its place and length.
 fn put_place(out: &mut [u8], at: usize, r: Bed) -> usize {
@@ -142,8 +133,8 @@ pub(crate) fn line_case(s: &[u8], out: &mut [u8], at: usize) -> usize {
 
 // A text read with room for one block.
 pub(crate) fn narrow_case(s: &[u8], out: &mut [u8], at: usize) -> usize {
-    let mut targets = marked_row();
-    let mut queries = marked_row();
-    let mut sizes = marked_row();
+    let mut targets = cases::marked_row();
+    let mut queries = cases::marked_row();
+    let mut sizes = cases::marked_row();
     read_case(s, &mut targets, &mut queries, &mut sizes, out, at)
 }

@@ -1,15 +1,6 @@
 // A text read as a chain.
-ghost use mathlib.Core.Path.{_≡_};
-ghost use lib.ListN.{length};
 use chain::Chain;
 use chain::ChainAnswer;
-
-// Marked room for two blocks. The contract tells only the length.
-fn marked_pair() -> [u64; 2]
-    ensures { λ r. ⌜ 2 ≡ length r ⌝ }
-{
-    [7; 2]
-}
 
 fn put_target(out: &mut [u8], at: usize, r: Chain) -> usize {
     let a = cases::put_part(out, at, r.tName);
@@ -145,8 +136,8 @@ pub(crate) fn chain_case(s: &[u8], out: &mut [u8], at: usize) -> usize {
 
 // A text read with room for two blocks.
 pub(crate) fn narrow_case(s: &[u8], out: &mut [u8], at: usize) -> usize {
-    let mut targets = marked_pair();
-    let mut queries = marked_pair();
-    let mut sizes = marked_pair();
+    let mut targets = cases::marked_pair();
+    let mut queries = cases::marked_pair();
+    let mut sizes = cases::marked_pair();
     read_case(s, &mut targets, &mut queries, &mut sizes, out, at)
 }

@@ -1,17 +1,8 @@
 // A text read as a PSL line.
-ghost use mathlib.Core.Path.{_≡_};
-ghost use lib.ListN.{length};
 use psl::Counts;
 use psl::Psl;
 use psl::PslAnswer;
 use psl::Side;
-
-// Marked room for two blocks. The contract tells only the length.
-fn marked_pair() -> [u64; 2]
-    ensures { λ r. ⌜ 2 ≡ length r ⌝ }
-{
-    [7; 2]
-}
 
 fn put_counts(out: &mut [u8], at: usize, c: Counts) -> usize {
     cases::put_spaced(
@@ -169,8 +160,8 @@ pub(crate) fn line_case(s: &[u8], out: &mut [u8], at: usize) -> usize {
 
 // A text read with room for two blocks.
 pub(crate) fn narrow_case(s: &[u8], out: &mut [u8], at: usize) -> usize {
-    let mut targets = marked_pair();
-    let mut queries = marked_pair();
-    let mut sizes = marked_pair();
+    let mut targets = cases::marked_pair();
+    let mut queries = cases::marked_pair();
+    let mut sizes = cases::marked_pair();
     read_case(s, &mut targets, &mut queries, &mut sizes, out, at)
 }
