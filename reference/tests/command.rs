@@ -1,6 +1,8 @@
 //! The samples command, case by case.
 
+use std::fs;
 use std::io::Write;
+use std::path::Path;
 use std::process::{Command, Stdio};
 
 /// Runs the command on an input and answers its output.
@@ -150,15 +152,15 @@ fn bed_lines_accepted() {
     cases(&[
         (
             "D chr22 1000 5000 cloneA 960 + 1000 5000 0 2 567,488, 0,3512",
-            r"D bed 12 chrom 0+5 1000 5000 name 16+6 960 + 1000 5000 0 2 rows 1000,0,567 4512,567,488 text chr22\t1000\t5000\tcloneA\t960\t+\t1000\t5000\t0\t2\t567,488,\t0,3512,\n checked",
+            r"D bed 12 0+5 1000 5000 16+6 960 + 1000 5000 0 2 rows 1000,0,567 4512,567,488 text chr22\t1000\t5000\tcloneA\t960\t+\t1000\t5000\t0\t2\t567,488,\t0,3512,\n check ok checker bed 12 0+5 1000 5000 16+6 960 + 1000 5000 0 2",
         ),
         (
             r"E c\t1 9 n 0 - 4 5 1,2,3\n",
-            r"E bed 9 chrom 0+1 1 9 name 6+1 0 - 4 5 66051 1 rows 1,0,8 text c\t1\t9\tn\t0\t-\t4\t5\t1,2,3\n checked",
+            r"E bed 9 0+1 1 9 6+1 0 - 4 5 66051 1 rows 1,0,8 text c\t1\t9\tn\t0\t-\t4\t5\t1,2,3\n check ok",
         ),
         (
             r"D c 1 2\n",
-            r"D bed 3 chrom 0+1 1 2 name 6+0 0 . 1 2 0 1 rows 1,0,1 text c\t1\t2\n checked",
+            r"D bed 3 0+1 1 2 6+0 0 . 1 2 0 1 rows 1,0,1 text c\t1\t2\n check ok checker bed 3 0+1 1 2 6+0 0 . 1 2 0 1",
         ),
     ]);
 }
@@ -168,19 +170,28 @@ fn bed_lines_refused() {
     cases(&[
         (
             "D chr22 1000 4999 cloneA 960 + 1000 4999 0 2 567,488, 0,3512",
-            "D refused 9 at 58",
+            "D refused 9 at 58 checker refused 9 at 58",
         ),
         (
             "E chr22 1000 5000 cloneA 960 + 1000 5000 0 2 567,488, 0,3512",
             "E refused 11 at 58",
         ),
-        (r"D c 1 2\*65532 ", "D refused 1 at 0"),
-        (r"D c 1 x\nc", "D refused 4 at 4"),
-        (r"D c 2 1\nc", "D refused 2 at 6"),
-        (r"D c 1 2\n\n", "D refused 2 at 6"),
-        (r"D c 1 2\n\s\s", "D refused 2 at 8"),
-        ("D c 1 9 n 0 + 10", "D refused 7 at 12"),
-        ("D c 1 9 n 0 + 1 10", "D refused 7 at 14"),
+        (
+            r"D c 1 2\*65532 ",
+            "D refused 1 at 0 checker refused 1 at 0",
+        ),
+        (r"D c 1 x\nc", "D refused 4 at 4 checker refused 4 at 4"),
+        (r"D c 2 1\nc", "D refused 2 at 6 checker refused 2 at 6"),
+        (r"D c 1 2\n\n", "D refused 2 at 6 checker refused 2 at 6"),
+        (r"D c 1 2\n\s\s", "D refused 2 at 8 checker refused 2 at 8"),
+        (
+            "D c 1 9 n 0 + 10",
+            "D refused 7 at 12 checker refused 7 at 12",
+        ),
+        (
+            "D c 1 9 n 0 + 1 10",
+            "D refused 7 at 14 checker refused 7 at 14",
+        ),
     ]);
 }
 
@@ -197,23 +208,108 @@ fn bed_records() {
         ),
         (
             "W 3 1 2 0 . 1 2 0 1 5 =c = 1,0,1",
-            "W check ok write refused 11",
+            "W check ok write refused 11 at 0",
         ),
         (
             r"W 4 1 2 0 . 1 2 0 1 9 =c =a\sb 1,0,1",
-            "W check ok write refused 6",
+            "W check ok write refused 6 at 0",
         ),
         (
             "W 3 1 2 5 . 1 2 0 1 9 =c = 1,0,1",
-            "W check refused 9 write refused 5",
+            "W check refused 9 at 0 write refused 5 at 0",
         ),
         (
             "W 3 2 2 0 . 2 2 0 1 9 =c = 2,0,1",
-            "W check refused 9 write refused 7",
+            "W check refused 9 at 0 write refused 7 at 0",
         ),
         (
             "W 3 1 2 0 . 1 2 0 2 9 =c = 1,0,1",
-            "W check refused 9 write refused 9",
+            "W check refused 9 at 0 write refused 9 at 0",
         ),
     ]);
+}
+
+#[test]
+fn psl_lines_and_records() {
+    let line = "27 0 0 0 1 1 1 3 - qB 80 47 75 tA 100 10 40 3 10,8,9, 5,15,24, 10,23,31,";
+    let columns = "psl 27 0 0 0 1 1 1 3 - 19+2 80 47 75 31+2 100 10 40 3";
+    let written = line.replace(' ', r"\t");
+    let record = "27 0 0 0 1 1 1 3 - 80 47 75 100 10 40 3";
+    let rows = "10,5,10 23,15,8 31,24,9";
+    cases(&[
+        (
+            &format!("F {line}"),
+            &format!(r"F {columns} rows {rows} text {written}\n check ok checker {columns}"),
+        ),
+        (
+            &format!("F {}", line.replace("47 75", "5 33")),
+            "F refused 9 at 71 checker refused 9 at 71",
+        ),
+        (&format!("G {line}"), "G refused 11 at 72"),
+        (
+            &format!("X {record} 73 =qB =tA {rows}"),
+            &format!(r"X check ok write {written}\n"),
+        ),
+        (
+            &format!("X {record} 72 =qB =tA {rows}"),
+            "X check ok write refused 11 at 0",
+        ),
+        (
+            &format!("X {record} 73 =qB = {rows}"),
+            "X check refused 9 at 0 write refused 6 at 0",
+        ),
+    ]);
+}
+
+#[test]
+fn chains_and_records() {
+    let text = r"chain 100 tA 100 + 10 40 qB 80 - 5 33 7\n10 3 0\n8 0 1\n9\n";
+    let columns = "chain 100 10+2 100 10 40 25+2 80 - 5 33 7 3";
+    let record = "100 100 10 40 80 - 5 33 7 3";
+    let rows = "10,5,10 23,15,8 31,24,9";
+    cases(&[
+        (
+            &format!("H {text}"),
+            &format!("H {columns} rows {rows} text {text} check ok checker {columns}"),
+        ),
+        (
+            &format!("H {}", text.replace(r"\n9", r"\n10")),
+            "H refused 9 at 56 checker refused 9 at 56",
+        ),
+        (&format!("I {text}"), "I refused 11 at 55"),
+        (
+            &format!("Y {record} 55 =tA =qB {rows}"),
+            &format!("Y check ok write {text}"),
+        ),
+        (
+            &format!("Y {record} 54 =tA =qB {rows}"),
+            "Y check ok write refused 11 at 0",
+        ),
+        (
+            &format!("Y {record} 55 =tA =qB 10,5,10 23,15,8 31,24,10"),
+            "Y check refused 9 at 0 write refused 9 at 0",
+        ),
+    ]);
+}
+
+/// Every program that runs the library has its cases in `stdin`, and in `stdout` the answers of
+/// this command.
+#[test]
+fn answers_of_the_sample_programs() {
+    let crates = Path::new(env!("CARGO_MANIFEST_DIR")).join("../crates");
+    let mut programs = 0;
+    for entry in fs::read_dir(crates).unwrap() {
+        let program = entry.unwrap().path();
+        let name = program.file_name().unwrap().to_str().unwrap().to_string();
+        if name.starts_with("samples") {
+            let expected = fs::read(program.join("stdout")).unwrap();
+            let answers = run(&fs::read(program.join("stdin")).unwrap());
+            assert!(
+                answers == expected,
+                "{name}: stdout is not what the command answers"
+            );
+            programs += 1;
+        }
+    }
+    assert!(programs > 0);
 }

@@ -9,6 +9,7 @@ use lib.Seq.{sets, sets-eq, take-all, getD-append-add, getD-drop}
 use lib.Dec.{leb, eqb}
 use borrow.Author.Tests.{eqb-true}
 use Rattle.ledger.specs.Limits.{largestPosition}
+use Rattle.ledger.specs.declared.Reason.the-variants.{NoRoom}
 use Rattle.ledger.specs.declared.Refusal.{Refusal}
 use Rattle.text.specs.declared.Check.{Check}
 use Rattle.text.specs.declared.Check.the-variants.{Holds}
@@ -33,7 +34,7 @@ use Rattle.chain.specs.declared.Block.the-variants.{Last, Gap}
 use Rattle.chain.specs.declared.Block.the-variants as block
 use Rattle.chain.specs.Table.{blockColumns}
 use Rattle.chain.specs.Records.{lineValues, sizeAt, targetGap, queryGap}
-use Rattle.chain.specs.Read.{isBlockCount, blockWords, pickBlock, checkBlock, readBlock, blockIs, blockNumbers, blockLine, blockSize, blockTargetGap, blockQueryGap, LineCounted, NumbersRead, BlockRead}
+use Rattle.chain.specs.Read.{isBlockCount, blockWords, limitCheck, firstOf, lineCheck, blockOne, pickBlock, checkBlock, readBlock, blockIs, blockNumbers, blockLine, blockSize, blockTargetGap, blockQueryGap, LineCounted, NumbersRead, BlockRead}
 
 -- the codes of the table in the code
 abbrev blockCodes : List ℕ
@@ -203,18 +204,77 @@ pub words-good : (s : List ℕ) (line n : ℕ) → blockWords s line n ≡ Holds
 unfolding blockWords
 words-good s line n e = passed (leb n 3) (isBlockCount n) _ _ e
 
+-- the limit
+pub limit-reached : (line k : ℕ) → k ≡ 0 → check.Refused (record { reason = NoRoom; place = line }) ≡ limitCheck line k
+unfolding limitCheck
+limit-reached line k e = rw e
+
+pub limit-ahead : (line k : ℕ) → (k ≡ 0 → ⊥) → Holds ≡ limitCheck line k
+unfolding limitCheck
+limit-ahead line zero y = absurd (y refl)
+limit-ahead line (suc k) y = refl
+
+some-left : (line k : ℕ) → limitCheck line k ≡ Holds → 1 ≤ k
+unfolding limitCheck
+some-left line zero e = absurd (let q : _≡_ {A = ℕ} 0 1 = cc in omega arith)
+some-left line (suc k) e = omega arith
+
+-- two checks, the first refusal of which counts
+both-hold : (a b : Check) → firstOf a b ≡ Holds → (a ≡ Holds) × (b ≡ Holds)
+unfolding firstOf
+both-hold Holds b e = (refl, e)
+both-hold (check.Refused x) b e = absurd (let q : _≡_ {A = ℕ} 0 1 = cc in omega arith)
+
+one-refused : (a b : Check) (x : Refusal) (rest : Block) → firstOf a b ≡ check.Refused x → block.Refused x ≡ checkBlock a (checkBlock b rest)
+unfolding firstOf
+one-refused Holds b x rest e = rw e
+one-refused (check.Refused y) b x rest e = cc
+
+pub first-holds : (a b : Check) → a ≡ Holds → b ≡ firstOf a b
+unfolding firstOf
+first-holds a b e = rw e
+
+pub first-refused : (a b : Check) (x : Refusal) → a ≡ check.Refused x → check.Refused x ≡ firstOf a b
+unfolding firstOf
+first-refused a b x e = rw e
+
+pub line-checked : (s : List ℕ) (line n k : ℕ) (a b r : Check) → a ≡ limitCheck line k → b ≡ blockWords s line n → r ≡ firstOf a b → r ≡ lineCheck s line n k
+unfolding lineCheck
+line-checked s line n k a b r ea eb er = rw (er, ea, eb)
+
+one-most : (r : Block) → blockOne r ≤ 1
+one-most (Last z) = omega arith
+one-most (Gap z dt dq) = omega arith
+one-most (block.Refused x) = omega arith
+
 -- the block line
-module _ (s : List ℕ) (line n : ℕ) (en : n ≡ wordCount s line) (c : Check) (ec : c ≡ blockWords s line n) where
+module _ (s : List ℕ) (line n k : ℕ) (en : n ≡ wordCount s line) (c : Check) (ec : c ≡ lineCheck s line n k) where
+  held : c ≡ Holds → (limitCheck line k ≡ Holds) × (blockWords s line n ≡ Holds)
+  unfolding lineCheck
+  held q = both-hold (limitCheck line k) (blockWords s line n) (sym ec ∙ q)
+
   pub line-counted : c ≡ Holds → LineCounted s line n
-  line-counted q = record { count = en; good = words-good s line n (sym ec ∙ q) }
+  line-counted q = record { count = en; good = words-good s line n (held q .1) }
 
-  pub line-refused : (x : Refusal) → c ≡ check.Refused x → BlockRead s line (block.Refused x)
-  unfolding blockLine
-  line-refused x q = record { is = rw (← en, ← ec, q); size = omega arith; targetGap = omega arith; queryGap = omega arith }
+  pub line-refused : (x : Refusal) → c ≡ check.Refused x → BlockRead s line k (block.Refused x)
+  unfolding blockLine lineCheck
+  line-refused x q = record {
+    is = rw (← en) (one-refused (limitCheck line k) (blockWords s line n) x (blockNumbers s line n) (sym ec ∙ q));
+    room = omega arith;
+    size = omega arith;
+    targetGap = omega arith;
+    queryGap = omega arith;
+  }
 
-  pub line-read : (r : Block) → c ≡ Holds → NumbersRead s line n r → BlockRead s line r
+  pub line-read : (r : Block) → c ≡ Holds → NumbersRead s line n r → BlockRead s line k r
   unfolding blockLine
-  line-read r q h = record { is = rw (← en, ← ec, q) (h .is); size = h .size; targetGap = h .targetGap; queryGap = h .queryGap }
+  line-read r q h = record {
+    is = rw (← en, held q .0, held q .1) (h .is);
+    room = omega (arith, one-most r, some-left line k (held q .0));
+    size = h .size;
+    targetGap = h .targetGap;
+    queryGap = h .queryGap;
+  }
 
 -- what a block line holds
 abbrev vals : List ℕ → ℕ → List ℕ

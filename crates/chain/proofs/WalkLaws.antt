@@ -9,7 +9,7 @@ use mir.Val.{Fits}
 use mir.Syntax.{w64}
 use borrow.Author.Tests.{lt-ltb, le-ltb}
 use Rattle.ledger.specs.Limits.{blockLimit, largestPosition}
-use Rattle.ledger.specs.declared.Reason.the-variants.{WrongCount, NoRoom}
+use Rattle.ledger.specs.declared.Reason.the-variants.{WrongCount}
 use Rattle.ledger.specs.declared.Refusal.{Refusal}
 use Rattle.text.specs.Words.{nextLine}
 use Rattle.chain.specs.declared.Block.{Block}
@@ -19,8 +19,8 @@ use Rattle.chain.specs.declared.Ending.{Ending}
 use Rattle.chain.specs.declared.Lines.the-variants.{Ended}
 use Rattle.chain.specs.declared.Lines.the-variants as lines
 use Rattle.chain.specs.Records.{sizeAt, targetGap, queryGap, targetsFrom, queriesFrom, sizesFrom}
-use Rattle.chain.specs.Read.{blockLine, linesFrom, endingAt, BlockRead, Placed, Begins, Walked}
-use Rattle.chain.proofs.BlockLaws.{gap-holds, last-holds}
+use Rattle.chain.specs.Read.{limitCheck, checkBlock, thenBlock, blockOne, blockLine, linesFrom, endingAt, BlockRead, Placed, Begins, Walked}
+use Rattle.chain.proofs.BlockLaws.{limit-ahead, gap-holds, last-holds}
 
 -- a block with the gap after it takes at most so much of a side
 abbrev pub stepLimit : ℕ
@@ -97,15 +97,11 @@ module _ (s : List ℕ) (line t q : ℕ) where
   from-past (suc k) h = rw (le-ltb line (length s) h)
 
   module _ (h : line < length s) where
-    from-full : (k : ℕ) → k ≡ 0 → linesFrom k s line t q ≡ lines.Refused (record { reason = NoRoom; place = line })
-    unfolding linesFrom
-    from-full zero y = rw (lt-ltb line (length s) h)
-    from-full (suc k) y = absurd (omega arith)
-
-    from-refused : (k : ℕ) (x : Refusal) → (k ≡ 0 → ⊥) → blockLine s line ≡ block.Refused x → linesFrom k s line t q ≡ lines.Refused x
-    unfolding linesFrom
-    from-refused zero x y g = absurd (y refl)
-    from-refused (suc k) x y g = rw (lt-ltb line (length s) h, g)
+    -- past the last allowed line the limit refuses, before it the line itself
+    from-refused : (k : ℕ) (x : Refusal) → checkBlock (limitCheck line k) (blockLine s line) ≡ block.Refused x → linesFrom k s line t q ≡ lines.Refused x
+    unfolding linesFrom limitCheck
+    from-refused zero x g = rw (lt-ltb line (length s) h) (ap (λ (b : Block). thenBlock b (λ z. lines.Refused x) (λ z dt dq. lines.Refused x)) g)
+    from-refused (suc k) x g = rw (lt-ltb line (length s) h, g)
 
     pub from-last : (k z : ℕ) → (k ≡ 0 → ⊥) → blockLine s line ≡ Last z → linesFrom k s line t q ≡ Ended (endingAt line (blockLimit - (k - 1)) (t + z) (q + z))
     unfolding linesFrom
@@ -134,14 +130,17 @@ module _ (s : List ℕ) (from t₀ q₀ : ℕ) (rows : List ℕ) (line t q left 
   walk-past rows₀ h = record { is = sym (from-past s line t q left h) ∙ w .is; long = w .long; held = λ e z. absurd (let k : _≡_ {A = ℕ} 0 1 = cc in omega arith) }
 
   module _ (h : line < length s) where
-    pub walk-full : (rows₀ : List ℕ) → left ≡ 0 → Walked s from t₀ q₀ rows₀ rows (lines.Refused (record { reason = NoRoom; place = line }))
-    walk-full rows₀ z = record { is = sym (from-full s line t q h left z) ∙ w .is; long = w .long; held = λ e y. absurd (let k : _≡_ {A = ℕ} 0 1 = cc in omega arith) }
-
-    module _ (b : Block) (read : BlockRead s line b) (some : left ≡ 0 → ⊥) where
+    module _ (b : Block) (read : BlockRead s line left b) where
       pub walk-refused : (rows₀ : List ℕ) (x : Refusal) → b ≡ block.Refused x → Walked s from t₀ q₀ rows₀ rows (lines.Refused x)
-      walk-refused rows₀ x eb = record { is = sym (from-refused s line t q h left x some (sym (read .is) ∙ eb)) ∙ w .is; long = w .long; held = λ e y. absurd (let k : _≡_ {A = ℕ} 0 1 = cc in omega arith) }
+      walk-refused rows₀ x eb = record { is = sym (from-refused s line t q h left x (sym (read .is) ∙ eb)) ∙ w .is; long = w .long; held = λ e y. absurd (let k : _≡_ {A = ℕ} 0 1 = cc in omega arith) }
 
-      module _ (rows′ : List ℕ) (z : ℕ) (er : rows′ ≡ withRow rows (blockLimit - left) t q z) where
+      module _ (rows′ : List ℕ) (z : ℕ) (er : rows′ ≡ withRow rows (blockLimit - left) t q z) (one : blockOne b ≡ 1) where
+        some : left ≡ 0 → ⊥
+        some e = absurd (omega (arith, read .room))
+
+        line-is : b ≡ blockLine s line
+        line-is = read .is ∙ rw (← limit-ahead line left some)
+
         index : blockLimit - left < blockLimit
         index = below left some (w .few)
 
@@ -188,14 +187,14 @@ module _ (s : List ℕ) (from t₀ q₀ : ℕ) (rows : List ℕ) (line t q left 
           sizes = sym (none _) ∙ (rw zero-more at (sizes-next 0 (last-holds s line z g)));
         }
 
-        pub walk-last : (rows₀ : List ℕ) → b ≡ Last z → Walked s from t₀ q₀ rows₀ rows′ (Ended (endingAt line (blockLimit - (left - 1)) (t + z) (q + z)))
-        walk-last rows₀ eb =
-            let g : blockLine s line ≡ Last z = sym (read .is) ∙ eb in
+        ended : (rows₀ : List ℕ) → b ≡ Last z → Walked s from t₀ q₀ rows₀ rows′ (Ended (endingAt line (blockLimit - (left - 1)) (t + z) (q + z)))
+        ended rows₀ eb =
+            let g : blockLine s line ≡ Last z = sym line-is ∙ eb in
             record { is = sym (from-last s line t q h left z some g) ∙ w .is; long = long′; held = λ e y. let p : endingAt line (blockLimit - (left - 1)) (t + z) (q + z) ≡ e = cc in rw (ap (λ (x : Ending). x .count) p) at (held-last g) }
 
-        pub walk-more : (dt dq line′ : ℕ) → b ≡ Gap z dt dq → line′ ≡ nextLine s line → Walking s from t₀ q₀ rows′ line′ (t + z + dt) (q + z + dq) (left - 1)
-        walk-more dt dq line′ eb el =
-            let g : blockLine s line ≡ Gap z dt dq = sym (read .is) ∙ eb in
+        went : (dt dq line′ : ℕ) → b ≡ Gap z dt dq → line′ ≡ nextLine s line → Walking s from t₀ q₀ rows′ line′ (t + z + dt) (q + z + dq) (left - 1)
+        went dt dq line′ eb el =
+            let g : blockLine s line ≡ Gap z dt dq = sym line-is ∙ eb in
             let k = gap-holds s line z dt dq g in
             let bz : z ≤ largestPosition = rw eb at (read .size) in
             let bt : dt ≤ largestPosition = rw eb at (read .targetGap) in
@@ -211,8 +210,33 @@ module _ (s : List ℕ) (from t₀ q₀ : ℕ) (rows : List ℕ) (line t q left 
               sizes = rw el (λ n. sizes-next n (k .0));
             }
 
+      pub walk-last : (rows′ : List ℕ) (z : ℕ) → rows′ ≡ withRow rows (blockLimit - left) t q z → (rows₀ : List ℕ) → b ≡ Last z → Walked s from t₀ q₀ rows₀ rows′ (Ended (endingAt line (blockLimit - (left - 1)) (t + z) (q + z)))
+      walk-last rows′ z er rows₀ eb = ended rows′ z er (ap blockOne eb) rows₀ eb
+
+      pub walk-more : (rows′ : List ℕ) (z : ℕ) → rows′ ≡ withRow rows (blockLimit - left) t q z → (dt dq line′ : ℕ) → b ≡ Gap z dt dq → line′ ≡ nextLine s line → Walking s from t₀ q₀ rows′ line′ (t + z + dt) (q + z + dq) (left - 1)
+      walk-more rows′ z er dt dq line′ eb el = went rows′ z er (ap blockOne eb) dt dq line′ eb el
+
+-- a block that is read is not past the last allowed one
+module _ (s : List ℕ) (line left : ℕ) (b : Block) (read : BlockRead s line left b) (z : ℕ) where
+  module _ (eb : b ≡ Last z) where
+    pub last-some : 1 ≤ left
+    last-some = rw eb at (read .room)
+
+    pub last-index : blockLimit - left < blockLimit
+    last-index = omega (arith, last-some)
+
+  module _ (dt dq : ℕ) (eb : b ≡ Gap z dt dq) where
+    pub gap-some : 1 ≤ left
+    gap-some = rw eb at (read .room)
+
+    pub gap-index : blockLimit - left < blockLimit
+    gap-index = omega (arith, gap-some)
+
+    pub gap-less : left - 1 < left
+    gap-less = omega (arith, gap-some)
+
 -- the sums of the walk fit
-module _ (s : List ℕ) (from t₀ q₀ : ℕ) (rows : List ℕ) (line t q left : ℕ) (w : Walking s from t₀ q₀ rows line t q left) (b : Block) (read : BlockRead s line b) (z : ℕ) where
+module _ (s : List ℕ) (from t₀ q₀ : ℕ) (rows : List ℕ) (line t q left : ℕ) (w : Walking s from t₀ q₀ rows line t q left) (b : Block) (read : BlockRead s line left b) (z : ℕ) where
   module _ (eb : b ≡ Last z) where
     last-size : z ≤ largestPosition
     last-size = rw eb at (read .size)

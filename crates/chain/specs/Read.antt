@@ -62,6 +62,20 @@ blockWords s line n =
     require (leb n 3) WrongCount (wordAt s line 3 .start)
     (require (isBlockCount n) WrongCount (lineEnd s line) Holds)
 
+-- where k blocks may still come, a line past the last allowed one is refused at its first byte (11)
+unfoldable pub limitCheck : ℕ → ℕ → Check
+limitCheck line zero = check.Refused (record { reason = NoRoom; place = line })
+limitCheck line (suc k) = Holds
+
+-- the first refusal of two checks
+unfoldable pub firstOf : Check → Check → Check
+firstOf Holds c = c
+firstOf (check.Refused x) c = check.Refused x
+
+-- before a block line is read: the limit, and only then its number of words
+unfoldable pub lineCheck : List ℕ → ℕ → ℕ → ℕ → Check
+lineCheck s line n k = firstOf (limitCheck line k) (blockWords s line n)
+
 abbrev pub pickBlock : Bool → Block → Block → Block
 pickBlock true a b = a
 pickBlock false a b = b
@@ -206,9 +220,15 @@ pub record NumbersRead (s : List ℕ) (line n : ℕ) (r : Block) : Type 0 where
   pub targetGap : blockTargetGap r ≤ largestPosition
   pub queryGap : blockQueryGap r ≤ largestPosition
 
--- and what reading a block line promises
-pub record BlockRead (s : List ℕ) (line : ℕ) (r : Block) : Type 0 where
-  pub is : r ≡ blockLine s line
+abbrev pub blockOne : Block → ℕ
+blockOne (Last z) = 1
+blockOne (Gap z dt dq) = 1
+blockOne (block.Refused x) = 0
+
+-- and what reading a block line promises, where k blocks may still come
+pub record BlockRead (s : List ℕ) (line k : ℕ) (r : Block) : Type 0 where
+  pub is : r ≡ checkBlock (limitCheck line k) (blockLine s line)
+  pub room : blockOne r ≤ k
   pub size : blockSize r ≤ largestPosition
   pub targetGap : blockTargetGap r ≤ largestPosition
   pub queryGap : blockQueryGap r ≤ largestPosition

@@ -8,7 +8,7 @@ ghost use Rattle.text.specs.Checks.{require};
 ghost use Rattle.writing.specs.Puts.{Put};
 ghost use Rattle.writing.specs.Answers.{Wrote};
 ghost use Rattle.chain.specs.Records.{partAt, strandIs, chainRecord, spanFits};
-ghost use Rattle.chain.specs.Read.{headCheck, spanCheck, isBlockCount, blockWords, blockIs, fillCheck, afterLast, afterLines, afterSpans, afterColumns, afterWords, afterText, chainCheck, LineCounted, NumbersRead, BlockRead, Counted, Begins, Walked, Headed, Staged, Held, RowsStored, ChainRead};
+ghost use Rattle.chain.specs.Read.{headCheck, spanCheck, isBlockCount, blockWords, limitCheck, firstOf, lineCheck, blockIs, fillCheck, afterLast, afterLines, afterSpans, afterColumns, afterWords, afterText, chainCheck, LineCounted, NumbersRead, BlockRead, Counted, Begins, Walked, Headed, Staged, Held, RowsStored, ChainRead};
 ghost use Rattle.chain.specs.Tests.{lengthFits, namesFit, allGraphic, strandFits, sizeFits, fieldsFit, rowNumbersFit, spansFit, rowsFit, chainValid};
 ghost use Rattle.chain.specs.Write.{namesShow, writeCheck, fedWords, gapTo, gapWords, blockText, chainText, chainValues, textOf, ChainWrote, recordCheck, NamesShort, NamesPut, RowsThere, Writable};
 ghost use Rattle.chain.specs.Table.{blockColumns};
@@ -190,6 +190,38 @@ fn check_count(text: &[u8], line: usize, n: usize) -> Check
     Check::Holds
 }
 
+// The limit (11), where so many blocks may still come.
+fn check_limit(line: usize, left: u64) -> Check
+    ensures { λ r. ⌜ r ≡ limitCheck line left ⌝ }
+{
+    if left == 0 {
+        return Check::Refused(Refusal {
+            reason: Reason::NoRoom,
+            place: line,
+        });
+    }
+    Check::Holds
+}
+
+// The first refusal of two checks.
+fn first_of(first: Check, second: Check) -> Check
+    ensures { λ r. ⌜ r ≡ firstOf first second ⌝ }
+{
+    match first {
+        Check::Refused(x) => Check::Refused(x),
+        Check::Holds => second,
+    }
+}
+
+// Before a block line is read: the limit (11), and only then its number of words (2).
+fn check_line(text: &[u8], line: usize, n: usize, left: u64) -> Check
+    ensures { λ r. ⌜ r ≡ lineCheck (now (text .entry)) line n left ⌝ }
+{
+    let limit = check_limit(line, left);
+    let words = check_count(text, line, n);
+    first_of(limit, words)
+}
+
 // The block that the values of a line of n words say.
 fn block_of(values: &[u64], n: usize) -> Block
     ensures { λ r. ⌜ r ≡ blockIs n (now (values .entry)) ⌝ }
@@ -219,12 +251,12 @@ fn read_numbers(text: &[u8], line: usize, n: usize) -> Block
     }
 }
 
-// The block line at a place.
-fn read_block(text: &[u8], line: usize) -> Block
-    ensures { λ r. ⌜ BlockRead (now (text .entry)) line r ⌝ }
+// The block line at a place, where so many blocks may still come.
+fn read_block(text: &[u8], line: usize, left: u64) -> Block
+    ensures { λ r. ⌜ BlockRead (now (text .entry)) line left r ⌝ }
 {
     let n = text::count_words(text, line);
-    match check_count(text, line, n) {
+    match check_line(text, line, n, left) {
         Check::Refused(x) => Block::Refused(x),
         Check::Holds => read_numbers(text, line, n),
     }
@@ -252,13 +284,7 @@ fn walk_lines(text: &[u8], from: usize, target: u64, query: u64, rows: &mut [u64
     let mut q = query;
     let mut left = ledger::BLOCK_LIMIT;
     while line < text.len() {
-        if left == 0 {
-            return Lines::Refused(Refusal {
-                reason: Reason::NoRoom,
-                place: line,
-            });
-        }
-        match read_block(text, line) {
+        match read_block(text, line, left) {
             Block::Refused(x) => {
                 return Lines::Refused(x);
             }

@@ -1,11 +1,7 @@
 // The samples program: one case a line on standard input, one answer a line on standard output. A case is its letter, a space and an
-// escaped payload (of case `W`, words of which some are escaped); empty lines and lines that begin with `#` have no answer. Every answer
-// comes from the libraries.
-mod bed_cases;
-mod escape;
-
+// escaped payload; empty lines and lines that begin with `#` have no answer. Every answer comes from the libraries. Here are the cases of
+// texts, words, lists and columns; each format has a program of its own.
 ghost use mathlib.Core.Path.{_≡_};
-ghost use Prim.Native.Nat.{min};
 ghost use lib.ListN.{length};
 use columns::Columns;
 use ledger::Position;
@@ -46,12 +42,6 @@ const CHAIN: [u8; 13] = [11, 4, 0, 2, 12, 1, 1, 0, 2, 9, 1, 1, 5];
 // The code of a letter whose case is not that of one word.
 const NO_CODE: u8 = 255;
 
-fn least(a: usize, b: usize) -> usize
-    ensures { λ r. ⌜ r ≡ min a b ⌝ }
-{
-    if a < b { a } else { b }
-}
-
 // Room for the values of a line's columns, two numbers each, and for three lists of blocks. The contracts tell only the lengths.
 fn value_table() -> [u64; 64]
     ensures { λ r. ⌜ 64 ≡ length r ⌝ }
@@ -65,37 +55,12 @@ fn list_table() -> [u64; 1536]
     [0; 1536]
 }
 
-// Room for the input, the output or a payload.
-fn page() -> [u8; 131072]
-    ensures { λ r. ⌜ 131072 ≡ length r ⌝ }
-{
-    [0; 131072]
-}
-
-// The byte at a place, or 0 past the end.
-fn byte_at(s: &[u8], i: usize) -> u8 {
-    if i < s.len() { s[i] } else { 0 }
-}
-
-// A label and a number.
-fn put_labelled(out: &mut [u8], at: usize, label: &[u8], v: u64) -> usize {
-    let a = writing::put_bytes(out, at, label);
-    writing::put_number(out, a, v)
-}
-
-// The reason's number and the place.
-fn put_refusal(out: &mut [u8], at: usize, x: Refusal) -> usize {
-    let reason = x.reason;
-    let a = put_labelled(out, at, b"refused ", reason.number());
-    put_labelled(out, a, b" at ", x.place as u64)
-}
-
 // What was written to the front of a buffer.
 fn put_written(out: &mut [u8], at: usize, buf: &[u8], written: Writing) -> usize {
     match written {
-        Writing::Refused(x) => put_refusal(out, at, x),
+        Writing::Refused(x) => cases::put_refusal(out, at, x),
         Writing::Written(n) => {
-            let m = least(n, buf.len());
+            let m = cases::least(n, buf.len());
             writing::put_bytes(out, at, &buf[0..m])
         }
     }
@@ -105,7 +70,7 @@ fn put_written(out: &mut [u8], at: usize, buf: &[u8], written: Writing) -> usize
 fn text_case(s: &[u8], out: &mut [u8], at: usize) -> usize {
     match text::check_text(s) {
         Check::Holds => writing::put_bytes(out, at, b"fine"),
-        Check::Refused(x) => put_refusal(out, at, x),
+        Check::Refused(x) => cases::put_refusal(out, at, x),
     }
 }
 
@@ -186,20 +151,20 @@ fn put_strand(out: &mut [u8], at: usize, v: u64) -> usize {
 }
 
 fn put_colour(out: &mut [u8], at: usize, v: u64) -> usize {
-    let a = put_labelled(out, at, b"colour ", v / 256 / 256);
-    let b = put_labelled(out, a, b" ", v / 256 % 256);
-    put_labelled(out, b, b" ", v % 256)
+    let a = cases::put_labelled(out, at, b"colour ", v / 256 / 256);
+    let b = cases::put_labelled(out, a, b" ", v / 256 % 256);
+    cases::put_labelled(out, b, b" ", v % 256)
 }
 
 // What a word means, by its case.
 fn put_meaning(out: &mut [u8], at: usize, letter: u8, v: u64) -> usize {
     match letter {
-        b'n' => put_labelled(out, at, b"name ", v),
+        b'n' => cases::put_labelled(out, at, b"name ", v),
         b'+' => put_strand(out, at, v),
         b'.' => put_strand(out, at, v),
         b'k' => writing::put_bytes(out, at, b"chain"),
         b'r' => put_colour(out, at, v),
-        _ => put_labelled(out, at, b"value ", v),
+        _ => cases::put_labelled(out, at, b"value ", v),
     }
 }
 
@@ -212,7 +177,7 @@ fn word_case(letter: u8, word: &[u8], out: &mut [u8], at: usize) -> usize {
     let mut none = [0u64; 0];
     match kinds::spell(kinds::kind_of(code), 0, word, 0, &mut none) {
         Spelt::Means(v) => put_meaning(out, at, letter, v),
-        Spelt::Faulty(reason, place) => put_refusal(out, at, Refusal { reason, place }),
+        Spelt::Faulty(reason, place) => cases::put_refusal(out, at, Refusal { reason, place }),
     }
 }
 
@@ -228,21 +193,11 @@ fn items_wanted(letter: u8, word: &[u8], low: u64) -> u64 {
     }
 }
 
-fn put_spaced(out: &mut [u8], at: usize, vs: &[u64]) -> usize {
-    let mut p = at;
-    let mut i = 0;
-    while i < vs.len() {
-        p = put_labelled(out, p, b" ", vs[i]);
-        i += 1;
-    }
-    p
-}
-
 fn put_items(out: &mut [u8], at: usize, vs: &[u64], n: u64) -> usize {
-    let a = put_labelled(out, at, b"count ", n);
+    let a = cases::put_labelled(out, at, b"count ", n);
     let b = writing::put_byte(out, a, b':');
-    let m = least(n as usize, vs.len());
-    put_spaced(out, b, &vs[0..m])
+    let m = cases::least(n as usize, vs.len());
+    cases::put_spaced(out, b, &vs[0..m])
 }
 
 // Cases `L`, `Z` and `2`: a comma list of coordinates, of sizes, of two coordinates.
@@ -252,7 +207,7 @@ fn list_case(letter: u8, word: &[u8], out: &mut [u8], at: usize) -> usize {
     let mut items = list_table();
     match numbers::read_list(word, low, Position::LARGEST, true, wanted, &mut items) {
         Spelt::Means(n) => put_items(out, at, &items, n),
-        Spelt::Faulty(reason, place) => put_refusal(out, at, Refusal { reason, place }),
+        Spelt::Faulty(reason, place) => cases::put_refusal(out, at, Refusal { reason, place }),
     }
 }
 
@@ -281,31 +236,11 @@ fn digits_case(word: &[u8], out: &mut [u8], at: usize) -> usize {
     }
 }
 
-// One byte of a text, a tab or a line feed by its escape.
-fn put_shown(out: &mut [u8], at: usize, b: u8) -> usize {
-    match b {
-        b'\t' => writing::put_bytes(out, at, b"\\t"),
-        b'\n' => writing::put_bytes(out, at, b"\\n"),
-        _ => writing::put_byte(out, at, b),
-    }
-}
-
-// A text's bytes, tabs and line feeds by their escapes.
-fn put_line(out: &mut [u8], at: usize, line: &[u8]) -> usize {
-    let mut p = at;
-    let mut i = 0;
-    while i < line.len() {
-        p = put_shown(out, p, line[i]);
-        i += 1;
-    }
-    p
-}
-
 // The first line of a buffer, without its line feed.
 fn put_first_line(out: &mut [u8], at: usize, buf: &[u8], n: usize) -> usize {
-    let m = least(n, buf.len());
+    let m = cases::least(n, buf.len());
     let e = text::line_end(&buf[0..m], 0);
-    put_line(out, at, &buf[0..e])
+    cases::put_shown(out, at, &buf[0..e])
 }
 
 // The standard line of what was read.
@@ -320,7 +255,7 @@ fn put_standard(
 ) -> usize {
     let mut space = io::large_buffer();
     match columns::write_line(&mut space, table, sep, line, values, lists) {
-        Writing::Refused(x) => put_refusal(out, at, x),
+        Writing::Refused(x) => cases::put_refusal(out, at, x),
         Writing::Written(n) => put_first_line(out, at, &space, n),
     }
 }
@@ -330,7 +265,7 @@ fn columns_case(line: &[u8], table: &[u8], sep: u8, out: &mut [u8], at: usize) -
     let mut values = value_table();
     let mut lists = list_table();
     match columns::read_columns(line, 0, table, &mut values, &mut lists) {
-        Columns::Refused(x) => put_refusal(out, at, x),
+        Columns::Refused(x) => cases::put_refusal(out, at, x),
         Columns::Next(_) => put_standard(out, at, table, sep, line, &values, &lists),
     }
 }
@@ -347,46 +282,23 @@ fn answer(letter: u8, payload: &[u8], out: &mut [u8], at: usize) -> usize {
         b'B' => columns_case(payload, &BED, b'\t', out, at),
         b'P' => columns_case(payload, &PSL, b'\t', out, at),
         b'C' => columns_case(payload, &CHAIN, b' ', out, at),
-        b'D' => bed_cases::line_case(payload, out, at),
-        b'E' => bed_cases::narrow_case(payload, out, at),
         _ => word_case(letter, payload, out, at),
     }
 }
 
-// The answer to the case of a letter and an escaped payload, which a buffer takes.
-fn answer_escaped(
-    letter: u8,
-    escaped: &[u8],
-    space: &mut [u8],
-    out: &mut [u8],
-    at: usize,
-) -> usize {
-    if letter == b'W' {
-        return bed_cases::record_case(escaped, out, at);
-    }
-    let n = escape::unescape(escaped, space);
-    answer(letter, &space[0..n], out, at)
-}
-
-// The answer of a line's case. A line of one byte has an empty payload.
 fn answer_case(line: &[u8], out: &mut [u8], at: usize) -> usize {
-    if 1 < line.len() {
-        if line[1] != b' ' {
-            return writing::put_bytes(out, at, b"unknown case");
-        }
-    }
-    let start = least(2, line.len());
-    let mut space = page();
-    answer_escaped(byte_at(line, 0), &line[start..], &mut space, out, at)
+    let start = cases::payload_start(line);
+    let mut space = cases::page();
+    let n = cases::unescape(&line[start..], &mut space);
+    answer(cases::letter_of(line), &space[0..n], out, at)
 }
 
 // The answer to one line of the input: its letter again, a space, the answer and a line feed.
 fn answer_line(line: &[u8], out: &mut [u8], at: usize) -> usize {
-    let letter = byte_at(line, 0);
-    if (line.len() == 0) | (letter == b'#') {
+    if !cases::is_case(line) {
         return at;
     }
-    let a = writing::put_byte(out, at, letter);
+    let a = writing::put_byte(out, at, cases::byte_at(line, 0));
     let b = writing::put_byte(out, a, b' ');
     let c = answer_case(line, out, b);
     writing::put_byte(out, c, b'\n')
@@ -403,16 +315,10 @@ fn answer_lines(input: &[u8], out: &mut [u8]) -> usize {
     p
 }
 
-// Writes the front of a buffer to standard output.
-fn print(buf: &[u8], n: usize) {
-    let m = least(n, buf.len());
-    io::write_all(1, &buf[0..m]);
-}
-
 fn main() {
-    let mut input = page();
+    let mut input = cases::page();
     let n = io::read_full(0, &mut input);
-    let mut out = page();
-    let m = answer_lines(&input[..n], &mut out);
-    print(&out, m);
+    let mut out = cases::page();
+    let m = cases::least(answer_lines(&input[..n], &mut out), out.len());
+    io::write_all(1, &out[0..m]);
 }

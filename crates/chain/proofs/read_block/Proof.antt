@@ -5,15 +5,15 @@ use Rattle.chain.proofs.read_block.Statement.{statement}
 use Rattle.chain.proofs.read_block.Tie as tie
 use Rattle.chain.proofs.read_block.Reads as reads
 use Rattle.chain.proofs.read_block.Lts as lts
-use Rattle.chain.proofs.check_count.Reads as check-count-reads
+use Rattle.chain.proofs.check_line.Reads as check-line-reads
 use Rattle.chain.proofs.read_numbers.Reads as read-numbers-reads
 use Rattle.text.proofs.count_words.Reads as count-words-reads
 
 count-words-requires : tie.Need-count-words-requires
 count-words-requires c κs = search needs
 
-check-count-requires : tie.Need-check-count-requires
-check-count-requires c κs = search needs
+check-line-requires : tie.Need-check-line-requires
+check-line-requires c κs = search needs
 
 enum-known-x : tie.Need-enum-known-x
 enum-known-x c = search needs
@@ -35,7 +35,7 @@ read-block-spec =
     tie.close
     (tie.spec
     count-words-requires
-    check-count-requires
+    check-line-requires
     enum-known-x
     enum-told
     read-numbers-requires

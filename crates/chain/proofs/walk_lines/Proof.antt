@@ -1,5 +1,5 @@
 -- The walk from here is the walk from the start, and the rows so far are those of the lines before. What is left falls. Assumes nothing.
-use Rattle.chain.proofs.WalkLaws.{Walking, walk-start, walk-past, walk-full, walk-refused, walk-last, walk-more, last-target-fits, last-query-fits, gap-target-fits, gap-query-fits, next-target-fits, next-query-fits}
+use Rattle.chain.proofs.WalkLaws.{Walking, walk-start, walk-past, walk-refused, walk-last, walk-more, last-target-fits, last-query-fits, gap-target-fits, gap-query-fits, next-target-fits, next-query-fits, last-some, last-index, gap-some, gap-index, gap-less}
 use borrow.Author.Needs.{needs}
 use native.Mathlib.Omega.{arith}
 use Rattle.chain.proofs.walk_lines.Statement.{statement}
@@ -19,23 +19,17 @@ abbrev μ-loop : tie.MeasureT-loop
 loop-holds : tie.Need-loop-holds Inv-loop μ-loop
 loop-holds c = search walk-start
 
-same-length : tie.Need-same-length Inv-loop μ-loop
-same-length c = search needs
-
-returns : tie.Need-returns Inv-loop μ-loop
-returns c = search walk-full
-
 read-block-requires : tie.Need-read-block-requires Inv-loop μ-loop
 read-block-requires c κs = search needs
 
 enum-known-x : tie.Need-enum-known-x Inv-loop μ-loop
 enum-known-x c = search needs
 
-same-length-2 : tie.Need-same-length-2 Inv-loop μ-loop
-same-length-2 c = search needs
+same-length : tie.Need-same-length Inv-loop μ-loop
+same-length c = search needs
 
-returns-2 : tie.Need-returns-2 Inv-loop μ-loop
-returns-2 c = search walk-refused
+returns : tie.Need-returns Inv-loop μ-loop
+returns c = search walk-refused
 
 enum-known-z : tie.Need-enum-known-z Inv-loop μ-loop
 enum-known-z c = search needs
@@ -44,25 +38,25 @@ sub-put-row : tie.Need-sub-put-row Inv-loop μ-loop
 sub-put-row c = search needs
 
 put-row-requires : tie.Need-put-row-requires Inv-loop μ-loop
-put-row-requires c κs = search needs
+put-row-requires c κs = search last-index
 
-sub-t23 : tie.Need-sub-t23 Inv-loop μ-loop
-sub-t23 c = search needs
+sub-t21 : tie.Need-sub-t21 Inv-loop μ-loop
+sub-t21 c = search last-some
 
-sub-t24 : tie.Need-sub-t24 Inv-loop μ-loop
-sub-t24 c = search needs
+sub-t22 : tie.Need-sub-t22 Inv-loop μ-loop
+sub-t22 c = search needs
 
-add-t25 : tie.Need-add-t25 Inv-loop μ-loop
-add-t25 c = search last-target-fits
+add-t23 : tie.Need-add-t23 Inv-loop μ-loop
+add-t23 c = search last-target-fits
 
-add-t26 : tie.Need-add-t26 Inv-loop μ-loop
-add-t26 c = search last-query-fits
+add-t24 : tie.Need-add-t24 Inv-loop μ-loop
+add-t24 c = search last-query-fits
 
-same-length-3 : tie.Need-same-length-3 Inv-loop μ-loop
-same-length-3 c = search needs
+same-length-2 : tie.Need-same-length-2 Inv-loop μ-loop
+same-length-2 c = search needs
 
-returns-3 : tie.Need-returns-3 Inv-loop μ-loop
-returns-3 c = search walk-last
+returns-2 : tie.Need-returns-2 Inv-loop μ-loop
+returns-2 c = search walk-last
 
 enum-known-z-2 : tie.Need-enum-known-z-2 Inv-loop μ-loop
 enum-known-z-2 c = search needs
@@ -71,7 +65,7 @@ sub-put-row-2 : tie.Need-sub-put-row-2 Inv-loop μ-loop
 sub-put-row-2 c = search needs
 
 put-row-requires-2 : tie.Need-put-row-requires-2 Inv-loop μ-loop
-put-row-requires-2 c κs = search needs
+put-row-requires-2 c κs = search gap-index
 
 add-t : tie.Need-add-t Inv-loop μ-loop
 add-t c = search gap-target-fits
@@ -89,19 +83,19 @@ next-line-requires : tie.Need-next-line-requires Inv-loop μ-loop
 next-line-requires c κs = search needs
 
 sub-left : tie.Need-sub-left Inv-loop μ-loop
-sub-left c = search needs
+sub-left c = search (gap-some, c .before .before .before .before .before .before .before .before .read-block .ensures)
 
 loop-less : tie.Need-loop-less Inv-loop μ-loop
-loop-less c = search needs
+loop-less c = search (gap-less, c .before .before .before .before .before .before .before .before .read-block .ensures)
 
 loop-again : tie.Need-loop-again Inv-loop μ-loop
-loop-again c = search walk-more
+loop-again c = search (walk-more, c .before .before .before .before .before .before .before .before .read-block .ensures)
 
-same-length-4 : tie.Need-same-length-4 Inv-loop μ-loop
-same-length-4 c = search needs
+same-length-3 : tie.Need-same-length-3 Inv-loop μ-loop
+same-length-3 c = search needs
 
-returns-4 : tie.Need-returns-4 Inv-loop μ-loop
-returns-4 c = search walk-past
+returns-3 : tie.Need-returns-3 Inv-loop μ-loop
+returns-3 c = search walk-past
 
 pub walk-lines-spec : {M : Type 1} → statement M
 walk-lines-spec =
@@ -110,21 +104,19 @@ walk-lines-spec =
     Inv-loop
     μ-loop
     loop-holds
-    same-length
-    returns
     read-block-requires
     enum-known-x
-    same-length-2
-    returns-2
+    same-length
+    returns
     enum-known-z
     sub-put-row
     put-row-requires
-    sub-t23
-    sub-t24
-    add-t25
-    add-t26
-    same-length-3
-    returns-3
+    sub-t21
+    sub-t22
+    add-t23
+    add-t24
+    same-length-2
+    returns-2
     enum-known-z-2
     sub-put-row-2
     put-row-requires-2
@@ -136,5 +128,5 @@ walk-lines-spec =
     sub-left
     loop-less
     loop-again
-    same-length-4
-    returns-4)
+    same-length-3
+    returns-3)

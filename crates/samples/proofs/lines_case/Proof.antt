@@ -3,7 +3,7 @@ use borrow.Author.Needs.{needs}
 use Prim.Native.Nat.{_-_}
 use mathlib.Core.Path.{_≡_}
 use lib.ListN.{length}
-use Rattle.samples.proofs.LineLaws.{less-left}
+use Rattle.cases.proofs.LineLaws.{less-left}
 use Rattle.samples.proofs.lines_case.Statement.{statement}
 use Rattle.samples.proofs.lines_case.Tie as tie
 

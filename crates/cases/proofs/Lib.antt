@@ -1,0 +1,2 @@
+mod CaseLaws
+pub mod LineLaws

@@ -1,0 +1,96 @@
+// Lent tables and buffers, with a mark in every place before a call, so that it shows where a call stored something.
+ghost use mathlib.Core.Path.{_≡_};
+ghost use mathlib.Core.Bool.{_&&_};
+ghost use lib.ListN.{length, drop};
+ghost use Rattle.cases.specs.Marks.{allMarked, wroteLength};
+use writing::Writing;
+
+const MARK: u64 = 7;
+
+const MARK_BYTE: u8 = 7;
+
+// The contracts of rooms tell only their lengths.
+pub fn marked_rows() -> [u64; 512]
+    ensures { λ r. ⌜ 512 ≡ length r ⌝ }
+{
+    [MARK; 512]
+}
+
+// Room for two blocks, and for one.
+pub fn marked_pair() -> [u64; 2]
+    ensures { λ r. ⌜ 2 ≡ length r ⌝ }
+{
+    [MARK; 2]
+}
+
+pub fn marked_row() -> [u64; 1]
+    ensures { λ r. ⌜ 1 ≡ length r ⌝ }
+{
+    [MARK; 1]
+}
+
+pub fn marked_bytes() -> [u8; 65536]
+    ensures { λ r. ⌜ 65536 ≡ length r ⌝ }
+{
+    [MARK_BYTE; 65536]
+}
+
+// Room for the rows of a table, which may be more than a record's blocks.
+pub fn row_numbers() -> [u64; 1024]
+    ensures { λ r. ⌜ 1024 ≡ length r ⌝ }
+{
+    [0; 1024]
+}
+
+// Room for the input, the output or a payload.
+pub fn page() -> [u8; 131072]
+    ensures { λ r. ⌜ 131072 ≡ length r ⌝ }
+{
+    [0; 131072]
+}
+
+// Whether the numbers of a table from a place on are as they were.
+fn numbers_kept(vs: &[u64], from: usize) -> bool
+    ensures { λ r. ⌜ r ≡ allMarked (drop from (now (vs .entry))) ⌝ }
+{
+    let mut i = from;
+    while i < vs.len() {
+        if vs[i] != MARK {
+            return false;
+        }
+        i += 1;
+    }
+    true
+}
+
+// Whether the bytes of a buffer from a place on are as they were.
+pub fn bytes_kept(buf: &[u8], from: usize) -> bool
+    ensures { λ r. ⌜ r ≡ allMarked (drop from (now (buf .entry))) ⌝ }
+{
+    let mut i = from;
+    while i < buf.len() {
+        if buf[i] != MARK_BYTE {
+            return false;
+        }
+        i += 1;
+    }
+    true
+}
+
+// Whether three tables are as they were from a row on.
+pub fn rows_kept(targets: &[u64], queries: &[u64], sizes: &[u64], from: usize) -> bool
+    ensures { λ r. ⌜ r ≡ allMarked (drop from (now (targets .entry))) && (allMarked (drop from (now (queries .entry)))
+        && allMarked (drop from (now (sizes .entry)))) ⌝ }
+{
+    numbers_kept(targets, from) & (numbers_kept(queries, from) & numbers_kept(sizes, from))
+}
+
+// The number of bytes that a writer wrote.
+pub fn length_of(written: Writing) -> usize
+    ensures { λ r. ⌜ r ≡ wroteLength written ⌝ }
+{
+    match written {
+        Writing::Refused(_) => 0,
+        Writing::Written(n) => n,
+    }
+}
