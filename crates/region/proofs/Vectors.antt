@@ -1,0 +1,92 @@
+-- Chain A of 01's bench samples: its regions and a tally over them, computed on the definitions. Assumes nothing.
+use mathlib.Core.Path.{_≡_, refl}
+use mathlib.Core.List.{List, [], _∷_}
+use Prim.Native.Nat.{ℕ, _-_}
+use Rattle.ledger.specs.declared.Strand.the-variants.{Minus}
+use Rattle.ledger.specs.declared.Row.{Row}
+use Rattle.ledger.specs.declared.Reason.the-variants.{NumberOutOfRange, NoPair, OutsideTarget}
+use Rattle.ledger.specs.Limits.{tallyLimit}
+use Rattle.blocks.specs.Blocks.{orderFrom, blocksFill, allBetween}
+use Rattle.blocks.specs.Rows.{rowAs}
+use Rattle.chain.specs.declared.Chain.{Chain}
+use Rattle.chain.specs.Records.{partAt}
+use Rattle.chain.specs.Tests.{namesFit, fieldsFit, rowNumbersFit, spansFit, rowsFit, chainValid}
+use Rattle.lift.specs.Accepted.{accepted}
+use Rattle.lift.specs.Pairs.{blockPairs, pairsOf, pairs, partnerOf}
+use Rattle.region.specs.declared.RegionAnswer.{RegionAnswer}
+use Rattle.region.specs.declared.RegionAnswer.the-variants.{Lifted}
+use Rattle.region.specs.declared.Tally.{Tally}
+use Rattle.region.specs.Regions.{countOf, kept, dropped, partnersIn, least, bound, notLifted, inside, carried, liftRegion}
+use Rattle.region.specs.Tallies.{goodTally, tallyStep, Sent, counts, counted, total, sums, zeroTally, sentThrough}
+
+abbrev pub chainA : Chain
+chainA = record {
+  score = 100;
+  tName = partAt 10 2;
+  tSize = 100;
+  tStart = 10;
+  tEnd = 40;
+  qName = partAt 25 2;
+  qSize = 80;
+  qStrand = Minus;
+  qStart = 5;
+  qEnd = 33;
+  id = 7;
+  blockCount = 3;
+}
+
+abbrev pub rowsA : List Row
+rowsA = rowAs 10 5 10 ∷ rowAs 23 15 8 ∷ rowAs 31 24 9 ∷ []
+
+-- a region of chain A and its answer
+pub record Sample : Type 0 where
+  pub start : ℕ
+  pub end : ℕ
+  pub answer : RegionAnswer
+
+abbrev sample : ℕ → ℕ → RegionAnswer → Sample
+sample a e x = record { start = a; end = e; answer = x }
+
+abbrev Right : List Sample → Type 0
+Right [] = Unit {0}
+Right (s ∷ ss) = (liftRegion chainA rowsA (s .start) (s .end) ≡ s .answer) × Right ss
+
+abbrev pub samples : List Sample
+samples =
+    sample 18 25 (Lifted (record { kept = 4; dropped = 3; start = 63; end = 67 }))
+    ∷ sample 20 23 (notLifted NoPair)
+    ∷ sample 20 20 (notLifted OutsideTarget)
+    ∷ sample 0 100 (Lifted (record { kept = 27; dropped = 73; start = 47; end = 75 }))
+    ∷ sample 0 101 (notLifted OutsideTarget)
+    ∷ []
+
+pub samples-right : Right samples
+unfolding liftRegion carried inside accepted chainValid namesFit fieldsFit rowNumbersFit spansFit rowsFit orderFrom blocksFill allBetween pairs pairsOf blockPairs partnerOf countOf kept dropped partnersIn least bound
+samples-right = (refl, (refl, (refl, (refl, (refl, tt)))))
+
+-- a tally over the first three: the second, refused by 12, counts, and the third does not
+abbrev sent : ℕ → ℕ → Sent
+sent a e = record { chain = chainA; rows = rowsA; start = a; end = e }
+
+abbrev tally : ℕ → ℕ → ℕ → Tally
+tally a k d = record { asked = a; kept = k; dropped = d }
+
+abbrev pub batchA : List Sent
+batchA = sent 18 25 ∷ sent 20 23 ∷ sent 20 20 ∷ []
+
+pub batch-tallied : sentThrough zeroTally batchA ≡ tally 10 4 6
+unfolding sentThrough tallyStep goodTally carried inside accepted chainValid namesFit fieldsFit rowNumbersFit spansFit rowsFit orderFrom blocksFill allBetween pairs pairsOf blockPairs partnerOf countOf kept dropped partnersIn least bound
+batch-tallied = refl
+
+pub batch-summed : sums batchA ≡ tally 10 4 6
+unfolding sums counted counts total inside accepted chainValid namesFit fieldsFit rowNumbersFit spansFit rowsFit orderFrom blocksFill allBetween pairs pairsOf blockPairs partnerOf countOf kept dropped
+batch-summed = refl
+
+-- asked may reach its limit, and may not pass it
+pub limit-reached : tallyStep (tally (tallyLimit - 7) 0 (tallyLimit - 7)) chainA rowsA 18 25 ≡ record { tally = tally tallyLimit 4 (tallyLimit - 4); answer = Lifted (record { kept = 4; dropped = 3; start = 63; end = 67 }) }
+unfolding tallyStep goodTally carried inside accepted chainValid namesFit fieldsFit rowNumbersFit spansFit rowsFit orderFrom blocksFill allBetween pairs pairsOf blockPairs partnerOf countOf kept dropped partnersIn least bound
+limit-reached = refl
+
+pub limit-kept : tallyStep (tally tallyLimit 4 (tallyLimit - 4)) chainA rowsA 20 23 ≡ record { tally = tally tallyLimit 4 (tallyLimit - 4); answer = notLifted NumberOutOfRange }
+unfolding tallyStep goodTally carried inside accepted chainValid namesFit fieldsFit rowNumbersFit spansFit rowsFit orderFrom blocksFill allBetween
+limit-kept = refl
