@@ -1,0 +1,4 @@
+pub mod RowLaws
+pub mod TurnLaws
+pub mod FillLaws
+pub mod Vectors
