@@ -1,0 +1,4 @@
+pub mod Filled
+pub mod Walk
+pub mod Staged
+pub mod Loop
