@@ -2,3 +2,4 @@ pub mod Filled
 pub mod Walk
 pub mod Staged
 pub mod Loop
+pub mod StagingLaws
