@@ -106,12 +106,13 @@ field-cut f n rows h =
     (λ k. ap (λ (l : List Row). take n (map f l)) (take-all (min (length rows) blockLimit) rows (omega arith)))
     (λ k. ap (take n) (map-take f (min (length rows) blockLimit) rows) ∙ take-take n (min (length rows) blockLimit) (map f rows) (omega arith))
 
+-- the rows of a table that are staged
+abbrev pub cutRows : List Row → List Row
+cutRows rows = take (min (length rows) blockLimit) rows
+
 -- NO MORE ROWS THAN A RECORD MAY HAVE: what looks at whether a count fits and, where it does, at so many first rows, says the same of the rows that are staged
 -- as of the table
 module _ {X : Type 0} (g : Bool → List ℕ → List ℕ → List ℕ → X) (blind : (a b c d e f : List ℕ) → g false a b c ≡ g false d e f) (n : ℕ) (rows : List Row) where
-  abbrev pub cut : List Row
-  cut = take (min (length rows) blockLimit) rows
-
   table-rows : (l : List Row) → rowsOf (targetsOf l) (queriesOf l) (sizesOf l) ≡ length l
   table-rows l = omega (arith, length-map l (λ (b : Row). b .target), length-map l (λ (b : Row). b .query), length-map l (λ (b : Row). b .size))
 
@@ -121,9 +122,16 @@ module _ {X : Type 0} (g : Bool → List ℕ → List ℕ → List ℕ → X) (b
   none-fits : (k : ℕ) → blockLimit < n → countFits n k ≡ false
   none-fits k h = rw (le-leb 1 n (omega arith), lt-leb n blockLimit h)
 
-  pub rows-cut : seen cut ≡ seen rows
+  pub rows-cut : seen (cutRows rows) ≡ seen rows
   rows-cut =
-      let e : length cut ≡ min (length rows) blockLimit = length-take-le (min (length rows) blockLimit) rows (omega arith) in
+      let e : length (cutRows rows) ≡ min (length rows) blockLimit = length-take-le (min (length rows) blockLimit) rows (omega arith) in
       either n blockLimit _
-      (λ h. rw (table-rows cut, table-rows rows, e, room-cut n (length rows) h, field-cut (λ (b : Row). b .target) n rows h, field-cut (λ (b : Row). b .query) n rows h, field-cut (λ (b : Row). b .size) n rows h))
-      (λ h. rw (none-fits (rowsOf (targetsOf cut) (queriesOf cut) (sizesOf cut)) h, none-fits (rowsOf (targetsOf rows) (queriesOf rows) (sizesOf rows)) h) (blind _ _ _ _ _ _))
+      (λ h. rw (table-rows (cutRows rows), table-rows rows, e, room-cut n (length rows) h, field-cut (λ (b : Row). b .target) n rows h, field-cut (λ (b : Row). b .query) n rows h, field-cut (λ (b : Row). b .size) n rows h))
+      (λ h. rw (none-fits (rowsOf (targetsOf (cutRows rows)) (queriesOf (cutRows rows)) (sizesOf (cutRows rows))) h, none-fits (rowsOf (targetsOf rows) (queriesOf rows) (sizesOf rows)) h) (blind _ _ _ _ _ _))
+
+-- the part of a column that a table of so many rows may fill has as many numbers
+pub part-count : (n rows : ℕ) (ts : List ℕ) → n ≡ min rows blockLimit → length ts ≡ blockLimit → n ≡ length (take n ts)
+part-count n rows ts e h = sym (length-take-le n ts (omega arith))
+
+pub columns-of : (ts qs zs : List ℕ) → length ts ≡ blockLimit → length qs ≡ blockLimit → length zs ≡ blockLimit → Columns ts qs zs
+columns-of ts qs zs a b c = record { targets = a; queries = b; sizes = c }
