@@ -3,3 +3,4 @@ pub mod Walk
 pub mod Staged
 pub mod Loop
 pub mod StagingLaws
+pub mod WriterLaws

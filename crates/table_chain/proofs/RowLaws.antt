@@ -16,14 +16,13 @@ use Rattle.text.specs.declared.Check.{Check}
 use Rattle.text.specs.declared.Check.the-variants.{Holds}
 use Rattle.text.specs.declared.Check.the-variants as check
 use Rattle.text.specs.Checks.{require}
-use Rattle.text.proofs.TextLaws.{both}
 use Rattle.writing.specs.Digits.{digits}
 use Rattle.writing.specs.declared.Writing.{Writing}
-use Rattle.writing.specs.Answers.{roomAnswer, leftAfter}
-use Rattle.blocks.specs.Blocks.{rowsOf, countFits}
+use Rattle.blocks.specs.Blocks.{rowsOf}
 use Rattle.blocks.specs.Rows.{targetsOf, queriesOf, sizesOf}
 use Rattle.rows.specs.Staging.{allReach, Loaded, Columns, Fronts, storedRows}
 use Rattle.rows.proofs.StagingLaws.{fronts-made, fronts-stored, none-stored, loaded-targets, loaded-queries, loaded-sizes, room-cut, cutRows, rows-cut, part-count}
+use Rattle.rows.proofs.WriterLaws.{written-cut, kept-cut}
 use Rattle.chain.specs.declared.Chain.{Chain}
 use Rattle.chain.specs.declared.ChainAnswer.{ChainAnswer}
 use Rattle.chain.specs.declared.ChainAnswer.the-variants.{Accepted, Refused}
@@ -150,54 +149,19 @@ unfolding chainText
 text-front r tName qName ts qs zs h = ap (λ (l : List ℕ). fedWords (headWords r tName qName) ++ l) (blocks-front (r .blockCount) ts qs zs (r .blockCount - 1) 0 (omega arith))
 
 module _ (r : Chain) (tName qName : List ℕ) where
-  abbrev writeSeen : ℕ → Bool → List ℕ → List ℕ → List ℕ → Writing
-  writeSeen room t ts qs zs =
-      thenWrite
-      (require t BlockRules 0
-      (require (namesShow tName qName && strandFits (r .qStrand)) BadWord 0
-      (require (fieldsFit r && rowNumbersFit ts qs zs) NumberOutOfRange 0 (require (spansFit r) SpanDisagrees 0 (require (rowsFit r ts qs zs) BlockRules 0 Holds)))))
-      (roomAnswer (length (chainText r tName qName ts qs zs)) room)
+  -- the checks after the count of rows
+  abbrev rest : List ℕ → List ℕ → List ℕ → Check
+  rest ts qs zs =
+      require (namesShow tName qName && strandFits (r .qStrand)) BadWord 0
+      (require (fieldsFit r && rowNumbersFit ts qs zs) NumberOutOfRange 0 (require (spansFit r) SpanDisagrees 0 (require (rowsFit r ts qs zs) BlockRules 0 Holds)))
 
-  abbrev leftSeen : List ℕ → Bool → List ℕ → List ℕ → List ℕ → List ℕ
-  leftSeen before t ts qs zs = leftAfter (writeSeen (length before) t ts qs zs) (chainText r tName qName ts qs zs) before
-
-  module _ (ts qs zs : List ℕ) where
-    abbrev fits : Bool
-    fits = countFits (r .blockCount) (rowsOf ts qs zs)
-
-    write-seen : (room : ℕ) → chainWrite r tName qName ts qs zs room ≡ writeSeen room fits (take (r .blockCount) ts) (take (r .blockCount) qs) (take (r .blockCount) zs)
-    unfolding chainWrite writeCheck
-    write-seen room = go fits refl
-      where
-        go : (t : Bool) → fits ≡ t → chainWrite r tName qName ts qs zs room ≡ writeSeen room fits (take (r .blockCount) ts) (take (r .blockCount) qs) (take (r .blockCount) zs)
-        go true k = rw (← (text-front r tName qName ts qs zs (leb-true 1 (r .blockCount) (both (leb 1 (r .blockCount)) _ k .0))))
-        go false k = rw k
-
-    left-seen : (before : List ℕ) → leftAfter (chainWrite r tName qName ts qs zs (length before)) (chainText r tName qName ts qs zs) before
-        ≡ leftSeen before fits (take (r .blockCount) ts) (take (r .blockCount) qs) (take (r .blockCount) zs)
-    left-seen before = go fits refl
-      where
-        go : (t : Bool) → fits ≡ t → leftAfter (chainWrite r tName qName ts qs zs (length before)) (chainText r tName qName ts qs zs) before ≡ leftSeen before fits (take (r .blockCount) ts) (take (r .blockCount) qs) (take (r .blockCount) zs)
-        go true k = rw (write-seen (length before), ← (text-front r tName qName ts qs zs (leb-true 1 (r .blockCount) (both (leb 1 (r .blockCount)) _ k .0))))
-        go false k = rw (write-seen (length before), k)
-
-  module _ (rows : List Row) where
-    write-cut : (room : ℕ) → chainWrite r tName qName (targetsOf (cutRows rows)) (queriesOf (cutRows rows)) (sizesOf (cutRows rows)) room ≡ chainWrite r tName qName (targetsOf rows) (queriesOf rows) (sizesOf rows) room
-    write-cut room = write-seen (targetsOf (cutRows rows)) (queriesOf (cutRows rows)) (sizesOf (cutRows rows)) room ∙ rows-cut (writeSeen room) (λ a b c d e f. refl) (r .blockCount) rows ∙ sym (write-seen (targetsOf rows) (queriesOf rows) (sizesOf rows) room)
-
-    left-cut : (before : List ℕ) → leftAfter (chainWrite r tName qName (targetsOf (cutRows rows)) (queriesOf (cutRows rows)) (sizesOf (cutRows rows)) (length before)) (chainText r tName qName (targetsOf (cutRows rows)) (queriesOf (cutRows rows)) (sizesOf (cutRows rows))) before
-        ≡ leftAfter (chainWrite r tName qName (targetsOf rows) (queriesOf rows) (sizesOf rows) (length before)) (chainText r tName qName (targetsOf rows) (queriesOf rows) (sizesOf rows)) before
-    left-cut before = left-seen (targetsOf (cutRows rows)) (queriesOf (cutRows rows)) (sizesOf (cutRows rows)) before ∙ rows-cut (leftSeen before) (λ a b c d e f. refl) (r .blockCount) rows ∙ sym (left-seen (targetsOf rows) (queriesOf rows) (sizesOf rows) before)
-
-    wrote-cut : (before after : List ℕ) (x : Writing) → ChainWrote r tName qName (targetsOf (cutRows rows)) (queriesOf (cutRows rows)) (sizesOf (cutRows rows)) before after x
-        → ChainWrote r tName qName (targetsOf rows) (queriesOf rows) (sizesOf rows) before after x
-    wrote-cut before after x h =
-        let is = h .is ∙ write-cut (length before) in
-        record {
-          is = is;
-          left = h .left ∙ ap (λ (y : Writing). leftAfter y (chainText r tName qName (targetsOf (cutRows rows)) (queriesOf (cutRows rows)) (sizesOf (cutRows rows))) before) (h .is) ∙ left-cut before
-              ∙ ap (λ (y : Writing). leftAfter y (chainText r tName qName (targetsOf rows) (queriesOf rows) (sizesOf rows)) before) (sym is);
-        }
+  wrote-cut : (rows : List Row) (before after : List ℕ) (x : Writing) → ChainWrote r tName qName (targetsOf (cutRows rows)) (queriesOf (cutRows rows)) (sizesOf (cutRows rows)) before after x
+      → ChainWrote r tName qName (targetsOf rows) (queriesOf rows) (sizesOf rows) before after x
+  unfolding chainWrite writeCheck
+  wrote-cut rows before after x h = record {
+    is = h .is ∙ written-cut (r .blockCount) rest (chainText r tName qName) thenWrite (λ y w. refl) (text-front r tName qName) rows (length before);
+    left = kept-cut (r .blockCount) rest (chainText r tName qName) thenWrite (λ y w. refl) (text-front r tName qName) rows before after x (h .is) (h .left);
+  }
 
 pub columns-wrote : (r : Chain) (tName qName ts qs zs before after : List ℕ) (rows n : ℕ) (x : Writing) → n ≡ min rows blockLimit → ChainWrote r tName qName (take n ts) (take n qs) (take n zs) before after x
     → ChainWrote r tName qName (take (min rows blockLimit) ts) (take (min rows blockLimit) qs) (take (min rows blockLimit) zs) before after x
