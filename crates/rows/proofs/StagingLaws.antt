@@ -5,7 +5,7 @@ use mathlib.Core.Bool.{Bool, true, false, _&&_}
 use mathlib.Core.List.{List, [], _∷_, _++_, map}
 use Prim.Native.Nat.{ℕ, zero, suc, _+_, _≤_, _<_, min}
 use native.Mathlib.Omega.{arith}
-use lib.ListN.{length, take, drop, length-map}
+use lib.ListN.{length, take, drop, length-map, length-append, length-drop}
 use lib.Seq.{sets, sets-eq, length-sets, take-all, take-take, take-append-le, take-append-seam, length-take-le}
 use lib.Dec.{leb}
 use borrow.Author.Tests.{le-leb, lt-leb}
@@ -15,6 +15,7 @@ use Rattle.ledger.specs.declared.Row.{Row}
 use Rattle.text.proofs.Laws.{either}
 use Rattle.blocks.specs.Blocks.{rowsOf, countFits}
 use Rattle.blocks.specs.Rows.{tableOf, targetsOf, queriesOf, sizesOf}
+use Rattle.blocks.proofs.TableLaws.{table-length, targets-taken, queries-taken, sizes-taken, table-back}
 use Rattle.rows.specs.Staging.{allReach, Loaded, firstRows, frontStored, storedRows, Columns, Fronts}
 
 -- the first rows of three columns are the table of the columns' fronts
@@ -110,12 +111,13 @@ field-cut f n rows h =
 abbrev pub cutRows : List Row → List Row
 cutRows rows = take (min (length rows) blockLimit) rows
 
+-- the flat lists of a table have as many numbers as it has rows
+table-rows : (l : List Row) → rowsOf (targetsOf l) (queriesOf l) (sizesOf l) ≡ length l
+table-rows l = omega (arith, length-map l (λ (b : Row). b .target), length-map l (λ (b : Row). b .query), length-map l (λ (b : Row). b .size))
+
 -- NO MORE ROWS THAN A RECORD MAY HAVE: what looks at whether a count fits and, where it does, at so many first rows, says the same of the rows that are staged
 -- as of the table
 module _ {X : Type 0} (g : Bool → List ℕ → List ℕ → List ℕ → X) (blind : (a b c d e f : List ℕ) → g false a b c ≡ g false d e f) (n : ℕ) (rows : List Row) where
-  table-rows : (l : List Row) → rowsOf (targetsOf l) (queriesOf l) (sizesOf l) ≡ length l
-  table-rows l = omega (arith, length-map l (λ (b : Row). b .target), length-map l (λ (b : Row). b .query), length-map l (λ (b : Row). b .size))
-
   abbrev pub seen : List Row → X
   seen l = g (countFits n (rowsOf (targetsOf l) (queriesOf l) (sizesOf l))) (take n (targetsOf l)) (take n (queriesOf l)) (take n (sizesOf l))
 
@@ -135,3 +137,45 @@ part-count n rows ts e h = sym (length-take-le n ts (omega arith))
 
 pub columns-of : (ts qs zs : List ℕ) → length ts ≡ blockLimit → length qs ≡ blockLimit → length zs ≡ blockLimit → Columns ts qs zs
 columns-of ts qs zs a b c = record { targets = a; queries = b; sizes = c }
+
+-- the first n rows of a table, from its flat lists
+pub table-front : (n : ℕ) (rows : List Row) → tableOf (take n (targetsOf rows)) (take n (queriesOf rows)) (take n (sizesOf rows)) ≡ take n rows
+table-front n rows = sym (first-fronts n (targetsOf rows) (queriesOf rows) (sizesOf rows)) ∙ ap (take n) (table-back rows)
+
+map-append : (f : Row → ℕ) (bs cs : List Row) → map f (bs ++ cs) ≡ map f bs ++ map f cs
+map-append f [] cs = refl
+map-append f (b ∷ bs) cs = ap (λ (l : List ℕ). f b ∷ l) (map-append f bs cs)
+
+-- a table with the rows of three lists at its front: the flat lists begin with them, and the table has the length that it had
+module _ (n : ℕ) (xs ys ws : List ℕ) (before : List Row) (hx : length xs ≡ n) (hy : length ys ≡ n) (hw : length ws ≡ n) where
+  abbrev put : List Row
+  put = tableOf xs ys ws ++ drop n before
+
+  count : length (tableOf xs ys ws) ≡ n
+  count = omega (arith, table-length xs ys ws)
+
+  pub put-length : n ≤ length before → length put ≡ length before
+  put-length h = length-append (tableOf xs ys ws) (drop n before) ∙ omega (arith, count, length-drop n before)
+
+  kept : (f : Row → ℕ) (l : List ℕ) → take n (map f (tableOf xs ys ws)) ≡ take n l → length l ≡ n → take n (map f put) ≡ l
+  kept f l e h =
+      let k : length (map f (tableOf xs ys ws)) ≡ n = length-map (tableOf xs ys ws) f ∙ count in
+      ap (take n) (map-append f (tableOf xs ys ws) (drop n before)) ∙ take-append-le n (map f (tableOf xs ys ws)) _ (omega arith) ∙ e ∙ take-all n l (omega arith)
+
+  pub put-targets : take n (targetsOf put) ≡ xs
+  put-targets = kept (λ (b : Row). b .target) xs (targets-taken n xs ys ws (omega arith) (omega arith) (omega arith)) hx
+
+  pub put-queries : take n (queriesOf put) ≡ ys
+  put-queries = kept (λ (b : Row). b .query) ys (queries-taken n xs ys ws (omega arith) (omega arith) (omega arith)) hy
+
+  pub put-sizes : take n (sizesOf put) ≡ ws
+  put-sizes = kept (λ (b : Row). b .size) ws (sizes-taken n xs ys ws (omega arith) (omega arith) (omega arith)) hw
+
+  -- so what looks at whether the count fits and at so many first rows says the same of the table as of the lists
+  pub put-same : {X : Type 0} (g : Bool → List ℕ → List ℕ → List ℕ → X) → n ≤ length before
+      → g (countFits n (rowsOf (targetsOf put) (queriesOf put) (sizesOf put))) (take n (targetsOf put)) (take n (queriesOf put)) (take n (sizesOf put))
+      ≡ g (countFits n (rowsOf xs ys ws)) (take n xs) (take n ys) (take n ws)
+  put-same g h =
+      let e : rowsOf xs ys ws ≡ n = omega arith in
+      let l : leb n (length put) ≡ leb n n = le-leb n (length put) (omega (arith, put-length h)) ∙ sym (le-leb n n (omega arith)) in
+      rw (table-rows put, l, e, put-targets, put-queries, put-sizes, take-all n xs (omega arith), take-all n ys (omega arith), take-all n ws (omega arith))

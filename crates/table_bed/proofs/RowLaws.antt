@@ -33,13 +33,13 @@ use Rattle.bed.proofs.ValidLaws.{accepted-rows}
 use Rattle.table_bed.specs.Rows.{bedRows, tableAfter, RowsRead, rowsFilled, ColumnsRead}
 
 -- an accepted line: its blocks are no more than the limit, and its lists have as many numbers
-record Counted (s : List ℕ) (r : Bed) : Type 0 where
-  few : r .blockCount ≤ blockLimit
-  targets : length (bedTargets s r) ≡ r .blockCount
-  queries : length (bedQueries s r) ≡ r .blockCount
-  sizes : length (bedSizes s r) ≡ r .blockCount
+pub record Counted (s : List ℕ) (r : Bed) : Type 0 where
+  pub few : r .blockCount ≤ blockLimit
+  pub targets : length (bedTargets s r) ≡ r .blockCount
+  pub queries : length (bedQueries s r) ≡ r .blockCount
+  pub sizes : length (bedSizes s r) ≡ r .blockCount
 
-counted : (s : List ℕ) (r : Bed) → bedCheck s ≡ Accepted r → Counted s r
+pub counted : (s : List ℕ) (r : Bed) → bedCheck s ≡ Accepted r → Counted s r
 counted s r ok = let k = accepted-rows s r ok in record { few = k .fewBlocks; targets = k .targets; queries = k .queries; sizes = k .sizes }
 
 -- what a reader accepts, its text checker accepts, and there is room
@@ -55,11 +55,11 @@ room-then s q room e = go (leb (q .blockCount) room) refl e
     go true k h = leb-true (q .blockCount) room k
     go false k h = absurd (let p : roomCheck s q room ≡ Holds = h in let z : _≡_ {A = ℕ} 0 1 = cc in omega arith)
 
-record ReadOf (s : List ℕ) (r : Bed) (room : ℕ) : Type 0 where
-  checked : bedCheck s ≡ Accepted r
-  fits : r .blockCount ≤ room
+pub record ReadOf (s : List ℕ) (r : Bed) (room : ℕ) : Type 0 where
+  pub checked : bedCheck s ≡ Accepted r
+  pub fits : r .blockCount ≤ room
 
-read-of : (s : List ℕ) (room : ℕ) (r : Bed) → bedRead s room ≡ Accepted r → ReadOf s r room
+pub read-of : (s : List ℕ) (room : ℕ) (r : Bed) → bedRead s room ≡ Accepted r → ReadOf s r room
 unfolding bedRead
 read-of s room r e = go (bedCheck s) refl e
   where
@@ -111,7 +111,7 @@ pub filled-accepted : (a : BedAnswer) (r : Bed) → a ≡ Accepted r → r .bloc
 filled-accepted a r e = rw e
 
 -- THE RECORD CHECKER, as it looks at the rows in use
-abbrev checkSeen : Bed → Bool → List ℕ → List ℕ → List ℕ → Check
+abbrev pub checkSeen : Bed → Bool → List ℕ → List ℕ → List ℕ → Check
 checkSeen r t ts qs zs =
     require (t && (namesFit (r .words) (r .chrom .length) (r .name .length) && (strandFits r && (fieldsFit r && (rowNumbersFit ts qs zs && (spansFit r && rowsFit r ts qs zs)))))) BlockRules 0 Holds
 

@@ -36,13 +36,13 @@ use Rattle.chain.proofs.ValidLaws.{lines-target-count, lines-query-count}
 use Rattle.table_chain.specs.Rows.{chainRows, tableAfter, RowsRead, rowsFilled, ColumnsRead}
 
 -- an accepted chain: its blocks are no more than the limit, and its lists have as many numbers
-record Counted (s : List ℕ) (r : Chain) : Type 0 where
-  few : r .blockCount ≤ blockLimit
-  targets : length (chainTargets s r) ≡ r .blockCount
-  queries : length (chainQueries s r) ≡ r .blockCount
-  sizes : length (chainSizes s r) ≡ r .blockCount
+pub record Counted (s : List ℕ) (r : Chain) : Type 0 where
+  pub few : r .blockCount ≤ blockLimit
+  pub targets : length (chainTargets s r) ≡ r .blockCount
+  pub queries : length (chainQueries s r) ≡ r .blockCount
+  pub sizes : length (chainSizes s r) ≡ r .blockCount
 
-counted : (s : List ℕ) (r : Chain) → chainCheck s ≡ Accepted r → Counted s r
+pub counted : (s : List ℕ) (r : Chain) → chainCheck s ≡ Accepted r → Counted s r
 counted s r ok =
     let t = text-of s r ok in
     record { few = t .few; targets = lines-target-count (t .blocks) ∙ t .count; queries = lines-query-count (t .blocks) ∙ t .count; sizes = t .count }
@@ -60,11 +60,11 @@ room-then s q room e = go (leb (q .blockCount) room) refl e
     go true k h = leb-true (q .blockCount) room k
     go false k h = absurd (let p : roomCheck s q room ≡ Holds = h in let z : _≡_ {A = ℕ} 0 1 = cc in omega arith)
 
-record ReadOf (s : List ℕ) (r : Chain) (room : ℕ) : Type 0 where
-  checked : chainCheck s ≡ Accepted r
-  fits : r .blockCount ≤ room
+pub record ReadOf (s : List ℕ) (r : Chain) (room : ℕ) : Type 0 where
+  pub checked : chainCheck s ≡ Accepted r
+  pub fits : r .blockCount ≤ room
 
-read-of : (s : List ℕ) (room : ℕ) (r : Chain) → chainRead s room ≡ Accepted r → ReadOf s r room
+pub read-of : (s : List ℕ) (room : ℕ) (r : Chain) → chainRead s room ≡ Accepted r → ReadOf s r room
 unfolding chainRead
 read-of s room r e = go (chainCheck s) refl e
   where
@@ -116,7 +116,7 @@ pub filled-accepted : (a : ChainAnswer) (r : Chain) → a ≡ Accepted r → r .
 filled-accepted a r e = rw e
 
 -- THE RECORD CHECKER, as it looks at the rows in use
-abbrev checkSeen : Chain → Bool → List ℕ → List ℕ → List ℕ → Check
+abbrev pub checkSeen : Chain → Bool → List ℕ → List ℕ → List ℕ → Check
 checkSeen r t ts qs zs =
     require (t && (namesFit (r .tName .length) (r .qName .length) && (strandFits (r .qStrand) && (fieldsFit r && (rowNumbersFit ts qs zs && (spansFit r && rowsFit r ts qs zs)))))) BlockRules 0 Holds
 

@@ -36,13 +36,13 @@ use Rattle.psl.proofs.ValidLaws.{accepted-rules}
 use Rattle.table_psl.specs.Rows.{pslRows, tableAfter, RowsRead, rowsFilled, ColumnsRead}
 
 -- an accepted line: its blocks are no more than the limit, and its lists have as many numbers
-record Counted (s : List ℕ) (r : Psl) : Type 0 where
-  few : r .blockCount ≤ blockLimit
-  targets : length (pslTargets s) ≡ r .blockCount
-  queries : length (pslQueries s) ≡ r .blockCount
-  sizes : length (pslSizes s) ≡ r .blockCount
+pub record Counted (s : List ℕ) (r : Psl) : Type 0 where
+  pub few : r .blockCount ≤ blockLimit
+  pub targets : length (pslTargets s) ≡ r .blockCount
+  pub queries : length (pslQueries s) ≡ r .blockCount
+  pub sizes : length (pslSizes s) ≡ r .blockCount
 
-counted : (s : List ℕ) (r : Psl) → pslCheck s ≡ Accepted r → Counted s r
+pub counted : (s : List ℕ) (r : Psl) → pslCheck s ≡ Accepted r → Counted s r
 counted s r ok = record { few = accepted-rules s r ok .fewBlocks; targets = accepted-targets s r ok; queries = accepted-queries s r ok; sizes = accepted-sizes s r ok }
 
 -- what a reader accepts, its text checker accepts, and there is room
@@ -58,11 +58,11 @@ room-then s q room e = go (leb (q .blockCount) room) refl e
     go true k h = leb-true (q .blockCount) room k
     go false k h = absurd (let p : roomCheck s q room ≡ Holds = h in let z : _≡_ {A = ℕ} 0 1 = cc in omega arith)
 
-record ReadOf (s : List ℕ) (r : Psl) (room : ℕ) : Type 0 where
-  checked : pslCheck s ≡ Accepted r
-  fits : r .blockCount ≤ room
+pub record ReadOf (s : List ℕ) (r : Psl) (room : ℕ) : Type 0 where
+  pub checked : pslCheck s ≡ Accepted r
+  pub fits : r .blockCount ≤ room
 
-read-of : (s : List ℕ) (room : ℕ) (r : Psl) → pslRead s room ≡ Accepted r → ReadOf s r room
+pub read-of : (s : List ℕ) (room : ℕ) (r : Psl) → pslRead s room ≡ Accepted r → ReadOf s r room
 unfolding pslRead
 read-of s room r e = go (pslCheck s) refl e
   where
@@ -114,7 +114,7 @@ pub filled-accepted : (a : PslAnswer) (r : Psl) → a ≡ Accepted r → r .bloc
 filled-accepted a r e = rw e
 
 -- THE RECORD CHECKER, as it looks at the rows in use
-abbrev checkSeen : Psl → Bool → List ℕ → List ℕ → List ℕ → Check
+abbrev pub checkSeen : Psl → Bool → List ℕ → List ℕ → List ℕ → Check
 checkSeen r t ts qs zs =
     require
     (t && ((lengthFits (r .query .name .length) && (lengthFits (r .target .name .length) && isTold (r .strand)))
