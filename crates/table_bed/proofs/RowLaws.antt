@@ -1,10 +1,10 @@
 -- BED lines over a table of rows: the staged rows give the same answers as the table. Assumes nothing.
 use mathlib.Core.Path.{_≡_, refl, sym, ap, subst, _∙_}
 use mathlib.Core.Bool.{Bool, true, false, _&&_}
-use mathlib.Core.List.{List, _++_}
+use mathlib.Core.List.{List}
 use Prim.Native.Nat.{ℕ, _≤_, min}
 use native.Mathlib.Omega.{arith}
-use lib.ListN.{length, take, drop}
+use lib.ListN.{length, take}
 use lib.Seq.{take-take}
 use lib.Dec.{leb}
 use borrow.Author.Tests.{leb-true}
@@ -19,7 +19,7 @@ use Rattle.text.specs.Checks.{require}
 use Rattle.writing.specs.declared.Writing.{Writing}
 use Rattle.blocks.specs.Blocks.{rowsOf}
 use Rattle.blocks.specs.Rows.{targetsOf, queriesOf, sizesOf}
-use Rattle.rows.specs.Staging.{allReach, Loaded, Columns, Fronts, storedRows}
+use Rattle.rows.specs.Staging.{allReach, Loaded, Columns, storedRows}
 use Rattle.rows.proofs.StagingLaws.{fronts-made, fronts-stored, none-stored, loaded-targets, loaded-queries, loaded-sizes, room-cut, cutRows, rows-cut, part-count}
 use Rattle.rows.proofs.WriterLaws.{written-cut, kept-cut}
 use Rattle.bed.specs.declared.Bed.{Bed}
@@ -30,7 +30,7 @@ use Rattle.bed.specs.Read.{thenCheck, thenRoom, roomCheck, rowsAfter, bedCheck,
 use Rattle.bed.specs.Tests.{namesFit, strandFits, fieldsFit, rowNumbersFit, spansFit, rowsFit, bedValid}
 use Rattle.bed.specs.Write.{namesShow, writeCheck, bedWords, bedText, thenWrite, bedWrite, BedWrote, recordCheck}
 use Rattle.bed.proofs.ValidLaws.{accepted-rows}
-use Rattle.table_bed.specs.Rows.{bedRows, tableAfter, RowsRead, rowsFilled, ColumnsRead}
+use Rattle.table_bed.specs.Rows.{tableAfter, RowsRead, rowsFilled, ColumnsRead}
 
 -- an accepted line: its blocks are no more than the limit, and its lists have as many numbers
 pub record Counted (s : List ℕ) (r : Bed) : Type 0 where

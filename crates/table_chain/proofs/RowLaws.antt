@@ -4,7 +4,7 @@ use mathlib.Core.Bool.{Bool, true, false, _&&_}
 use mathlib.Core.List.{List, [], _∷_, _++_}
 use Prim.Native.Nat.{ℕ, zero, suc, _+_, _-_, _≤_, _<_, min}
 use native.Mathlib.Omega.{arith}
-use lib.ListN.{length, take, drop, getD}
+use lib.ListN.{length, take, getD}
 use lib.Seq.{getD-take}
 use lib.Dec.{leb}
 use borrow.Author.Tests.{leb-true}
@@ -20,20 +20,19 @@ use Rattle.writing.specs.Digits.{digits}
 use Rattle.writing.specs.declared.Writing.{Writing}
 use Rattle.blocks.specs.Blocks.{rowsOf}
 use Rattle.blocks.specs.Rows.{targetsOf, queriesOf, sizesOf}
-use Rattle.rows.specs.Staging.{allReach, Loaded, Columns, Fronts, storedRows}
+use Rattle.rows.specs.Staging.{allReach, Loaded, Columns, storedRows}
 use Rattle.rows.proofs.StagingLaws.{fronts-made, fronts-stored, none-stored, loaded-targets, loaded-queries, loaded-sizes, room-cut, cutRows, rows-cut, part-count}
 use Rattle.rows.proofs.WriterLaws.{written-cut, kept-cut}
 use Rattle.chain.specs.declared.Chain.{Chain}
 use Rattle.chain.specs.declared.ChainAnswer.{ChainAnswer}
 use Rattle.chain.specs.declared.ChainAnswer.the-variants.{Accepted, Refused}
-use Rattle.chain.specs.Records.{targetsFrom, queriesFrom, sizesFrom, chainTargets, chainQueries, chainSizes}
+use Rattle.chain.specs.Records.{chainTargets, chainQueries, chainSizes}
 use Rattle.chain.specs.Read.{thenCheck, thenRoom, roomCheck, rowsAfter, chainCheck, chainRead, ChainRead}
 use Rattle.chain.specs.Tests.{namesFit, strandFits, fieldsFit, rowNumbersFit, spansFit, rowsFit, chainValid}
 use Rattle.chain.specs.Write.{namesShow, writeCheck, headWords, fedWords, gapTo, gapWords, blockText, chainText, thenWrite, chainWrite, ChainWrote, recordCheck}
-use Rattle.chain.specs.Rules.{ChainText}
 use Rattle.chain.proofs.TextLaws.{text-of}
 use Rattle.chain.proofs.ValidLaws.{lines-target-count, lines-query-count}
-use Rattle.table_chain.specs.Rows.{chainRows, tableAfter, RowsRead, rowsFilled, ColumnsRead}
+use Rattle.table_chain.specs.Rows.{tableAfter, RowsRead, rowsFilled, ColumnsRead}
 
 -- an accepted chain: its blocks are no more than the limit, and its lists have as many numbers
 pub record Counted (s : List ℕ) (r : Chain) : Type 0 where

@@ -1,10 +1,10 @@
 -- PSL lines over a table of rows: the staged rows give the same answers as the table. Assumes nothing.
 use mathlib.Core.Path.{_≡_, refl, sym, ap, subst, _∙_}
 use mathlib.Core.Bool.{Bool, true, false, _&&_}
-use mathlib.Core.List.{List, _++_}
+use mathlib.Core.List.{List}
 use Prim.Native.Nat.{ℕ, _≤_, min}
 use native.Mathlib.Omega.{arith}
-use lib.ListN.{length, take, drop}
+use lib.ListN.{length, take}
 use lib.Seq.{take-take}
 use lib.Dec.{leb}
 use borrow.Author.Tests.{leb-true}
@@ -19,7 +19,7 @@ use Rattle.text.specs.Checks.{require}
 use Rattle.writing.specs.declared.Writing.{Writing}
 use Rattle.blocks.specs.Blocks.{rowsOf}
 use Rattle.blocks.specs.Rows.{targetsOf, queriesOf, sizesOf}
-use Rattle.rows.specs.Staging.{allReach, Loaded, Columns, Fronts, storedRows}
+use Rattle.rows.specs.Staging.{allReach, Loaded, Columns, storedRows}
 use Rattle.rows.proofs.StagingLaws.{fronts-made, fronts-stored, none-stored, loaded-targets, loaded-queries, loaded-sizes, room-cut, cutRows, rows-cut, part-count}
 use Rattle.rows.proofs.WriterLaws.{written-cut, kept-cut}
 use Rattle.psl.specs.declared.Psl.{Psl}
@@ -29,11 +29,10 @@ use Rattle.psl.specs.Records.{pslTargets, pslQueries, pslSizes}
 use Rattle.psl.specs.Read.{thenCheck, thenRoom, roomCheck, rowsAfter, pslCheck, pslRead, PslRead}
 use Rattle.psl.specs.Tests.{lengthFits, isTold, fieldsFit, rowNumbersFit, spansFit, pslValid}
 use Rattle.psl.specs.Write.{wordsShow, writeCheck, pslWords, pslText, thenWrite, pslWrite, PslWrote, recordCheck}
-use Rattle.psl.specs.Rules.{PslRules}
 use Rattle.psl.specs.Rows.{rowsFit, countsFit}
 use Rattle.psl.proofs.LineLaws.{accepted-targets, accepted-queries, accepted-sizes}
 use Rattle.psl.proofs.ValidLaws.{accepted-rules}
-use Rattle.table_psl.specs.Rows.{pslRows, tableAfter, RowsRead, rowsFilled, ColumnsRead}
+use Rattle.table_psl.specs.Rows.{tableAfter, RowsRead, rowsFilled, ColumnsRead}
 
 -- an accepted line: its blocks are no more than the limit, and its lists have as many numbers
 pub record Counted (s : List ℕ) (r : Psl) : Type 0 where
