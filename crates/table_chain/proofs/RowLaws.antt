@@ -1,0 +1,181 @@
+-- Chains over a table of rows: the staged rows give the same answers as the table. Assumes nothing.
+use mathlib.Core.Path.{_≡_, refl, sym, ap, subst, _∙_}
+use mathlib.Core.Bool.{Bool, true, false, _&&_}
+use mathlib.Core.List.{List, [], _∷_, _++_}
+use Prim.Native.Nat.{ℕ, zero, suc, _+_, _-_, _≤_, _<_, min}
+use native.Mathlib.Omega.{arith}
+use lib.ListN.{length, take, getD}
+use lib.Seq.{getD-take}
+use lib.Dec.{leb}
+use borrow.Author.Tests.{leb-true}
+use borrow.Rule.Slice.PartMut.{putMid}
+use Rattle.ledger.specs.Limits.{blockLimit}
+use Rattle.ledger.specs.declared.Row.{Row}
+use Rattle.ledger.specs.declared.Reason.the-variants.{NumberOutOfRange, BadWord, SpanDisagrees, BlockRules}
+use Rattle.text.specs.declared.Check.{Check}
+use Rattle.text.specs.declared.Check.the-variants.{Holds}
+use Rattle.text.specs.declared.Check.the-variants as check
+use Rattle.text.specs.Checks.{require}
+use Rattle.writing.specs.Digits.{digits}
+use Rattle.writing.specs.declared.Writing.{Writing}
+use Rattle.blocks.specs.Blocks.{rowsOf}
+use Rattle.blocks.specs.Rows.{targetsOf, queriesOf, sizesOf}
+use Rattle.rows.specs.Staging.{allReach, Loaded, Columns, storedRows}
+use Rattle.rows.proofs.StagingLaws.{fronts-made, fronts-stored, none-stored, loaded-targets, loaded-queries, loaded-sizes, room-cut, cutRows, rows-cut, part-count}
+use Rattle.rows.proofs.WriterLaws.{written-cut, kept-cut}
+use Rattle.chain.specs.declared.Chain.{Chain}
+use Rattle.chain.specs.declared.ChainAnswer.{ChainAnswer}
+use Rattle.chain.specs.declared.ChainAnswer.the-variants.{Accepted, Refused}
+use Rattle.chain.specs.Records.{chainTargets, chainQueries, chainSizes}
+use Rattle.chain.specs.Read.{thenCheck, thenRoom, roomCheck, rowsAfter, chainCheck, chainRead, ChainRead}
+use Rattle.chain.specs.Tests.{namesFit, strandFits, fieldsFit, rowNumbersFit, spansFit, rowsFit, chainValid}
+use Rattle.chain.specs.Write.{namesShow, writeCheck, headWords, fedWords, gapTo, gapWords, blockText, chainText, thenWrite, chainWrite, ChainWrote, recordCheck}
+use Rattle.chain.proofs.TextLaws.{text-of}
+use Rattle.chain.proofs.ValidLaws.{lines-target-count, lines-query-count}
+use Rattle.table_chain.specs.Rows.{tableAfter, RowsRead, rowsFilled, ColumnsRead}
+
+-- an accepted chain: its blocks are no more than the limit, and its lists have as many numbers
+pub record Counted (s : List ℕ) (r : Chain) : Type 0 where
+  pub few : r .blockCount ≤ blockLimit
+  pub targets : length (chainTargets s r) ≡ r .blockCount
+  pub queries : length (chainQueries s r) ≡ r .blockCount
+  pub sizes : length (chainSizes s r) ≡ r .blockCount
+
+pub counted : (s : List ℕ) (r : Chain) → chainCheck s ≡ Accepted r → Counted s r
+counted s r ok =
+    let t = text-of s r ok in
+    record { few = t .few; targets = lines-target-count (t .blocks) ∙ t .count; queries = lines-query-count (t .blocks) ∙ t .count; sizes = t .count }
+
+-- what a reader accepts, its text checker accepts, and there is room
+check-then : (c : Check) (q r : Chain) → thenCheck c (Accepted q) ≡ Accepted r → (c ≡ Holds) × (q ≡ r)
+check-then Holds q r e = (refl, cc e)
+check-then (check.Refused x) q r e = absurd (let z : _≡_ {A = ℕ} 0 1 = cc in omega arith)
+
+room-then : (s : List ℕ) (q : Chain) (room : ℕ) → roomCheck s q room ≡ Holds → q .blockCount ≤ room
+unfolding roomCheck
+room-then s q room e = go (leb (q .blockCount) room) refl e
+  where
+    go : (t : Bool) → leb (q .blockCount) room ≡ t → roomCheck s q room ≡ Holds → q .blockCount ≤ room
+    go true k h = leb-true (q .blockCount) room k
+    go false k h = absurd (let p : roomCheck s q room ≡ Holds = h in let z : _≡_ {A = ℕ} 0 1 = cc in omega arith)
+
+pub record ReadOf (s : List ℕ) (r : Chain) (room : ℕ) : Type 0 where
+  pub checked : chainCheck s ≡ Accepted r
+  pub fits : r .blockCount ≤ room
+
+pub read-of : (s : List ℕ) (room : ℕ) (r : Chain) → chainRead s room ≡ Accepted r → ReadOf s r room
+unfolding chainRead
+read-of s room r e = go (chainCheck s) refl e
+  where
+    go : (a : ChainAnswer) → chainCheck s ≡ a → thenRoom a s room ≡ Accepted r → ReadOf s r room
+    go (Accepted q) k h =
+        let c = check-then (roomCheck s q room) q r h in
+        record { checked = k ∙ ap Accepted (c .1); fits = rw (c .1) at (room-then s q room (c .0)) }
+    go (Refused x) k h = absurd (let z : _≡_ {A = ℕ} 0 1 = cc in omega arith)
+
+-- the rows that are staged are room enough exactly where the table is
+read-cut : (s : List ℕ) (rows : ℕ) → chainRead s (min rows blockLimit) ≡ chainRead s rows
+unfolding chainRead roomCheck
+read-cut s rows = go (chainCheck s) refl
+  where
+    go : (a : ChainAnswer) → chainCheck s ≡ a → thenRoom a s (min rows blockLimit) ≡ thenRoom a s rows
+    go (Accepted q) k = rw (room-cut (q .blockCount) rows (counted s q k .few))
+    go (Refused x) k = refl
+
+-- reading into three columns
+pub columns-read : (s ts qs zs t q z : List ℕ) (rows n : ℕ) (x : ChainAnswer) → Columns ts qs zs → n ≡ min rows blockLimit
+    → ChainRead s (take n ts) t (take n qs) q (take n zs) z x → ColumnsRead s rows (putMid 0 n ts t) (putMid 0 n qs q) (putMid 0 n zs z) x
+columns-read s ts qs zs t q z rows n x room e h =
+    let a = part-count n rows ts e (room .targets) in
+    let b = part-count n rows qs e (room .queries) in
+    let c = part-count n rows zs e (room .sizes) in
+    let m : rowsOf (take n ts) (take n qs) (take n zs) ≡ min rows blockLimit = omega (arith, a, b, c) in
+    let is : x ≡ chainRead s (min rows blockLimit) = h .is ∙ ap (chainRead s) m in
+    record {
+      is = is ∙ read-cut s rows;
+      held = λ r k.
+          let o = read-of s (min rows blockLimit) r (sym is ∙ k) in
+          let l = counted s r (o .checked) in
+          fronts-made (r .blockCount) rows n (chainTargets s r) (chainQueries s r) (chainSizes s r) ts qs zs t q z room e (omega (arith, o .fits)) (l .targets) (l .queries) (l .sizes)
+          (h .targets ∙ ap (λ (y : ChainAnswer). rowsAfter y (chainTargets s) (take n ts)) k)
+          (h .queries ∙ ap (λ (y : ChainAnswer). rowsAfter y (chainQueries s) (take n qs)) k)
+          (h .sizes ∙ ap (λ (y : ChainAnswer). rowsAfter y (chainSizes s) (take n zs)) k);
+    }
+
+-- the table after the rows of an answer were stored
+pub rows-read : (s ts qs zs : List ℕ) (before after : List Row) (n : ℕ) (x : ChainAnswer) → ColumnsRead s (length before) ts qs zs x → n ≡ rowsFilled x
+    → after ≡ storedRows n ts qs zs before → RowsRead s before after x
+rows-read s ts qs zs before after n x h e k = record { is = h .is; rows = k ∙ ap (λ (m : ℕ). storedRows m ts qs zs before) e ∙ go x refl }
+  where
+    go : (y : ChainAnswer) → x ≡ y → storedRows (rowsFilled y) ts qs zs before ≡ tableAfter y s before
+    go (Accepted r) l = fronts-stored (r .blockCount) _ _ _ ts qs zs before (h .held r l)
+    go (Refused w) l = none-stored ts qs zs before
+
+pub filled-accepted : (a : ChainAnswer) (r : Chain) → a ≡ Accepted r → r .blockCount ≡ rowsFilled a
+filled-accepted a r e = rw e
+
+-- THE RECORD CHECKER, as it looks at the rows in use
+abbrev pub checkSeen : Chain → Bool → List ℕ → List ℕ → List ℕ → Check
+checkSeen r t ts qs zs =
+    require (t && (namesFit (r .tName .length) (r .qName .length) && (strandFits (r .qStrand) && (fieldsFit r && (rowNumbersFit ts qs zs && (spansFit r && rowsFit r ts qs zs)))))) BlockRules 0 Holds
+
+check-cut : (r : Chain) (rows : List Row) → recordCheck r (targetsOf (cutRows rows)) (queriesOf (cutRows rows)) (sizesOf (cutRows rows)) ≡ recordCheck r (targetsOf rows) (queriesOf rows) (sizesOf rows)
+unfolding recordCheck chainValid
+check-cut r rows = rows-cut (checkSeen r) (λ a b c d e f. refl) (r .blockCount) rows
+
+pub columns-checked : (r : Chain) (ts qs zs : List ℕ) (rows n : ℕ) (x : Check) → n ≡ min rows blockLimit → x ≡ recordCheck r (take n ts) (take n qs) (take n zs)
+    → x ≡ recordCheck r (take (min rows blockLimit) ts) (take (min rows blockLimit) qs) (take (min rows blockLimit) zs)
+columns-checked r ts qs zs rows n x e h = h ∙ ap (λ (m : ℕ). recordCheck r (take m ts) (take m qs) (take m zs)) e
+
+-- THE WRITER: its text is made of the rows in use
+module _ (n : ℕ) (ts qs zs : List ℕ) where
+  at : (l : List ℕ) (i : ℕ) → i < n → getD l i 0 ≡ getD (take n l) i 0
+  at l i h = sym (getD-take n l i 0 h)
+
+  blocks-front : (k i : ℕ) → i + k < n → blockText k i ts qs zs ≡ blockText k i (take n ts) (take n qs) (take n zs)
+  unfolding blockText gapWords
+  blocks-front zero i h = ap (λ (z : ℕ). fedWords (digits z ∷ [])) (at zs i (omega arith))
+  blocks-front (suc k) i h =
+      let a = at zs i (omega arith) in
+      let b = at ts i (omega arith) in
+      let c = at qs i (omega arith) in
+      let d = at ts (suc i) (omega arith) in
+      let e = at qs (suc i) (omega arith) in
+      rw (← a, ← b, ← c, ← d, ← e) (ap (λ (l : List ℕ). fedWords (digits (getD zs i 0) ∷ digits (gapTo (getD ts i 0) (getD zs i 0) (getD ts (suc i) 0)) ∷ digits (gapTo (getD qs i 0) (getD zs i 0) (getD qs (suc i) 0)) ∷ []) ++ l) (blocks-front k (suc i) (omega arith)))
+
+text-front : (r : Chain) (tName qName ts qs zs : List ℕ) → 1 ≤ r .blockCount → chainText r tName qName ts qs zs ≡ chainText r tName qName (take (r .blockCount) ts) (take (r .blockCount) qs) (take (r .blockCount) zs)
+unfolding chainText
+text-front r tName qName ts qs zs h = ap (λ (l : List ℕ). fedWords (headWords r tName qName) ++ l) (blocks-front (r .blockCount) ts qs zs (r .blockCount - 1) 0 (omega arith))
+
+module _ (r : Chain) (tName qName : List ℕ) where
+  -- the checks after the count of rows
+  abbrev rest : List ℕ → List ℕ → List ℕ → Check
+  rest ts qs zs =
+      require (namesShow tName qName && strandFits (r .qStrand)) BadWord 0
+      (require (fieldsFit r && rowNumbersFit ts qs zs) NumberOutOfRange 0 (require (spansFit r) SpanDisagrees 0 (require (rowsFit r ts qs zs) BlockRules 0 Holds)))
+
+  wrote-cut : (rows : List Row) (before after : List ℕ) (x : Writing) → ChainWrote r tName qName (targetsOf (cutRows rows)) (queriesOf (cutRows rows)) (sizesOf (cutRows rows)) before after x
+      → ChainWrote r tName qName (targetsOf rows) (queriesOf rows) (sizesOf rows) before after x
+  unfolding chainWrite writeCheck
+  wrote-cut rows before after x h = record {
+    is = h .is ∙ written-cut (r .blockCount) rest (chainText r tName qName) thenWrite (λ y w. refl) (text-front r tName qName) rows (length before);
+    left = kept-cut (r .blockCount) rest (chainText r tName qName) thenWrite (λ y w. refl) (text-front r tName qName) rows before after x (h .is) (h .left);
+  }
+
+pub columns-wrote : (r : Chain) (tName qName ts qs zs before after : List ℕ) (rows n : ℕ) (x : Writing) → n ≡ min rows blockLimit → ChainWrote r tName qName (take n ts) (take n qs) (take n zs) before after x
+    → ChainWrote r tName qName (take (min rows blockLimit) ts) (take (min rows blockLimit) qs) (take (min rows blockLimit) zs) before after x
+columns-wrote r tName qName ts qs zs before after rows n x e h = subst (λ (m : ℕ). ChainWrote r tName qName (take m ts) (take m qs) (take m zs) before after x) e h
+
+-- the record checker and the writer on the rows that were loaded
+module _ (rows : List Row) (ts ts′ qs qs′ zs zs′ : List ℕ) (room : Columns ts qs zs) (h : Loaded (allReach (length rows) ts qs zs) rows ts ts′ qs qs′ zs zs′) where
+  abbrev part : ℕ
+  part = min (length rows) blockLimit
+
+  pub rows-checked : (r : Chain) (x : Check) → x ≡ recordCheck r (take part ts′) (take part qs′) (take part zs′) → x ≡ recordCheck r (targetsOf rows) (queriesOf rows) (sizesOf rows)
+  rows-checked r x e = (rw (loaded-targets rows ts ts′ qs qs′ zs zs′ room h, loaded-queries rows ts ts′ qs qs′ zs zs′ room h, loaded-sizes rows ts ts′ qs qs′ zs zs′ room h) at e) ∙ check-cut r rows
+
+  pub rows-wrote : (r : Chain) (tName qName before after : List ℕ) (x : Writing) → ChainWrote r tName qName (take part ts′) (take part qs′) (take part zs′) before after x
+      → ChainWrote r tName qName (targetsOf rows) (queriesOf rows) (sizesOf rows) before after x
+  rows-wrote r tName qName before after x e =
+      wrote-cut r tName qName rows before after x
+      (rw (loaded-targets rows ts ts′ qs qs′ zs zs′ room h, loaded-queries rows ts ts′ qs qs′ zs zs′ room h, loaded-sizes rows ts ts′ qs qs′ zs zs′ room h) at e)
