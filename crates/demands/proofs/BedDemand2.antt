@@ -1,0 +1,171 @@
+-- Demand 2 holds of BED. Assumes nothing.
+use mathlib.Core.Path.{_≡_, refl, sym, ap, ap₂, _∙_}
+use mathlib.Core.Bool.{Bool, true, false, _&&_}
+use mathlib.Core.Logic.{_↔_}
+use mathlib.Core.List.{List, [], _∷_}
+use Prim.Native.Nat.{ℕ, _+_, _-_, _≤_, _<_}
+use native.Mathlib.Omega.{arith}
+use lib.ListN.{length, take, drop}
+use lib.Dec.{leb, ltb}
+use borrow.Author.Tests.{le-leb, leb-true}
+use Rattle.ledger.specs.declared.Row.{Row}
+use Rattle.ledger.specs.declared.Reason.the-variants.{NoRoom}
+use Rattle.ledger.specs.Limits.{textLimit}
+use Rattle.text.specs.declared.Check.{Check}
+use Rattle.text.specs.declared.Check.the-variants.{Holds}
+use Rattle.text.specs.declared.Class.the-variants.{Graphic}
+use Rattle.text.specs.Checks.{require}
+use Rattle.text.specs.Scan.{run, endOf}
+use Rattle.text.specs.Words.{wordAt, wordCount, bytesOf}
+use Rattle.text.proofs.Laws.{either}
+use Rattle.columns.specs.Columns.{valuesFrom}
+use Rattle.columns.specs.Spells.{firsts}
+use Rattle.text.specs.Parts.{partBytes}
+use Rattle.text.proofs.TextLaws.{All, both}
+use Rattle.writing.specs.declared.Writing.the-variants.{Written}
+use Rattle.writing.specs.Answers.{roomAnswer}
+use Rattle.blocks.specs.Blocks.{countFits, rowsOf}
+use Rattle.blocks.specs.Rows.{tableOf, targetsOf, queriesOf, sizesOf}
+use Rattle.bed.specs.declared.Bed.{Bed}
+use Rattle.bed.specs.declared.BedAnswer.{BedAnswer}
+use Rattle.bed.specs.declared.BedAnswer.the-variants.{Accepted, Refused}
+use Rattle.bed.specs.Records.{bedTargets, bedQueries, bedSizes}
+use Rattle.bed.specs.Read.{bedCheck, bedRead, roomCheck, thenCheck, thenRoom}
+use Rattle.bed.specs.Table.{bedColumns}
+use Rattle.bed.specs.Rules.{partOf, BedLine, BedRules, placed}
+use Rattle.bed.specs.Tests.{namesFit, allGraphic, strandFits, fieldsFit, rowNumbersFit, spansFit, rowsFit, bedValid}
+use Rattle.bed.specs.Write.{namesShow, writeCheck, bedText, bedWrite}
+use Rattle.bed.proofs.LineLaws.{line-of, line-is, word-length}
+use Rattle.bed.proofs.ValidLaws.{accepted-rows, accepted-valid}
+use Rattle.bed.proofs.RuleLaws.{rules-of, rules-is}
+use Rattle.bed.proofs.BackLaws.{back-chrom, back-name, back-targets, back-queries, back-sizes, back-read}
+use Rattle.demands.specs.Formats.{Names, Format}
+use Rattle.demands.specs.Demand2.{ReadsBack, Demand2}
+use Rattle.table_bed.specs.Rows.{bedRows}
+use Rattle.demands.specs.Bed.{BedSpells, bedNames, named, BedValid, SameBed, bed}
+use Rattle.demands.proofs.NameLaws.{word-shows}
+use Rattle.demands.proofs.RowLaws.{Flat, flat, rows-taken}
+
+-- the reader is the text checker with room
+read-of : (s : List ℕ) (room : ℕ) (r : Bed) → bedRead s room ≡ Accepted r → (bedCheck s ≡ Accepted r) × (r .blockCount ≤ room)
+unfolding bedRead roomCheck
+read-of s room r e = go (bedCheck s) refl e
+  where
+    go : (x : BedAnswer) → bedCheck s ≡ x → thenRoom x s room ≡ Accepted r → (bedCheck s ≡ Accepted r) × (r .blockCount ≤ room)
+    go (Refused y) k h = absurd (let z : _≡_ {A = ℕ} 0 1 = cc in omega arith)
+    go (Accepted b) k h = fits (leb (b .blockCount) room) refl h
+      where
+        fits : (t : Bool) → leb (b .blockCount) room ≡ t → thenCheck (require t NoRoom (length s) Holds) (Accepted b) ≡ Accepted r → (bedCheck s ≡ Accepted r) × (r .blockCount ≤ room)
+        fits true l m = let z : b ≡ r = cc in (k ∙ ap Accepted z, rw (← z) (leb-true (b .blockCount) room l))
+        fits false l m = absurd (let z : _≡_ {A = ℕ} 0 1 = cc in omega arith)
+
+read-is : (s : List ℕ) (room : ℕ) (r : Bed) → bedCheck s ≡ Accepted r → r .blockCount ≤ room → bedRead s room ≡ Accepted r
+unfolding bedRead roomCheck
+read-is s room r e h = rw (e, le-leb (r .blockCount) room h)
+
+-- the test of a record sees only the lengths of its names
+valid-named : (r : Bed) (ns : Names) (ts qs zs : List ℕ) → length (ns .first) ≡ r .chrom .length → length (ns .second) ≡ r .name .length → bedValid r ts qs zs ≡ true → bedValid (named r ns) ts qs zs ≡ true
+unfolding bedValid strandFits fieldsFit spansFit rowsFit
+valid-named r ns ts qs zs e f h = rw (e, f) h
+
+-- a valid record passes the writer's checks
+shown : (w : List ℕ) → All Graphic w → allGraphic w ≡ true
+unfolding endOf
+shown w h = let l : length w ≤ 0 + run Graphic w = omega arith in le-leb (length w) (0 + run Graphic w) l
+
+passes : (r : Bed) (ns : Names) (ts qs zs : List ℕ) → BedRules (named r ns) ts qs zs → All Graphic (ns .first) → All Graphic (ns .second) → writeCheck r (ns .first) (ns .second) ts qs zs ≡ Holds
+unfolding writeCheck namesShow bedValid strandFits fieldsFit spansFit rowsFit
+passes r ns ts qs zs k c d =
+    let n = r .blockCount in
+    let v = rules-is (named r ns) ts qs zs k in
+    let count = both (countFits n (rowsOf ts qs zs)) _ v in
+    let names = both (namesFit (r .words) (length (ns .first)) (length (ns .second))) _ (count .1) in
+    let strand = both (strandFits (named r ns)) _ (names .1) in
+    let fields = both (fieldsFit (named r ns)) _ (strand .1) in
+    let numbers = both (rowNumbersFit (take n ts) (take n qs) (take n zs)) _ (fields .1) in
+    let spans = both (spansFit (named r ns)) (rowsFit (named r ns) (take n ts) (take n qs) (take n zs)) (numbers .1) in
+    rw (count .0, names .0, shown (ns .first) c, shown (ns .second) d, strand .0, fields .0, numbers .0, spans .0, spans .1)
+
+-- ---- an accepted line: its names, and its rows
+module _ (s : List ℕ) (r : Bed) (ok : bedCheck s ≡ Accepted r) where
+  said : BedLine s (firsts (valuesFrom (take (wordCount s 0) bedColumns) 0 s 0)) r
+  said = line-of s r ok
+
+  part-shows : (k : ℕ) → (All Graphic (partBytes s (partOf (wordAt s 0 k)))) × (length (partBytes s (partOf (wordAt s 0 k))) ≡ partOf (wordAt s 0 k) .length)
+  unfolding partBytes
+  part-shows k = unfold bytesOf in (word-shows s 0 k (said .allowed), word-length s k)
+
+  chrom-shows : (All Graphic (partBytes s (r .chrom))) × (length (partBytes s (r .chrom)) ≡ r .chrom .length)
+  chrom-shows = rw (said .chrom) (part-shows 0)
+
+  none-shows : (All Graphic (partBytes s (record { start = length s; length = 0 }))) × (length (partBytes s (record { start = length s; length = 0 })) ≡ 0)
+  unfolding partBytes run
+  none-shows = (refl, refl)
+
+  name-shows : (All Graphic (partBytes s (r .name))) × (length (partBytes s (r .name)) ≡ r .name .length)
+  name-shows = either (r .words) 3 _ (λ h. rw (said .noName h) none-shows) (λ h. rw (said .name h) (part-shows 3))
+
+  accepted-flat : Flat (bedTargets s r) (bedQueries s r) (bedSizes s r)
+  accepted-flat = let w = accepted-rows s r ok in flat (bedTargets s r) (bedQueries s r) (bedSizes s r) (w .queries ∙ sym (w .targets)) (w .sizes ∙ sym (w .targets))
+
+  accepted-named : BedValid r (bedNames s r) (bedRows s r)
+  accepted-named =
+      let w = accepted-flat in
+      let v : bedValid r (targetsOf (bedRows s r)) (queriesOf (bedRows s r)) (sizesOf (bedRows s r)) ≡ true = rw (w .targets, w .queries, w .sizes) (accepted-valid s r ok) in
+      record {
+        rules = rules-of (named r (bedNames s r)) _ _ _ (valid-named r (bedNames s r) _ _ _ (chrom-shows .1) (name-shows .1) v);
+        chromShows = chrom-shows .0;
+        nameShows = name-shows .0;
+      }
+
+-- ---- a valid record: written, and read back
+module _ (r : Bed) (ns : Names) (table : List Row) (ok : BedValid r ns table) (short : length (bedText r (ns .first) (ns .second) (targetsOf table) (sizesOf table)) ≤ textLimit) where
+  abbrev ts : List ℕ
+  ts = targetsOf table
+
+  abbrev qs : List ℕ
+  qs = queriesOf table
+
+  abbrev zs : List ℕ
+  zs = sizesOf table
+
+  abbrev text : List ℕ
+  text = bedText r (ns .first) (ns .second) ts zs
+
+  may : writeCheck r (ns .first) (ns .second) ts qs zs ≡ Holds
+  may = passes r ns ts qs zs (ok .rules) (ok .chromShows) (ok .nameShows)
+
+  is-written : (room : ℕ) → length text ≤ room → bedWrite r (ns .first) (ns .second) ts qs zs room ≡ Written (length text)
+  unfolding bedWrite roomAnswer
+  is-written room h = rw (may, le-leb (length text) textLimit short, le-leb (length text) room h)
+
+  same : SameBed r (placed text r)
+  unfolding placed
+  same = record { words = refl; chromStart = refl; chromEnd = refl; score = refl; strand = refl; thickStart = refl; thickEnd = refl; itemRgb = refl; blockCount = refl }
+
+  same-rows : bedRows text (placed text r) ≡ take (r .blockCount) table
+  same-rows = rows-taken (r .blockCount) table _ _ _ (back-targets r _ _ ts qs zs may short) (back-queries r _ _ ts qs zs may short) (back-sizes r _ _ ts qs zs may short)
+
+  same-names : bedNames text (placed text r) ≡ ns
+  same-names =
+      let a = back-chrom r (ns .first) (ns .second) ts qs zs may short in
+      let b = back-name r (ns .first) (ns .second) ts qs zs may short in
+      λ i. record { first = a i; second = b i }
+
+-- DEMAND 2 OF BED
+pub bed-demand2 : Demand2 bed
+unfolding bed
+bed-demand2 = record {
+  acceptedExactly = λ s room r. (λ e. let k = read-of s room r e in (record { values = _; line = line-of s r (k .0); rowsSaid = refl }, k .1), λ p. read-is s room r (line-is s r (p .0 .values) (p .0 .line)) (p .1));
+  oneRecord = λ s r r′ rows rows′ p q. let u = line-is s r (p .values) (p .line) in let v = line-is s r′ (q .values) (q .line) in let w : Accepted r ≡ Accepted r′ = sym u ∙ v in cc;
+  justRows = λ s r rows p. p .rowsSaid;
+  acceptedValid = λ s room r e. accepted-named s r (read-of s room r e .0);
+  written = λ r ns table ok short room h. is-written r ns table ok short room h;
+  readsBack = λ r ns table ok short. record {
+    record′ = placed (text r ns table ok short) r;
+    isRead = λ room h. back-read r (ns .first) (ns .second) (targetsOf table) (queriesOf table) (sizesOf table) (may r ns table ok short) short room h;
+    sameNumbers = same r ns table ok short;
+    sameNames = same-names r ns table ok short;
+    sameRows = same-rows r ns table ok short;
+  };
+}

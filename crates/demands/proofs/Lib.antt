@@ -1,0 +1,9 @@
+pub mod NameLaws
+pub mod RowLaws
+pub mod BedDemand2
+pub mod PslDemand2
+pub mod ChainDemand2
+pub mod Demand3Laws
+pub mod ChainSamples
+pub mod PslSamples
+pub mod SampleLaws

@@ -1,0 +1,187 @@
+-- Demand 2 holds of PSL. Assumes nothing.
+use mathlib.Core.Path.{_≡_, refl, sym, ap, ap₂, _∙_}
+use mathlib.Core.Bool.{Bool, true, false, _&&_}
+use mathlib.Core.Logic.{_↔_}
+use mathlib.Core.List.{List, [], _∷_}
+use Prim.Native.Nat.{ℕ, _+_, _-_, _≤_, _<_}
+use native.Mathlib.Omega.{arith}
+use lib.ListN.{length, take, drop}
+use lib.Dec.{leb, ltb}
+use borrow.Author.Tests.{le-leb, leb-true}
+use Rattle.ledger.specs.declared.Part.{Part}
+use Rattle.ledger.specs.declared.Row.{Row}
+use Rattle.ledger.specs.declared.Strand.{Strand}
+use Rattle.ledger.specs.declared.Strand.the-variants.{Plus, Minus, Dot}
+use Rattle.ledger.specs.Parts.{partAt}
+use Rattle.ledger.specs.declared.Reason.the-variants.{NoRoom}
+use Rattle.ledger.specs.Limits.{textLimit}
+use Rattle.text.specs.declared.Check.{Check}
+use Rattle.text.specs.declared.Check.the-variants.{Holds}
+use Rattle.text.specs.declared.Class.the-variants.{Graphic}
+use Rattle.text.specs.Checks.{require}
+use Rattle.text.specs.Scan.{run, endOf}
+use Rattle.text.specs.Words.{wordAt, bytesOf}
+use Rattle.columns.specs.Columns.{valuesFrom}
+use Rattle.columns.specs.Spells.{firsts}
+use Rattle.text.specs.Parts.{partBytes}
+use Rattle.text.proofs.TextLaws.{All, both}
+use Rattle.writing.specs.declared.Writing.the-variants.{Written}
+use Rattle.writing.specs.Answers.{roomAnswer}
+use Rattle.blocks.specs.Blocks.{countFits, rowsOf}
+use Rattle.blocks.specs.Rows.{tableOf, targetsOf, queriesOf, sizesOf}
+use Rattle.psl.specs.declared.Psl.{Psl}
+use Rattle.psl.specs.declared.PslAnswer.{PslAnswer}
+use Rattle.psl.specs.declared.PslAnswer.the-variants.{Accepted, Refused}
+use Rattle.psl.specs.Records.{pslTargets, pslQueries, pslSizes}
+use Rattle.psl.specs.Read.{pslCheck, pslRead, roomCheck, thenCheck, thenRoom}
+use Rattle.psl.specs.Table.{pslColumns}
+use Rattle.psl.specs.Rules.{partOf, PslLine, PslRules, placed}
+use Rattle.psl.specs.declared.Side.{Side}
+use Rattle.psl.specs.Rows.{firstOn, lastOn, rowsFit, countsFit}
+use Rattle.psl.specs.Tests.{lengthFits, isTold, fieldsFit, rowNumbersFit, spansFit, pslValid}
+use Rattle.psl.specs.Write.{allGraphic, wordsShow, writeCheck, pslText, pslWrite}
+use Rattle.psl.proofs.LineLaws.{line-of, line-is, word-length, accepted-targets, accepted-queries, accepted-sizes}
+use Rattle.psl.proofs.ValidLaws.{accepted-valid}
+use Rattle.psl.proofs.RuleLaws.{rules-of, rules-is}
+use Rattle.psl.proofs.BackLaws.{back-query, back-target, back-targets, back-queries, back-sizes, back-read}
+use Rattle.demands.specs.Formats.{Names, Format}
+use Rattle.demands.specs.Demand2.{ReadsBack, Demand2}
+use Rattle.table_psl.specs.Rows.{pslRows}
+use Rattle.demands.specs.Psl.{PslSpells, pslNames, renamed, named, PslValid, SamePsl, psl}
+use Rattle.demands.proofs.NameLaws.{word-shows}
+use Rattle.demands.proofs.RowLaws.{Flat, flat, rows-taken}
+
+-- the reader is the text checker with room
+read-of : (s : List ℕ) (room : ℕ) (r : Psl) → pslRead s room ≡ Accepted r → (pslCheck s ≡ Accepted r) × (r .blockCount ≤ room)
+unfolding pslRead roomCheck
+read-of s room r e = go (pslCheck s) refl e
+  where
+    go : (x : PslAnswer) → pslCheck s ≡ x → thenRoom x s room ≡ Accepted r → (pslCheck s ≡ Accepted r) × (r .blockCount ≤ room)
+    go (Refused y) k h = absurd (let z : _≡_ {A = ℕ} 0 1 = cc in omega arith)
+    go (Accepted b) k h = fits (leb (b .blockCount) room) refl h
+      where
+        fits : (t : Bool) → leb (b .blockCount) room ≡ t → thenCheck (require t NoRoom (length s) Holds) (Accepted b) ≡ Accepted r → (pslCheck s ≡ Accepted r) × (r .blockCount ≤ room)
+        fits true l m = let z : b ≡ r = cc in (k ∙ ap Accepted z, rw (← z) (leb-true (b .blockCount) room l))
+        fits false l m = absurd (let z : _≡_ {A = ℕ} 0 1 = cc in omega arith)
+
+read-is : (s : List ℕ) (room : ℕ) (r : Psl) → pslCheck s ≡ Accepted r → r .blockCount ≤ room → pslRead s room ≡ Accepted r
+unfolding pslRead roomCheck
+read-is s room r e h = rw (e, le-leb (r .blockCount) room h)
+
+-- where a side's blocks start and end does not depend on its name
+first-named : (t : Strand) (x : Side) (p : Part) → firstOn t (renamed x p) ≡ firstOn t x
+first-named Plus x p = refl
+first-named Minus x p = refl
+first-named Dot x p = refl
+
+last-named : (t : Strand) (x : Side) (p : Part) → lastOn t (renamed x p) ≡ lastOn t x
+last-named Plus x p = refl
+last-named Minus x p = refl
+last-named Dot x p = refl
+
+rows-named : (r : Psl) (ns : Names) (ts qs zs : List ℕ) → rowsFit (named r ns) ts qs zs ≡ rowsFit r ts qs zs
+unfolding rowsFit
+rows-named r ns ts qs zs = rw (first-named (r .strand) (r .query) (partAt 0 (length (ns .first))), last-named (r .strand) (r .query) (partAt 0 (length (ns .first))))
+
+-- the test of a record sees only the lengths of its names
+valid-named : (r : Psl) (ns : Names) (ts qs zs : List ℕ) → length (ns .first) ≡ r .query .name .length → length (ns .second) ≡ r .target .name .length → pslValid r ts qs zs ≡ true → pslValid (named r ns) ts qs zs ≡ true
+unfolding pslValid fieldsFit spansFit
+valid-named r ns ts qs zs e f h = rw (rows-named r ns (take (r .blockCount) ts) (take (r .blockCount) qs) (take (r .blockCount) zs), e, f) h
+
+-- a valid record passes the writer's checks
+shown : (w : List ℕ) → All Graphic w → allGraphic w ≡ true
+unfolding endOf
+shown w h = let l : length w ≤ 0 + run Graphic w = omega arith in le-leb (length w) (0 + run Graphic w) l
+
+passes : (r : Psl) (ns : Names) (ts qs zs : List ℕ) → PslRules (named r ns) ts qs zs → All Graphic (ns .first) → All Graphic (ns .second) → writeCheck r (ns .first) (ns .second) ts qs zs ≡ Holds
+unfolding writeCheck wordsShow pslValid fieldsFit spansFit
+passes r ns ts qs zs k c d =
+    let n = r .blockCount in
+    let v = rules-is (named r ns) ts qs zs k in
+    let count = both (countFits n (rowsOf ts qs zs)) _ v in
+    let names = both (lengthFits (length (ns .first)) && (lengthFits (length (ns .second)) && isTold (r .strand))) _ (count .1) in
+    let fields = both (fieldsFit (named r ns)) _ (names .1) in
+    let numbers = both (rowNumbersFit (take n ts) (take n qs) (take n zs)) _ (fields .1) in
+    let spans = both (spansFit (named r ns)) _ (numbers .1) in
+    let rows = both (rowsFit (named r ns) (take n ts) (take n qs) (take n zs)) (countsFit (r .counts) (take n ts) (take n qs) (take n zs)) (spans .1) in
+    rw (count .0, names .0, shown (ns .first) c, shown (ns .second) d, fields .0, numbers .0, spans .0, ← rows-named r ns (take n ts) (take n qs) (take n zs), rows .0, rows .1)
+
+-- ---- an accepted line: its names, and its rows
+module _ (s : List ℕ) (r : Psl) (ok : pslCheck s ≡ Accepted r) where
+  said : PslLine s (firsts (valuesFrom pslColumns 0 s 0)) r
+  said = line-of s r ok
+
+  part-shows : (k : ℕ) → (All Graphic (partBytes s (partOf (wordAt s 0 k)))) × (length (partBytes s (partOf (wordAt s 0 k))) ≡ partOf (wordAt s 0 k) .length)
+  unfolding partBytes
+  part-shows k = unfold bytesOf in (word-shows s 0 k (said .line .allowed), word-length s k)
+
+  query-shows : (All Graphic (partBytes s (r .query .name))) × (length (partBytes s (r .query .name)) ≡ r .query .name .length)
+  query-shows = rw (said .query .name) (part-shows 9)
+
+  target-shows : (All Graphic (partBytes s (r .target .name))) × (length (partBytes s (r .target .name)) ≡ r .target .name .length)
+  target-shows = rw (said .target .name) (part-shows 13)
+
+  accepted-flat : Flat (pslTargets s) (pslQueries s) (pslSizes s)
+  accepted-flat = flat (pslTargets s) (pslQueries s) (pslSizes s) (accepted-queries s r ok ∙ sym (accepted-targets s r ok)) (accepted-sizes s r ok ∙ sym (accepted-targets s r ok))
+
+  accepted-named : PslValid r (pslNames s r) (pslRows s)
+  accepted-named =
+      let w = accepted-flat in
+      let v : pslValid r (targetsOf (pslRows s)) (queriesOf (pslRows s)) (sizesOf (pslRows s)) ≡ true = rw (w .targets, w .queries, w .sizes) (accepted-valid s r ok) in
+      record {
+        rules = rules-of (named r (pslNames s r)) _ _ _ (valid-named r (pslNames s r) _ _ _ (query-shows .1) (target-shows .1) v);
+        queryShows = query-shows .0;
+        targetShows = target-shows .0;
+      }
+
+-- ---- a valid record: written, and read back
+module _ (r : Psl) (ns : Names) (table : List Row) (ok : PslValid r ns table) (short : length (pslText r (ns .first) (ns .second) (targetsOf table) (queriesOf table) (sizesOf table)) ≤ textLimit) where
+  abbrev ts : List ℕ
+  ts = targetsOf table
+
+  abbrev qs : List ℕ
+  qs = queriesOf table
+
+  abbrev zs : List ℕ
+  zs = sizesOf table
+
+  abbrev text : List ℕ
+  text = pslText r (ns .first) (ns .second) ts qs zs
+
+  may : writeCheck r (ns .first) (ns .second) ts qs zs ≡ Holds
+  may = passes r ns ts qs zs (ok .rules) (ok .queryShows) (ok .targetShows)
+
+  is-written : (room : ℕ) → length text ≤ room → pslWrite r (ns .first) (ns .second) ts qs zs room ≡ Written (length text)
+  unfolding pslWrite roomAnswer
+  is-written room h = rw (may, le-leb (length text) textLimit short, le-leb (length text) room h)
+
+  same : SamePsl r (placed text r)
+  unfolding placed
+  same = record { counts = refl; strand = refl; qSize = refl; qStart = refl; qEnd = refl; tSize = refl; tStart = refl; tEnd = refl; blockCount = refl }
+
+  same-rows : pslRows text ≡ take (r .blockCount) table
+  same-rows = rows-taken (r .blockCount) table _ _ _ (back-targets r _ _ ts qs zs may short) (back-queries r _ _ ts qs zs may short) (back-sizes r _ _ ts qs zs may short)
+
+  same-names : pslNames text (placed text r) ≡ ns
+  same-names =
+      let a = back-query r (ns .first) (ns .second) ts qs zs may short in
+      let b = back-target r (ns .first) (ns .second) ts qs zs may short in
+      λ i. record { first = a i; second = b i }
+
+-- DEMAND 2 OF PSL
+pub psl-demand2 : Demand2 psl
+unfolding psl
+psl-demand2 = record {
+  acceptedExactly = λ s room r. (λ e. let k = read-of s room r e in (record { values = _; line = line-of s r (k .0); rowsSaid = refl }, k .1), λ p. read-is s room r (line-is s r (p .0 .values) (p .0 .line)) (p .1));
+  oneRecord = λ s r r′ rows rows′ p q. let u = line-is s r (p .values) (p .line) in let v = line-is s r′ (q .values) (q .line) in let w : Accepted r ≡ Accepted r′ = sym u ∙ v in cc;
+  justRows = λ s r rows p. p .rowsSaid;
+  acceptedValid = λ s room r e. accepted-named s r (read-of s room r e .0);
+  written = λ r ns table ok short room h. is-written r ns table ok short room h;
+  readsBack = λ r ns table ok short. record {
+    record′ = placed (text r ns table ok short) r;
+    isRead = λ room h. back-read r (ns .first) (ns .second) (targetsOf table) (queriesOf table) (sizesOf table) (may r ns table ok short) short room h;
+    sameNumbers = same r ns table ok short;
+    sameNames = same-names r ns table ok short;
+    sameRows = same-rows r ns table ok short;
+  };
+}

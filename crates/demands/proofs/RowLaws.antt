@@ -1,0 +1,40 @@
+-- Rows and their flat lists, both ways. Assumes nothing.
+use mathlib.Core.Path.{_≡_, refl, ap, ap₂, _∙_}
+use mathlib.Core.List.{List, [], _∷_, map}
+use Prim.Native.Nat.{ℕ, zero, suc}
+use native.Mathlib.Omega.{arith}
+use lib.ListN.{length, take}
+use Rattle.ledger.specs.declared.Row.{Row}
+use Rattle.blocks.specs.Rows.{tableOf, targetsOf, queriesOf, sizesOf}
+use Rattle.blocks.proofs.TableLaws.{table-back}
+
+-- the flat lists of a table of three lists of one length are those lists
+pub record Flat (ts qs zs : List ℕ) : Type 0 where
+  pub targets : targetsOf (tableOf ts qs zs) ≡ ts
+  pub queries : queriesOf (tableOf ts qs zs) ≡ qs
+  pub sizes : sizesOf (tableOf ts qs zs) ≡ zs
+
+pub flat : (ts qs zs : List ℕ) → length qs ≡ length ts → length zs ≡ length ts → Flat ts qs zs
+unfolding tableOf
+flat [] [] [] e f = record { targets = refl; queries = refl; sizes = refl }
+flat [] [] (z ∷ zs) e f = absurd (omega arith)
+flat [] (q ∷ qs) zs e f = absurd (omega arith)
+flat (t ∷ ts) [] zs e f = absurd (omega arith)
+flat (t ∷ ts) (q ∷ qs) [] e f = absurd (omega arith)
+flat (t ∷ ts) (q ∷ qs) (z ∷ zs) e f =
+    let w = flat ts qs zs (omega arith) (omega arith) in
+    record {
+      targets = ap (λ (l : List ℕ). t ∷ l) (w .targets);
+      queries = ap (λ (l : List ℕ). q ∷ l) (w .queries);
+      sizes = ap (λ (l : List ℕ). z ∷ l) (w .sizes);
+    }
+
+take-map : (g : Row → ℕ) (n : ℕ) (rows : List Row) → take n (map g rows) ≡ map g (take n rows)
+take-map g zero rows = refl
+take-map g (suc n) [] = refl
+take-map g (suc n) (b ∷ rows) = ap (λ (l : List ℕ). g b ∷ l) (take-map g n rows)
+
+-- three lists that are the first n numbers of a table's flat lists make its first n rows
+pub rows-taken : (n : ℕ) (table : List Row) (ts qs zs : List ℕ) → ts ≡ take n (targetsOf table) → qs ≡ take n (queriesOf table) → zs ≡ take n (sizesOf table) → tableOf ts qs zs ≡ take n table
+rows-taken n table ts qs zs et eq ez =
+    rw (et, eq, ez, take-map (λ (b : Row). b .target) n table, take-map (λ (b : Row). b .query) n table, take-map (λ (b : Row). b .size) n table) (table-back (take n table))

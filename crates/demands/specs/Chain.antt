@@ -1,0 +1,83 @@
+-- The chain as a format of the demands.
+use Prim.Native.Nat.{ℕ}
+use mathlib.Core.Path.{_≡_}
+use mathlib.Core.List.{List}
+use lib.ListN.{length}
+use Rattle.ledger.specs.declared.Row.{Row}
+use Rattle.ledger.specs.Parts.{partAt}
+use Rattle.text.specs.declared.Class.the-variants.{Graphic}
+use Rattle.text.specs.Scan.{run}
+use Rattle.text.specs.Parts.{partBytes}
+use Rattle.blocks.specs.Rows.{tableOf, targetsOf, queriesOf, sizesOf}
+use Rattle.chain.specs.declared.Chain.{Chain}
+use Rattle.chain.specs.declared.ChainAnswer.{ChainAnswer}
+use Rattle.chain.specs.declared.ChainAnswer.the-variants.{Accepted}
+use Rattle.chain.specs.Read.{chainRead}
+use Rattle.chain.specs.Rules.{ChainText, ChainRules}
+use Rattle.chain.specs.Write.{chainText, chainWrite}
+use Rattle.table_chain.specs.Rows.{chainRows}
+use Rattle.demands.specs.Formats.{Names, Format}
+
+-- the text is a chain (chain, specs/Rules.antt): the words of its header spell some values, its block lines say three lists, and record and rows are what they say
+pub record ChainSpells (s : List ℕ) (r : Chain) (rows : List Row) : Type 0 where
+  pub values : List ℕ
+  pub blockLines : List (List ℕ)
+  pub targets : List ℕ
+  pub queries : List ℕ
+  pub sizes : List ℕ
+  pub text : ChainText s values blockLines r targets queries sizes
+  pub rowsSaid : rows ≡ tableOf targets queries sizes
+
+-- the names, tName and qName
+abbrev pub chainNames : List ℕ → Chain → Names
+chainNames s r = record { first = partBytes s (r .tName); second = partBytes s (r .qName) }
+
+-- the record with names of these lengths
+abbrev pub named : Chain → Names → Chain
+named r ns = record {
+  score = r .score;
+  tName = partAt 0 (length (ns .first));
+  tSize = r .tSize;
+  tStart = r .tStart;
+  tEnd = r .tEnd;
+  qName = partAt 0 (length (ns .second));
+  qSize = r .qSize;
+  qStrand = r .qStrand;
+  qStart = r .qStart;
+  qEnd = r .qEnd;
+  id = r .id;
+  blockCount = r .blockCount;
+}
+
+pub record ChainValid (r : Chain) (ns : Names) (table : List Row) : Type 0 where
+  pub rules : ChainRules (named r ns) (targetsOf table) (queriesOf table) (sizesOf table)
+  pub targetShows : run Graphic (ns .first) ≡ length (ns .first)
+  pub queryShows : run Graphic (ns .second) ≡ length (ns .second)
+
+pub record SameChain (r r′ : Chain) : Type 0 where
+  pub score : r′ .score ≡ r .score
+  pub tSize : r′ .tSize ≡ r .tSize
+  pub tStart : r′ .tStart ≡ r .tStart
+  pub tEnd : r′ .tEnd ≡ r .tEnd
+  pub qSize : r′ .qSize ≡ r .qSize
+  pub qStrand : r′ .qStrand ≡ r .qStrand
+  pub qStart : r′ .qStart ≡ r .qStart
+  pub qEnd : r′ .qEnd ≡ r .qEnd
+  pub id : r′ .id ≡ r .id
+  pub blockCount : r′ .blockCount ≡ r .blockCount
+
+unfoldable pub chain : Format
+chain = record {
+  Record = Chain;
+  Answer = ChainAnswer;
+  accepted = Accepted;
+  read = chainRead;
+  rows = chainRows;
+  blocks = λ r. r .blockCount;
+  Spells = ChainSpells;
+  names = chainNames;
+  Valid = ChainValid;
+  text = λ r ns table. chainText r (ns .first) (ns .second) (targetsOf table) (queriesOf table) (sizesOf table);
+  write = λ r ns table room. chainWrite r (ns .first) (ns .second) (targetsOf table) (queriesOf table) (sizesOf table) room;
+  SameNumbers = SameChain;
+}

@@ -1,0 +1,1 @@
+// No code: the statements of the three demands stand in specs/ and proofs/.
