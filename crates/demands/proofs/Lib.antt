@@ -3,6 +3,7 @@ pub mod RowLaws
 pub mod BedDemand2
 pub mod PslDemand2
 pub mod ChainDemand2
+pub mod Demand1Laws
 pub mod Demand3Laws
 pub mod ChainSamples
 pub mod PslSamples

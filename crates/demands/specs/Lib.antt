@@ -1,4 +1,5 @@
 pub mod Formats
+pub mod Demand1
 pub mod Demand2
 pub mod Bed
 pub mod Psl

@@ -1,0 +1,42 @@
+-- DEMAND 1, its second sentence: a refused call leaves block tables and output buffers as it found them, and a tally moves only as the paper says. (That every call ends with an
+-- answer or a numbered refusal is what the functions' types and their having no precondition say.)
+use Prim.Native.Nat.{ℕ, _-_}
+use mathlib.Core.Path.{_≡_}
+use mathlib.Core.List.{List}
+use Rattle.ledger.specs.declared.Row.{Row}
+use Rattle.ledger.specs.declared.Refusal.{Refusal}
+use Rattle.ledger.specs.declared.Reason.the-variants.{NoPair}
+use Rattle.writing.specs.declared.Writing.the-variants as writing
+use Rattle.bed.specs.declared.Bed.{Bed}
+use Rattle.bed.specs.declared.BedAnswer.the-variants as bed
+use Rattle.bed.specs.Write.{BedWrote}
+use Rattle.psl.specs.declared.Psl.{Psl}
+use Rattle.psl.specs.declared.PslAnswer.the-variants as psl
+use Rattle.psl.specs.Write.{PslWrote}
+use Rattle.chain.specs.declared.Chain.{Chain}
+use Rattle.chain.specs.declared.ChainAnswer.the-variants as chain
+use Rattle.chain.specs.Write.{ChainWrote}
+use Rattle.region.specs.declared.Tally.{Tally}
+use Rattle.region.specs.declared.RegionAnswer.the-variants as region
+use Rattle.region.specs.Tallies.{grown, tallyStep}
+use Rattle.turn.specs.declared.TurnAnswer.the-variants as turn
+use Rattle.turn.specs.Turns.{TurnedInto}
+use Rattle.table_bed.specs.Rows as bedTable
+use Rattle.table_psl.specs.Rows as pslTable
+use Rattle.table_chain.specs.Rows as chainTable
+
+pub record Demand1 : Type 0 where
+  -- the readers: what was promised of the table, where the answer is a refusal
+  pub bedReader : (s : List ℕ) (before after : List Row) (x : Refusal) → bedTable.RowsRead s before after (bed.Refused x) → after ≡ before
+  pub pslReader : (s : List ℕ) (before after : List Row) (x : Refusal) → pslTable.RowsRead s before after (psl.Refused x) → after ≡ before
+  pub chainReader : (s : List ℕ) (before after : List Row) (x : Refusal) → chainTable.RowsRead s before after (chain.Refused x) → after ≡ before
+  -- the writers: the buffer
+  pub bedWriter : (r : Bed) (chrom name ts qs zs before after : List ℕ) (x : Refusal) → BedWrote r chrom name ts qs zs before after (writing.Refused x) → after ≡ before
+  pub pslWriter : (r : Psl) (qName tName ts qs zs before after : List ℕ) (x : Refusal) → PslWrote r qName tName ts qs zs before after (writing.Refused x) → after ≡ before
+  pub chainWriter : (r : Chain) (tName qName ts qs zs before after : List ℕ) (x : Refusal) → ChainWrote r tName qName ts qs zs before after (writing.Refused x) → after ≡ before
+  -- the turn: the three slices
+  pub turner : (c : Chain) (rows : List Row) (ts qs zs ts′ qs′ zs′ : List ℕ) (x : Refusal) → TurnedInto c rows ts qs zs ts′ qs′ zs′ (turn.Refused x) → (ts′ ≡ ts) × (qs′ ≡ qs) × (zs′ ≡ zs)
+  -- the tally: every refusal but 12 leaves it, and 12 adds the region's length to asked and dropped
+  pub tally : (t : Tally) (c : Chain) (rows : List Row) (a e : ℕ) (x : Refusal) → tallyStep t c rows a e .answer ≡ region.Refused x → (x .reason ≡ NoPair → ⊥) → tallyStep t c rows a e .tally ≡ t
+  pub tallyNone : (t : Tally) (c : Chain) (rows : List Row) (a e : ℕ) (x : Refusal) → tallyStep t c rows a e .answer ≡ region.Refused x → x .reason ≡ NoPair
+      → tallyStep t c rows a e .tally ≡ grown t (e - a) 0 (e - a)
