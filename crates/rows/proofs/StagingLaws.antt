@@ -15,7 +15,7 @@ use Rattle.ledger.specs.declared.Row.{Row}
 use Rattle.text.proofs.Laws.{either}
 use Rattle.blocks.specs.Blocks.{rowsOf, countFits}
 use Rattle.blocks.specs.Rows.{tableOf, targetsOf, queriesOf, sizesOf}
-use Rattle.blocks.proofs.TableLaws.{table-length, targets-taken, queries-taken, sizes-taken, table-back}
+use Rattle.blocks.proofs.TableLaws.{table-length, column-taken, table-back}
 use Rattle.rows.specs.Staging.{allReach, Loaded, firstRows, frontStored, storedRows, Columns, Fronts}
 
 -- the first rows of three columns are the table of the columns' fronts
@@ -163,13 +163,13 @@ module _ (n : ℕ) (xs ys ws : List ℕ) (before : List Row) (hx : length xs ≡
       ap (take n) (map-append f (tableOf xs ys ws) (drop n before)) ∙ take-append-le n (map f (tableOf xs ys ws)) _ (omega arith) ∙ e ∙ take-all n l (omega arith)
 
   pub put-targets : take n (targetsOf put) ≡ xs
-  put-targets = kept (λ (b : Row). b .target) xs (targets-taken n xs ys ws (omega arith) (omega arith) (omega arith)) hx
+  put-targets = kept (λ (b : Row). b .target) xs (column-taken (λ (b : Row). b .target) xs n xs ys ws refl (omega arith) (omega arith) (omega arith) (omega arith) (λ i k. refl)) hx
 
   pub put-queries : take n (queriesOf put) ≡ ys
-  put-queries = kept (λ (b : Row). b .query) ys (queries-taken n xs ys ws (omega arith) (omega arith) (omega arith)) hy
+  put-queries = kept (λ (b : Row). b .query) ys (column-taken (λ (b : Row). b .query) ys n xs ys ws refl (omega arith) (omega arith) (omega arith) (omega arith) (λ i k. refl)) hy
 
   pub put-sizes : take n (sizesOf put) ≡ ws
-  put-sizes = kept (λ (b : Row). b .size) ws (sizes-taken n xs ys ws (omega arith) (omega arith) (omega arith)) hw
+  put-sizes = kept (λ (b : Row). b .size) ws (column-taken (λ (b : Row). b .size) ws n xs ys ws refl (omega arith) (omega arith) (omega arith) (omega arith) (λ i k. refl)) hw
 
   -- so what looks at whether the count fits and at so many first rows says the same of the table as of the lists
   pub put-same : {X : Type 0} (g : Bool → List ℕ → List ℕ → List ℕ → X) → n ≤ length before
