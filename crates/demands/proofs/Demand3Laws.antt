@@ -26,12 +26,12 @@ turned-count c = refl
 
 all-turns : (c : Chain) (rows rows′ : List Row) → accepted c rows ≡ true → c .blockCount ≤ length rows′ → take (c .blockCount) rows′ ≡ turnedRows c rows → Turns c rows (turned c) rows′
 all-turns c rows rows′ ok room here = record {
-  isAccepted = turned-accepted c rows rows′ ok room here;
-  pairsPlus = pairs-plus c rows rows′ ok room here;
-  pairsMinus = pairs-minus c rows rows′ ok room here;
-  liftsBack = λ p q e. lifts-back c rows rows′ ok room here p q _ e;
-  fieldsRestored = λ n h. turns (turned c) rows′ n (turned-accepted c rows rows′ ok room here) (rw (turned-count c) h) ∙ ap Turned (turned-twice c rows rows′ ok room here);
-  blocksRestored = rows-twice c rows rows′ ok room here;
+  isAccepted = turned-accepted c rows ok rows′ room here;
+  pairsPlus = pairs-plus c rows ok rows′ room here;
+  pairsMinus = pairs-minus c rows ok rows′ room here;
+  liftsBack = λ p q e. lifts-back c rows ok rows′ room here p q _ e;
+  fieldsRestored = λ n h. turns (turned c) rows′ n (turned-accepted c rows ok rows′ room here) (rw (turned-count c) h) ∙ ap Turned (turned-twice c rows ok);
+  blocksRestored = rows-twice c rows ok rows′ room here;
 }
 
 region-counts : (c : Chain) (rows : List Row) (a e : ℕ) (r : Region) → liftRegion c rows a e ≡ region.Lifted r → RegionCounts c rows a e r

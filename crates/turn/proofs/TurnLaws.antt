@@ -183,7 +183,8 @@ module _ (c : Chain) (rows : List Row) (ok : accepted c rows ≡ true) where
     lifts-back p q d e = lifts (turned c) rows′ turned-accepted q p (exchanged p q (lifted c rows ok p q d e .0))
 
 -- ---- from the function's promise
-counted : (c : Chain) (rows : List Row) → accepted c rows ≡ true → length (turnedRows c rows) ≡ c .blockCount
+-- as many rows as the record counts
+pub counted : (c : Chain) (rows : List Row) → accepted c rows ≡ true → length (turnedRows c rows) ≡ c .blockCount
 unfolding turnedRows
 counted c rows ok =
     turned-length (c .qStrand) (c .tSize) (c .qSize) (used c rows)
@@ -236,38 +237,39 @@ pub record Turning (c : Chain) (rows : List Row) (d : Chain) (rows′ : List Row
   pub restored : turned d ≡ c
   pub restoredRows : turnedRows d rows′ ≡ used c rows
 
+-- a turn that is not refused, and a table that begins with the turned rows
+module _ (c : Chain) (rows : List Row) (room : ℕ) (d : Chain) (m : Turnable c rows room d) (rows′ : List Row) (here : take (c .blockCount) rows′ ≡ turnedRows c rows) where
+  wide : c .blockCount ≤ length rows′
+  wide = omega (arith, length-take (c .blockCount) rows′, ap length here, counted c rows (m .ok))
+
+  pub turning-of : Turning c rows d rows′
+  turning-of =
+      rw (m .is) (record {
+        wasAccepted = m .ok;
+        isAccepted = turned-accepted c rows (m .ok) rows′ wide here;
+        pairsPlus = pairs-plus c rows (m .ok) rows′ wide here;
+        pairsMinus = pairs-minus c rows (m .ok) rows′ wide here;
+        queryConverted = λ e. turned-spans c rows (m .ok) e .0;
+        targetConverted = λ e. turned-spans c rows (m .ok) e .1;
+        liftsBack = lifts-back c rows (m .ok) rows′ wide here;
+        restored = turned-twice c rows (m .ok);
+        restoredRows = rows-twice c rows (m .ok) rows′ wide here;
+      })
+
+  -- and such a turn of that
+  pub twice-of : (room′ : ℕ) (e : Chain) → Turnable d rows′ room′ e → (rows″ : List Row) → take (d .blockCount) rows″ ≡ turnedRows d rows′ → (e ≡ c) × (used c rows″ ≡ used c rows)
+  twice-of room′ e k rows″ back =
+      let count : c .blockCount ≡ d .blockCount = unfold turned in ap (λ (y : Chain). y .blockCount) (sym (turning-of .restored)) in
+      (k .is ∙ turning-of .restored, ap (λ (n : ℕ). take n rows″) count ∙ back ∙ turning-of .restoredRows)
+
 -- ALL OF THEM for every turn that is not refused
 pub turning : (c : Chain) (rows : List Row) (ts qs zs ts′ qs′ zs′ : List ℕ) (d : Chain) → TurnedInto c rows ts qs zs ts′ qs′ zs′ (Turned d) → Turning c rows d (tableOf ts′ qs′ zs′)
 turning c rows ts qs zs ts′ qs′ zs′ d w =
-    rw (m .is) (record {
-      wasAccepted = m .ok;
-      isAccepted = turned-accepted c rows (m .ok) rows′ room here;
-      pairsPlus = pairs-plus c rows (m .ok) rows′ room here;
-      pairsMinus = pairs-minus c rows (m .ok) rows′ room here;
-      queryConverted = λ e. turned-spans c rows (m .ok) e .0;
-      targetConverted = λ e. turned-spans c rows (m .ok) e .1;
-      liftsBack = lifts-back c rows (m .ok) rows′ room here;
-      restored = turned-twice c rows (m .ok);
-      restoredRows = rows-twice c rows (m .ok) rows′ room here;
-    })
-  where
-    m : Turnable c rows (rowsOf ts qs zs) d
-    m = turnable c rows (rowsOf ts qs zs) d (w .is)
-
-    rows′ : List Row
-    rows′ = tableOf ts′ qs′ zs′
-
-    here : take (c .blockCount) rows′ ≡ turnedRows c rows
-    here = turned-stored c rows ts qs zs ts′ qs′ zs′ d w
-
-    room : c .blockCount ≤ length rows′
-    room = omega (arith, length-take (c .blockCount) rows′, ap length here, counted c rows (m .ok))
+    turning-of c rows (rowsOf ts qs zs) d (turnable c rows (rowsOf ts qs zs) d (w .is)) (tableOf ts′ qs′ zs′) (turned-stored c rows ts qs zs ts′ qs′ zs′ d w)
 
 -- TURNED AND TURNED BACK: the record, and the rows that it counts
 pub turning-twice : (c : Chain) (rows : List Row) (ts qs zs ts′ qs′ zs′ us vs ws us′ vs′ ws′ : List ℕ) (d e : Chain) → TurnedInto c rows ts qs zs ts′ qs′ zs′ (Turned d)
     → TurnedInto d (tableOf ts′ qs′ zs′) us vs ws us′ vs′ ws′ (Turned e) → (e ≡ c) × (used c (tableOf us′ vs′ ws′) ≡ used c rows)
 turning-twice c rows ts qs zs ts′ qs′ zs′ us vs ws us′ vs′ ws′ d e w x =
-    let t = turning c rows ts qs zs ts′ qs′ zs′ d w in
-    let same : e ≡ c = turnable d (tableOf ts′ qs′ zs′) (rowsOf us vs ws) e (x .is) .is ∙ t .restored in
-    let count : c .blockCount ≡ d .blockCount = unfold turned in ap (λ (y : Chain). y .blockCount) (sym (t .restored)) in
-    (same, ap (λ (n : ℕ). take n (tableOf us′ vs′ ws′)) count ∙ turned-stored d (tableOf ts′ qs′ zs′) us vs ws us′ vs′ ws′ e x ∙ t .restoredRows)
+    twice-of c rows (rowsOf ts qs zs) d (turnable c rows (rowsOf ts qs zs) d (w .is)) (tableOf ts′ qs′ zs′) (turned-stored c rows ts qs zs ts′ qs′ zs′ d w)
+    (rowsOf us vs ws) e (turnable d (tableOf ts′ qs′ zs′) (rowsOf us vs ws) e (x .is)) (tableOf us′ vs′ ws′) (turned-stored d (tableOf ts′ qs′ zs′) us vs ws us′ vs′ ws′ e x)
