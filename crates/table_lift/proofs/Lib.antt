@@ -1,0 +1,3 @@
+pub mod StagedLaws
+pub mod LiftLaws
+pub mod TableLaws
