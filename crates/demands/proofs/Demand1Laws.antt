@@ -2,7 +2,8 @@
 use Rattle.table_bed.proofs.TableLaws as bedTable
 use Rattle.table_psl.proofs.TableLaws as pslTable
 use Rattle.table_chain.proofs.TableLaws as chainTable
-use Rattle.region.proofs.TallyLaws.{refused-leaves, refused-adds}
+use Rattle.table_turn.proofs.TableLaws as turnTable
+use Rattle.table_lift.proofs.TableLaws.{tally-left, tally-added}
 use Rattle.demands.specs.Demand1.{Demand1}
 
 -- DEMAND 1
@@ -14,7 +15,7 @@ demand1 = record {
   bedWriter = λ r chrom name ts qs zs before after x w. w .left;
   pslWriter = λ r qName tName ts qs zs before after x w. w .left;
   chainWriter = λ r tName qName ts qs zs before after x w. w .left;
-  turner = λ c rows ts qs zs ts′ qs′ zs′ x w. (w .targets, w .queries, w .sizes);
-  tally = refused-leaves;
-  tallyNone = refused-adds;
+  turner = turnTable.refused-rows;
+  tally = tally-left;
+  tallyNone = tally-added;
 }

@@ -14,25 +14,30 @@ use Rattle.region.specs.declared.Region.{Region}
 use Rattle.region.specs.declared.RegionAnswer.the-variants as region
 use Rattle.region.specs.Regions.{liftRegion}
 use Rattle.region.proofs.RegionLaws.{region-lifted, lifted-length, region-holds, region-smallest, refused-exactly}
-use Rattle.region.proofs.TallyLaws.{batch, batch-after}
 use Rattle.turn.specs.declared.TurnAnswer.the-variants.{Turned}
 use Rattle.turn.specs.Turns.{turned, turnedRows, turn}
-use Rattle.turn.proofs.TurnLaws.{pairs-plus, pairs-minus, turned-accepted, lifts-back, turned-twice, rows-twice, turns}
+use Rattle.turn.proofs.TurnLaws.{turns}
+use Rattle.table_turn.specs.Turns.{RowsTurned}
+use Rattle.table_turn.proofs.TableLaws.{rows-turning}
+use Rattle.table_lift.proofs.TableLaws.{batch-sums}
 use Rattle.demands.specs.Demand3.{Positions, Turns, RegionCounts, Demand3}
 
 turned-count : (c : Chain) → turned c .blockCount ≡ c .blockCount
 unfolding turned
 turned-count c = refl
 
-all-turns : (c : Chain) (rows rows′ : List Row) → accepted c rows ≡ true → c .blockCount ≤ length rows′ → take (c .blockCount) rows′ ≡ turnedRows c rows → Turns c rows (turned c) rows′
-all-turns c rows rows′ ok room here = record {
-  isAccepted = turned-accepted c rows ok rows′ room here;
-  pairsPlus = pairs-plus c rows ok rows′ room here;
-  pairsMinus = pairs-minus c rows ok rows′ room here;
-  liftsBack = λ p q e. lifts-back c rows ok rows′ room here p q _ e;
-  fieldsRestored = λ n h. turns (turned c) rows′ n (turned-accepted c rows ok rows′ room here) (rw (turned-count c) h) ∙ ap Turned (turned-twice c rows ok);
-  blocksRestored = rows-twice c rows ok rows′ room here;
-}
+all-turns : (c : Chain) (rows before after : List Row) (d : Chain) → RowsTurned c rows before after (Turned d) → Turns c rows d after
+all-turns c rows before after d w =
+    let t = rows-turning c rows before after d w in
+    let count : d .blockCount ≡ c .blockCount = sym (turned-count d) ∙ ap (λ (x : Chain). x .blockCount) (t .restored) in
+    record {
+      isAccepted = t .isAccepted;
+      pairsPlus = t .pairsPlus;
+      pairsMinus = t .pairsMinus;
+      liftsBack = λ p q e. t .liftsBack p q _ e;
+      fieldsRestored = λ n h. turns d after n (t .isAccepted) (rw count h) ∙ ap Turned (t .restored);
+      blocksRestored = t .restoredRows;
+    }
 
 region-counts : (c : Chain) (rows : List Row) (a e : ℕ) (r : Region) → liftRegion c rows a e ≡ region.Lifted r → RegionCounts c rows a e r
 region-counts c rows a e r h =
@@ -58,6 +63,5 @@ demand3 = record {
   turns = all-turns;
   regions = region-counts;
   noneKept = refused-exactly;
-  everyList = batch;
-  soFar = λ xs ys. batch-after xs ys .1;
+  everyList = batch-sums;
 }

@@ -18,12 +18,13 @@ use Rattle.chain.specs.declared.ChainAnswer.the-variants as chain
 use Rattle.chain.specs.Write.{ChainWrote}
 use Rattle.region.specs.declared.Tally.{Tally}
 use Rattle.region.specs.declared.RegionAnswer.the-variants as region
-use Rattle.region.specs.Tallies.{grown, tallyStep}
+use Rattle.region.specs.Tallies.{grown}
 use Rattle.turn.specs.declared.TurnAnswer.the-variants as turn
-use Rattle.turn.specs.Turns.{TurnedInto}
 use Rattle.table_bed.specs.Rows as bedTable
 use Rattle.table_psl.specs.Rows as pslTable
 use Rattle.table_chain.specs.Rows as chainTable
+use Rattle.table_lift.specs.Lifts.{RegionTallied}
+use Rattle.table_turn.specs.Turns.{RowsTurned}
 
 pub record Demand1 : Type 0 where
   -- the readers: what was promised of the table, where the answer is a refusal
@@ -34,9 +35,8 @@ pub record Demand1 : Type 0 where
   pub bedWriter : (r : Bed) (chrom name ts qs zs before after : List ℕ) (x : Refusal) → BedWrote r chrom name ts qs zs before after (writing.Refused x) → after ≡ before
   pub pslWriter : (r : Psl) (qName tName ts qs zs before after : List ℕ) (x : Refusal) → PslWrote r qName tName ts qs zs before after (writing.Refused x) → after ≡ before
   pub chainWriter : (r : Chain) (tName qName ts qs zs before after : List ℕ) (x : Refusal) → ChainWrote r tName qName ts qs zs before after (writing.Refused x) → after ≡ before
-  -- the turn: the three slices
-  pub turner : (c : Chain) (rows : List Row) (ts qs zs ts′ qs′ zs′ : List ℕ) (x : Refusal) → TurnedInto c rows ts qs zs ts′ qs′ zs′ (turn.Refused x) → (ts′ ≡ ts) × (qs′ ≡ qs) × (zs′ ≡ zs)
+  -- the turn: the table for the turned rows
+  pub turner : (c : Chain) (rows before after : List Row) (x : Refusal) → RowsTurned c rows before after (turn.Refused x) → after ≡ before
   -- the tally: every refusal but 12 leaves it, and 12 adds the region's length to asked and dropped
-  pub tally : (t : Tally) (c : Chain) (rows : List Row) (a e : ℕ) (x : Refusal) → tallyStep t c rows a e .answer ≡ region.Refused x → (x .reason ≡ NoPair → ⊥) → tallyStep t c rows a e .tally ≡ t
-  pub tallyNone : (t : Tally) (c : Chain) (rows : List Row) (a e : ℕ) (x : Refusal) → tallyStep t c rows a e .answer ≡ region.Refused x → x .reason ≡ NoPair
-      → tallyStep t c rows a e .tally ≡ grown t (e - a) 0 (e - a)
+  pub tally : (t u : Tally) (c : Chain) (rows : List Row) (a e : ℕ) (x : Refusal) → RegionTallied t c rows a e u (region.Refused x) → (x .reason ≡ NoPair → ⊥) → u ≡ t
+  pub tallyNone : (t u : Tally) (c : Chain) (rows : List Row) (a e : ℕ) (x : Refusal) → RegionTallied t c rows a e u (region.Refused x) → x .reason ≡ NoPair → u ≡ grown t (e - a) 0 (e - a)

@@ -3,8 +3,7 @@ use Prim.Native.Nat.{ℕ, _+_, _-_, _≤_, _<_}
 use mathlib.Core.Path.{_≡_}
 use mathlib.Core.Bool.{true}
 use mathlib.Core.Logic.{_↔_}
-use mathlib.Core.List.{List, [], _∷_, _++_, map, reverse, List·Memᴰ}
-use lib.ListN.{length, take}
+use mathlib.Core.List.{List, map, reverse, List·Memᴰ}
 use lib.IntN.{pos, _-ℤ_}
 use Rattle.ledger.specs.declared.Row.{Row}
 use Rattle.ledger.specs.declared.Strand.the-variants.{Plus, Minus}
@@ -18,9 +17,12 @@ use Rattle.region.specs.declared.Region.{Region}
 use Rattle.region.specs.declared.RegionAnswer.the-variants as region
 use Rattle.region.specs.Regions.{kept, dropped, liftRegion}
 use Rattle.region.specs.Regions as ofRegions
-use Rattle.region.specs.Tallies.{Sent, sums, zeroTally, sentThrough}
+use Rattle.region.specs.declared.Tally.{Tally}
+use Rattle.region.specs.Tallies.{Sent, sums, zeroTally}
 use Rattle.turn.specs.declared.TurnAnswer.the-variants.{Turned}
 use Rattle.turn.specs.Turns.{swapPair, turned, turnedRows, turn}
+use Rattle.table_lift.specs.Lifts.{Batch}
+use Rattle.table_turn.specs.Turns.{RowsTurned}
 
 -- a target base stands in a pair, and in none
 abbrev pub InPair : Chain → List Row → ℕ → ℕ → Type 0
@@ -57,14 +59,12 @@ pub record RegionCounts (c : Chain) (rows : List Row) (a e : ℕ) (r : Region) :
 
 pub record Demand3 : Type 0 where
   pub positions : (c : Chain) (rows : List Row) → accepted c rows ≡ true → Positions c rows
-  -- the turn answers, given room; and of any table that begins with the turned rows, as the turn leaves it, all of `Turns` holds
+  -- the turn answers, given room; and all of `Turns` holds of the record and the table that it leaves
   pub turnAnswers : (c : Chain) (rows : List Row) (room : ℕ) → accepted c rows ≡ true → c .blockCount ≤ room → turn c rows room ≡ Turned (turned c)
-  pub turns : (c : Chain) (rows rows′ : List Row) → accepted c rows ≡ true → c .blockCount ≤ length rows′ → take (c .blockCount) rows′ ≡ turnedRows c rows
-      → Turns c rows (turned c) rows′
+  pub turns : (c : Chain) (rows before after : List Row) (d : Chain) → RowsTurned c rows before after (Turned d) → Turns c rows d after
   pub regions : (c : Chain) (rows : List Row) (a e : ℕ) (r : Region) → liftRegion c rows a e ≡ region.Lifted r → RegionCounts c rows a e r
   pub noneKept : (c : Chain) (rows : List Row) → accepted c rows ≡ true → (a e : ℕ) → a < e → e ≤ c .tSize
       → (liftRegion c rows a e ≡ ofRegions.notLifted NoPair) ↔ ((p q : ℕ) → a ≤ p → p < e → InPair c rows p q → ⊥)
-  -- after every list of regions, sent with one tally that starts at zero, its fields are the sums: a single claim about the list
-  pub everyList : (rs : List Sent) → sentThrough zeroTally rs ≡ sums rs
-  -- and so after each region of it
-  pub soFar : (xs ys : List Sent) → sentThrough zeroTally (xs ++ ys) ≡ sentThrough (sums xs) ys
+  -- after every list of regions, sent one by one with the record and rows handed in with each and one tally that starts at zero, its fields are the sums: a single claim
+  -- about the list, and so of each part of it that was sent so far
+  pub everyList : (u : Tally) (rs : List Sent) → Batch zeroTally rs u → u ≡ sums rs
