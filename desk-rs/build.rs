@@ -46,7 +46,11 @@ fn own_folder() -> PathBuf {
 
 /// Runs `rt staticlib desk` in the repository.
 fn prove(root: &Path) {
-    match Command::new("rt").args(["staticlib", "desk"]).current_dir(root).status() {
+    match Command::new("rt")
+        .args(["staticlib", "desk"])
+        .current_dir(root)
+        .status()
+    {
         Ok(status) if status.success() => (),
         Ok(status) => stop(&format!("`rt staticlib desk` failed: {status}")),
         Err(error) => stop(&format!(

@@ -23,13 +23,8 @@ extern "C" {
         out: *mut u8,
         out_length: usize,
     ) -> u64;
-    fn tenderchock_convert(
-        start: u64,
-        end: u64,
-        size: u64,
-        out: *mut u8,
-        out_length: usize,
-    ) -> u64;
+    fn tenderchock_convert(start: u64, end: u64, size: u64, out: *mut u8, out_length: usize)
+        -> u64;
     fn tenderchock_lift_position(
         text: *const u8,
         text_length: usize,
