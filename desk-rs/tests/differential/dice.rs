@@ -32,7 +32,7 @@ impl Dice {
 
     /// True once in so many times.
     pub fn once_in(&mut self, times: u64) -> bool {
-        self.any() % times == 0
+        self.any().is_multiple_of(times)
     }
 
     /// One of these.
