@@ -3,7 +3,7 @@
 
 use std::hint::black_box;
 
-use crate::fast::{self, Answer, Row, BLOCK_LIMIT};
+use crate::fast::{self, Answer, Row, Rows, BLOCK_LIMIT};
 use tenderchock::{sys, Kind};
 
 /// Who does the work.
@@ -108,7 +108,7 @@ impl Job {
                 black_box(sys::lift_region(text, *start, *end, &mut lent.bytes));
             }),
             (Work::Lift, Side::Rust) => self.regions.iter().for_each(|(start, end)| {
-                let _ = black_box(fast::chain::lift_region(text, *start, *end));
+                let _ = black_box(fast::chain::lift_region(text, *start, *end, &mut lent.room));
             }),
         }
     }
@@ -132,7 +132,7 @@ impl Job {
             }
             Work::Lift => self.regions.iter().take(3).all(|(start, end)| {
                 let count = sys::lift_region(text, *start, *end, &mut lent.bytes);
-                let rust = fast::chain::lift_region(text, *start, *end);
+                let rust = fast::chain::lift_region(text, *start, *end, &mut lent.room);
                 lent.numbers(count) == rust.map(|numbers| numbers.to_vec())
             }),
         }
@@ -143,6 +143,7 @@ impl Job {
 pub struct Lent {
     bytes: Vec<u8>,
     rows: Vec<Row>,
+    room: Box<Rows>,
 }
 
 impl Lent {
@@ -150,26 +151,28 @@ impl Lent {
         Lent {
             bytes: vec![0; 8 * (20 + 3 * BLOCK_LIMIT)],
             rows: vec![Row::default(); BLOCK_LIMIT],
+            room: Box::new([Row::default(); BLOCK_LIMIT]),
         }
     }
 
     /// Reads a text in plain Rust; answers its number of blocks.
     fn read(&mut self, kind: Kind, text: &[u8]) -> Answer<usize> {
-        let rows = &mut self.rows;
+        let (room, rows) = (&mut *self.room, &mut self.rows);
         Ok(match kind {
-            Kind::Bed => fast::bed::read(text, rows)?.block_count,
-            Kind::Psl => fast::psl::read(text, rows)?.block_count,
-            Kind::Chain => fast::chain::read(text, rows)?.block_count,
+            Kind::Bed => fast::bed::read(text, room, rows)?.block_count,
+            Kind::Psl => fast::psl::read(text, room, rows)?.block_count,
+            Kind::Chain => fast::chain::read(text, room, rows)?.block_count,
         })
     }
 
     /// The record and rows that plain Rust reads, as the library's parse gives them.
     fn read_numbers(&mut self, kind: Kind, text: &[u8]) -> Answer<Vec<u64>> {
         let count = self.read(kind, text)?;
+        let (room, rows) = (&mut *self.room, &mut self.rows);
         let mut numbers = match kind {
-            Kind::Bed => fast::bed::read(text, &mut self.rows)?.numbers(),
-            Kind::Psl => fast::psl::read(text, &mut self.rows)?.numbers(),
-            Kind::Chain => fast::chain::read(text, &mut self.rows)?.numbers(),
+            Kind::Bed => fast::bed::read(text, room, rows)?.numbers(),
+            Kind::Psl => fast::psl::read(text, room, rows)?.numbers(),
+            Kind::Chain => fast::chain::read(text, room, rows)?.numbers(),
         };
         for row in &self.rows[..count] {
             numbers.extend([row.target, row.query, row.size]);

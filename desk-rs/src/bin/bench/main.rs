@@ -15,8 +15,10 @@ use jobs::{Job, Lent, Side};
 const HELP: &str = "\
 bench: times the jobs of docs/BENCHMARKS.md, through the library and in plain Rust
 
-  bench                  times: warm-up, then the median of 15 samples of each side in turn
-  bench --instructions   instructions, counted by valgrind --tool=callgrind (small jobs, exact)
+  bench [JOB..]                  times: warm-up, then the median of 15 samples of each side in turn
+  bench --instructions [JOB..]   instructions, counted by valgrind --tool=callgrind
+
+Without a JOB, all: scores, list, bed, psl, chain, lift.
 ";
 
 /// Samples of each side; their median counts.
@@ -29,11 +31,10 @@ const DAMAGED: u64 = 500;
 fn main() -> ExitCode {
     let words: Vec<String> = env::args().skip(1).collect();
     let words: Vec<&str> = words.iter().map(String::as_str).collect();
-    let done = match words[..] {
-        [] => times(),
-        ["--instructions"] => instructions(),
+    let done = match &words[..] {
         ["--once", job, side, rounds] => once(job, side, rounds),
-        _ => Err(HELP.to_string()),
+        ["--instructions", names @ ..] => chosen(names, true).and_then(instructions),
+        names => chosen(names, false).and_then(times),
     };
     match done {
         Ok(()) => ExitCode::SUCCESS,
@@ -44,10 +45,23 @@ fn main() -> ExitCode {
     }
 }
 
-/// Times every job on both sides.
-fn times() -> Result<(), String> {
+/// The jobs with these names, or all.
+fn chosen(names: &[&str], small: bool) -> Result<Vec<Job>, String> {
+    let mut jobs = jobs::all(small);
+    if names
+        .iter()
+        .any(|name| jobs.iter().all(|job| job.name != *name))
+    {
+        return Err(HELP.to_string());
+    }
+    jobs.retain(|job| names.is_empty() || names.contains(&job.name));
+    Ok(jobs)
+}
+
+/// Times these jobs on both sides.
+fn times(jobs: Vec<Job>) -> Result<(), String> {
     println!("| Job | Library | Rust | Library : Rust |\n|---|---|---|---|");
-    for job in jobs::all(false) {
+    for job in jobs {
         if !job.sides_agree(DAMAGED) {
             return Err(format!("{}: the two sides answer differently", job.name));
         }
@@ -107,10 +121,10 @@ fn shown(nanoseconds: f64) -> String {
     }
 }
 
-/// Counts the instructions of every job on both sides.
-fn instructions() -> Result<(), String> {
+/// Counts the instructions of these jobs on both sides.
+fn instructions(jobs: Vec<Job>) -> Result<(), String> {
     println!("| Job | Library | Rust | Library : Rust |\n|---|---|---|---|");
-    for job in jobs::all(true) {
+    for job in jobs {
         let library = counted(&job, "library")?;
         let rust = counted(&job, "rust")?;
         let unit = |count: f64| format!("{:.1} per {}", count / job.units as f64, job.unit);

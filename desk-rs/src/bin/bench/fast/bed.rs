@@ -45,9 +45,8 @@ impl Bed {
 }
 
 /// Reads a BED line into a record and the lent rows.
-pub fn read(text: &[u8], lent: &mut [Row]) -> Answer<Bed> {
-    let mut rows = [Row::default(); BLOCK_LIMIT];
-    let bed = read_text(text, &mut rows)?;
+pub fn read(text: &[u8], rows: &mut Rows, lent: &mut [Row]) -> Answer<Bed> {
+    let bed = read_text(text, rows)?;
     hand_over(&rows[..bed.block_count], lent, text.len())?;
     Ok(bed)
 }

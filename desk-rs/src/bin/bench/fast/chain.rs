@@ -48,9 +48,8 @@ impl Chain {
 }
 
 /// Reads a chain into a record and the lent rows.
-pub fn read(text: &[u8], lent: &mut [Row]) -> Answer<Chain> {
-    let mut rows = [Row::default(); BLOCK_LIMIT];
-    let chain = read_text(text, &mut rows)?;
+pub fn read(text: &[u8], rows: &mut Rows, lent: &mut [Row]) -> Answer<Chain> {
+    let chain = read_text(text, rows)?;
     hand_over(&rows[..chain.block_count], lent, text.len())?;
     Ok(chain)
 }
@@ -123,9 +122,8 @@ fn read_blocks(text: &[u8], end: usize, chain: &mut Chain, rows: &mut Rows) -> A
 }
 
 /// Kept, dropped, start and end of a region lifted through a chain's text.
-pub fn lift_region(text: &[u8], start: u64, end: u64) -> Answer<[u64; 4]> {
-    let mut rows = [Row::default(); BLOCK_LIMIT];
-    let chain = read_text(text, &mut rows)?;
+pub fn lift_region(text: &[u8], start: u64, end: u64, rows: &mut Rows) -> Answer<[u64; 4]> {
+    let chain = read_text(text, rows)?;
     require(start < end && end <= chain.t_size, 13, 0)?;
     let rows = &rows[..chain.block_count];
     let from = rows.partition_point(|row| row.target + row.size <= start);

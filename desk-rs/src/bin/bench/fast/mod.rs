@@ -22,7 +22,7 @@ pub struct Row {
     pub size: u64,
 }
 
-/// Working room for the rows of one record.
+/// Working room for the rows of one record, used again for each text.
 pub type Rows = [Row; BLOCK_LIMIT];
 
 /// Copies the rows of an accepted record to the lent ones, given room.

@@ -54,9 +54,8 @@ impl Psl {
 }
 
 /// Reads a PSL line into a record and the lent rows.
-pub fn read(text: &[u8], lent: &mut [Row]) -> Answer<Psl> {
-    let mut rows = [Row::default(); BLOCK_LIMIT];
-    let psl = read_text(text, &mut rows)?;
+pub fn read(text: &[u8], rows: &mut Rows, lent: &mut [Row]) -> Answer<Psl> {
+    let psl = read_text(text, rows)?;
     hand_over(&rows[..psl.block_count], lent, text.len())?;
     Ok(psl)
 }

@@ -23,14 +23,20 @@ pub fn check_text(text: &[u8]) -> Answer<()> {
     if text.len() > 65_536 {
         return Err(Refused::new(1, 0));
     }
-    let allowed = |byte: &u8| (32..127).contains(byte) | (*byte == b'\t') | (*byte == b'\n');
-    for (at, chunk) in text.chunks(64).enumerate() {
-        if !chunk.iter().fold(true, |good, byte| good & allowed(byte)) {
-            let within = chunk.iter().position(|byte| !allowed(byte)).unwrap_or(0);
-            return Err(Refused::new(3, at * 64 + within));
+    let mut chunks = text.chunks_exact(64);
+    let good = chunks.all(|chunk| chunk.iter().fold(true, |good, byte| good & allowed(byte)))
+        && chunks.remainder().iter().all(allowed);
+    match good {
+        true => Ok(()),
+        false => {
+            let place = text.iter().position(|byte| !allowed(byte));
+            Err(Refused::new(3, place.unwrap_or(0)))
         }
     }
-    Ok(())
+}
+
+fn allowed(byte: &u8) -> bool {
+    (32..127).contains(byte) | (*byte == b'\t') | (*byte == b'\n')
 }
 
 /// A line split into its words, up to N of them.
@@ -43,35 +49,38 @@ pub struct Split<const N: usize> {
 }
 
 /// Splits the line that starts at `from`.
+#[inline]
 pub fn split<const N: usize>(text: &[u8], from: usize) -> Split<N> {
     let mut words = [(0, 0); N];
     let mut count = 0;
     let mut at = from;
     loop {
-        while at < text.len() && matches!(text[at], b' ' | b'\t') {
-            at += 1;
-        }
-        if at == text.len() || text[at] == b'\n' {
+        at += blanks(&text[at..]);
+        if text.get(at).is_none_or(|byte| *byte == b'\n') {
             return Split {
                 words,
                 count,
                 end: at,
             };
         }
-        let start = at;
-        if count == N {
+        let Some(word) = words.get_mut(count) else {
             return Split {
                 words,
                 count: N + 1,
-                end: start,
+                end: at,
             };
-        }
-        while at < text.len() && text[at] > b' ' {
-            at += 1;
-        }
-        words[count] = (start, at);
+        };
+        let length = text[at..].iter().take_while(|byte| **byte > b' ').count();
+        *word = (at, at + length);
+        at += length;
         count += 1;
     }
+}
+
+fn blanks(text: &[u8]) -> usize {
+    text.iter()
+        .take_while(|byte| matches!(byte, b' ' | b'\t'))
+        .count()
 }
 
 /// Refusal 2 if a line follows the one that ends at `end`.
@@ -82,46 +91,30 @@ pub fn no_surplus_line(text: &[u8], end: usize) -> Answer<()> {
     }
 }
 
-/// The number at `at`, and where its digits end.
+/// Spelling (4) and range (5) of an item whose bytes are all digits, of this value.
 #[inline(always)]
-fn digits(text: &[u8], at: usize, end: usize) -> (u64, usize) {
-    let (mut value, mut at) = (0u64, at);
-    while at < end {
-        let digit = text[at].wrapping_sub(b'0');
-        if digit > 9 {
-            break;
-        }
-        value = value.wrapping_mul(10).wrapping_add(u64::from(digit));
-        at += 1;
+fn judged(item: &[u8], value: u64, range: (u64, u64)) -> Result<u64, u8> {
+    match item {
+        [] | [b'0', _, ..] => Err(4),
+        // Nineteen digits don't overflow.
+        _ if item.len() > 19 || value < range.0 || value > range.1 => Err(5),
+        _ => Ok(value),
     }
-    (value, at)
-}
-
-/// Spelling (4) and range (5) of a number read from `start` to `at`.
-#[inline(always)]
-fn judged(
-    text: &[u8],
-    (start, at): Word,
-    ended: bool,
-    value: u64,
-    (least, most): (u64, u64),
-) -> Answer<u64> {
-    let length = at - start;
-    if length == 0 || !ended || (length > 1 && text[start] == b'0') {
-        return Err(Refused::new(4, start));
-    }
-    // Nineteen digits don't overflow.
-    if length > 19 || value < least || value > most {
-        return Err(Refused::new(5, start));
-    }
-    Ok(value)
 }
 
 /// A word that is a number.
 #[inline]
 pub fn number(text: &[u8], (start, end): Word, range: (u64, u64)) -> Answer<u64> {
-    let (value, at) = digits(text, start, end);
-    judged(text, (start, at), at == end, value, range)
+    let mut value = 0u64;
+    let word = &text[start..end];
+    for byte in word {
+        let digit = byte.wrapping_sub(b'0');
+        if digit > 9 {
+            return Err(Refused::new(4, start));
+        }
+        value = value.wrapping_mul(10).wrapping_add(u64::from(digit));
+    }
+    judged(word, value, range).map_err(|number| Refused::new(number, start))
 }
 
 /// A word that is a comma list: `store` gets each item with its index. Answers
@@ -134,17 +127,31 @@ pub fn list(
     further_comma: bool,
     mut store: impl FnMut(usize, u64),
 ) -> Answer<usize> {
-    let (mut at, mut count) = (start, 0);
-    loop {
-        let (value, stop) = digits(text, at, end);
-        let ended = stop == end || text[stop] == b',';
-        store(count, judged(text, (at, stop), ended, value, range)?);
-        count += 1;
-        at = stop + 1;
-        if stop == end || (further_comma && at == end) {
-            return Ok(count);
+    let word = &text[start..end];
+    let (mut value, mut from, mut count) = (0u64, 0, 0);
+    for (at, byte) in word.iter().enumerate() {
+        let digit = byte.wrapping_sub(b'0');
+        if digit <= 9 {
+            value = value.wrapping_mul(10).wrapping_add(u64::from(digit));
+            continue;
         }
+        let item = if *byte == b',' { &word[from..at] } else { &[] };
+        let judged = judged(item, value, range);
+        store(
+            count,
+            judged.map_err(|number| Refused::new(number, start + from))?,
+        );
+        (value, from, count) = (0, at + 1, count + 1);
     }
+    if from == word.len() && further_comma {
+        return Ok(count);
+    }
+    let judged = judged(&word[from..], value, range);
+    store(
+        count,
+        judged.map_err(|number| Refused::new(number, start + from))?,
+    );
+    Ok(count + 1)
 }
 
 /// A list that must have `wanted` items (8).
