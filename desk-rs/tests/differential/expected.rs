@@ -198,3 +198,29 @@ pub fn tally(text: &[u8], start: u64, end: u64, lent: [u64; 3]) -> ([u64; 3], An
     let left = [left.asked, left.kept, left.dropped];
     (left, answer.map(|lifted| lifted.kept))
 }
+
+/// A region and the chain's text that it is sent through.
+pub struct Sent {
+    pub text: Vec<u8>,
+    pub start: u64,
+    pub end: u64,
+}
+
+/// The sums over a list of regions, counted in the pairs of their chains. A text
+/// that is no chain is passed over.
+pub fn sums(batch: &[Sent]) -> Tally {
+    let read: Vec<_> = batch
+        .iter()
+        .filter_map(|sent| Some((read_chain(&sent.text).ok()?, sent)))
+        .collect();
+    let regions: Vec<lift::Sent> = read
+        .iter()
+        .map(|((chain, table), sent)| lift::Sent {
+            chain,
+            table,
+            start: sent.start,
+            end: sent.end,
+        })
+        .collect();
+    lift::sums(&regions)
+}

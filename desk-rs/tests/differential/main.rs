@@ -14,7 +14,8 @@ use std::env;
 
 use compare::{Case, Compare, Seen};
 use dice::Dice;
-use tenderchock::Kind;
+use expected::Sent;
+use tenderchock::{Kind, Tally};
 
 const CASES: u64 = 20_000;
 
@@ -80,6 +81,50 @@ fn the_library_answers_as_the_second_program() {
     }
     if cases >= CASES {
         every_answer_was_seen(&seen);
+    }
+}
+
+/// A region sent through a chain of few bases, good or damaged; it may lie outside.
+fn sent(dice: &mut Dice) -> Sent {
+    loop {
+        let mut draft = drafts::any(dice, Kind::Chain);
+        if dice.once_in(4) {
+            damage::to_draft(dice, &mut draft);
+        }
+        let text = damage::written(dice, &draft);
+        let Ok((chain, rows)) = expected::read_chain(&text) else {
+            let (start, end) = (0, dice.between(0, 9));
+            return Sent { text, start, end };
+        };
+        if expected::bases(&rows) <= 5_000 {
+            let start = dice.between(0, chain.t_size);
+            let end = dice.between(start.saturating_sub(1), chain.t_size + 1);
+            return Sent { text, start, end };
+        }
+    }
+}
+
+#[test]
+fn a_batch_is_tallied_as_the_sums_over_its_regions() {
+    let seed = option("TENDERCHOCK_SEED", 1);
+    for batch in 0..200 {
+        let mut dice = Dice::of_case(seed, batch);
+        let regions: Vec<Sent> = (0..12).map(|_| sent(&mut dice)).collect();
+        let mut tally = Tally::default();
+        for (at, region) in regions.iter().enumerate() {
+            let _ = tally.add(&region.text, region.start, region.end);
+            let sums = expected::sums(&regions[..=at]);
+            let left = (tally.asked, tally.kept, tally.dropped);
+            assert_eq!(
+                left,
+                (sums.asked, sums.kept, sums.dropped),
+                "seed {seed}, batch {batch}"
+            );
+        }
+        assert!(
+            tally.asked > 0,
+            "seed {seed}, batch {batch}: no region was asked"
+        );
     }
 }
 

@@ -189,6 +189,9 @@ fn lift(words: &[&OsStr], kind: Option<Kind>) -> Result<Command, String> {
     if files.chain.is_standard() && files.bed.is_standard() {
         return Err("standard input can be read only once".into());
     }
+    if [&files.out, &files.unmapped].contains(&&PathBuf::from("-")) {
+        return Err("lift writes files; `-` stands for standard input alone".into());
+    }
     let paths = [
         &files.chain.path,
         &files.bed.path,
@@ -279,6 +282,7 @@ mod tests {
             "turn --kind bed a",
             "lift a.chain b.bed out",
             "lift - - out bad",
+            "lift a.chain b.bed - bad",
             "lift a.chain b.bed b.bed bad",
             "lift a.chain b.bed out out",
             "convert 1 2",
