@@ -1,0 +1,59 @@
+//! The command `tenderchock`: checks, formats, lifts and turns files of BED lines,
+//! PSL lines and chains. It parts a file into texts; what is right or wrong in a
+//! text is the library's word.
+
+#![forbid(unsafe_code)]
+
+mod args;
+mod check;
+mod convert;
+mod explain;
+mod fields;
+mod hints;
+mod input;
+mod lift;
+mod outcome;
+mod report;
+mod rewrite;
+
+use std::env;
+use std::ffi::OsString;
+use std::io::{self, Write};
+use std::process::ExitCode;
+
+use args::Command;
+use outcome::{Outcome, Status};
+use rewrite::Way;
+
+fn main() -> ExitCode {
+    let words: Vec<OsString> = env::args_os().skip(1).collect();
+    let status = match args::read(&words) {
+        Ok(command) => run(&command),
+        Err(message) => {
+            outcome::say(&message);
+            outcome::say("`tenderchock --help` tells how it is used");
+            Status::Trouble
+        }
+    };
+    ExitCode::from(status.number())
+}
+
+fn run(command: &Command) -> Status {
+    let outcome = match command {
+        Command::Help => help(),
+        Command::Check(inputs) => check::run(inputs),
+        Command::Format(inputs) => rewrite::run(Way::Format, inputs),
+        Command::Turn(input) => rewrite::run(Way::Turn, std::slice::from_ref(input)),
+        Command::Lift(files) => lift::run(files),
+        Command::Convert { start, end, size } => convert::run(*start, *end, *size),
+    };
+    outcome.unwrap_or_else(|trouble| {
+        trouble.tell();
+        Status::Trouble
+    })
+}
+
+fn help() -> Outcome {
+    io::stdout().write_all(args::HELP.as_bytes())?;
+    Ok(Status::Accepted)
+}

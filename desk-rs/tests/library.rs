@@ -1,0 +1,216 @@
+//! The bench samples through the library's functions, field by field.
+
+use tenderchock::{check, convert, format, lift_position, lift_region, turn};
+use tenderchock::{Bed, Chain, Kind, LiftedPosition, LiftedRegion, Psl, Refusal, Row};
+use tenderchock::{Strand, Tally};
+
+const CHAIN_A: &[u8] = b"chain 100 tA 100 + 10 40 qB 80 - 5 33 7\n10 3 0\n8 0 1\n9\n";
+const CHAIN_A_TURNED: &[u8] = b"chain 100 qB 80 + 47 75 tA 100 - 60 90 7\n9 1 0\n8 0 3\n10\n";
+const PSL_A: &[u8] = b"27 0 0 0 1 1 1 3 - qB 80 47 75 tA 100 10 40 3 10,8,9, 5,15,24, 10,23,31,";
+const BED_000: &[u8] = b"chr22 1000 5000 cloneA 960 + 1000 5000 0 2 567,488, 0,3512";
+
+fn row(target_start: u64, query_start: u64, size: u64) -> Row {
+    Row {
+        target_start,
+        query_start,
+        size,
+    }
+}
+
+fn refused<T: std::fmt::Debug>(answer: Result<T, Refusal>) -> (u8, usize) {
+    let refusal = answer.expect_err("a refusal");
+    (refusal.number, refusal.place)
+}
+
+#[test]
+fn a_bed_line_is_read() {
+    let bed = Bed {
+        word_count: 12,
+        chrom: b"chr22",
+        chrom_start: 1000,
+        chrom_end: 5000,
+        name: b"cloneA",
+        score: 960,
+        strand: Strand::Plus,
+        thick_start: 1000,
+        thick_end: 5000,
+        item_rgb: [0, 0, 0],
+        rows: vec![row(1000, 0, 567), row(4512, 567, 488)],
+    };
+    assert_eq!(Bed::parse(BED_000), Ok(bed));
+    assert_eq!(check(Kind::Bed, BED_000), Ok(2));
+}
+
+#[test]
+fn columns_left_out_hold_their_defaults() {
+    let bed = Bed {
+        word_count: 3,
+        chrom: b"c",
+        chrom_start: 7,
+        chrom_end: 9,
+        name: b"",
+        score: 0,
+        strand: Strand::Dot,
+        thick_start: 7,
+        thick_end: 9,
+        item_rgb: [0, 0, 0],
+        rows: vec![row(7, 0, 2)],
+    };
+    assert_eq!(Bed::parse(b"c 7 9"), Ok(bed));
+    let coloured = Bed::parse(b"c 7 9 n 5 - 8 9 1,2,255").expect("nine words");
+    assert_eq!(coloured.item_rgb, [1, 2, 255]);
+    assert_eq!((coloured.thick_start, coloured.score), (8, 5));
+}
+
+#[test]
+fn a_psl_line_is_read() {
+    let psl = Psl {
+        matches: 27,
+        mis_matches: 0,
+        rep_matches: 0,
+        n_count: 0,
+        q_num_insert: 1,
+        q_base_insert: 1,
+        t_num_insert: 1,
+        t_base_insert: 3,
+        strand: Strand::Minus,
+        q_name: b"qB",
+        q_size: 80,
+        q_start: 47,
+        q_end: 75,
+        t_name: b"tA",
+        t_size: 100,
+        t_start: 10,
+        t_end: 40,
+        rows: vec![row(10, 5, 10), row(23, 15, 8), row(31, 24, 9)],
+    };
+    assert_eq!(Psl::parse(PSL_A), Ok(psl));
+}
+
+#[test]
+fn a_chain_is_read() {
+    let chain = Chain {
+        score: 100,
+        t_name: b"tA",
+        t_size: 100,
+        t_start: 10,
+        t_end: 40,
+        q_name: b"qB",
+        q_size: 80,
+        q_strand: Strand::Minus,
+        q_start: 5,
+        q_end: 33,
+        id: 7,
+        rows: vec![row(10, 5, 10), row(23, 15, 8), row(31, 24, 9)],
+    };
+    assert_eq!(Chain::parse(CHAIN_A), Ok(chain));
+}
+
+#[test]
+fn refusals_have_a_number_and_a_place() {
+    assert_eq!(refused(check(Kind::Bed, b"c 1001 007")), (4, 7));
+    assert_eq!(refused(Bed::parse(b"c 5 5")), (7, 4));
+    assert_eq!(refused(check(Kind::Psl, b"")), (2, 0));
+    assert_eq!(refused(check(Kind::Bed, &[b'1'; 65_537])), (1, 0));
+    let refusal = Bed::parse(b"c 5 \xFF").expect_err("a refusal");
+    assert_eq!(
+        refusal.to_string(),
+        "refused by 3 at byte 4: a byte that is not allowed"
+    );
+}
+
+#[test]
+fn texts_are_formatted_and_turned() {
+    let standard = format(Kind::Bed, b" c  1 2 n 0 . 1 2 0,0,0 1 1 0").expect("a BED line");
+    assert_eq!(standard, b"c\t1\t2\tn\t0\t.\t1\t2\t0\t1\t1,\t0,\n");
+    assert_eq!(format(Kind::Chain, CHAIN_A).as_deref(), Ok(CHAIN_A));
+    assert_eq!(turn(CHAIN_A).as_deref(), Ok(CHAIN_A_TURNED));
+    assert_eq!(turn(CHAIN_A_TURNED).as_deref(), Ok(CHAIN_A));
+}
+
+#[test]
+fn positions_lift() {
+    for (position, partner) in [(10, 74), (19, 65), (23, 64), (31, 55)] {
+        let drift = partner as i64 - position as i64;
+        assert_eq!(
+            lift_position(CHAIN_A, position),
+            Ok(LiftedPosition { partner, drift })
+        );
+    }
+    let back = LiftedPosition {
+        partner: 10,
+        drift: -64,
+    };
+    assert_eq!(lift_position(CHAIN_A_TURNED, 74), Ok(back));
+    for (position, number) in [
+        (20, 12),
+        (22, 12),
+        (40, 12),
+        (99, 12),
+        (100, 13),
+        (u64::MAX, 13),
+    ] {
+        assert_eq!(refused(lift_position(CHAIN_A, position)), (number, 0));
+    }
+}
+
+#[test]
+fn regions_lift_and_are_tallied() {
+    let lifted = LiftedRegion {
+        kept: 4,
+        dropped: 3,
+        start: 63,
+        end: 67,
+    };
+    assert_eq!(lift_region(CHAIN_A, 18, 25), Ok(lifted));
+    assert_eq!(refused(lift_region(CHAIN_A, 20, 23)), (12, 0));
+    assert_eq!(refused(lift_region(CHAIN_A, 20, 20)), (13, 0));
+    let mut tally = Tally::default();
+    assert_eq!(tally.add(CHAIN_A, 18, 25), Ok(4));
+    assert_eq!(refused(tally.add(CHAIN_A, 20, 23)), (12, 0));
+    assert_eq!(refused(tally.add(CHAIN_A, 20, 20)), (13, 0));
+    assert_eq!(refused(tally.add(b"chain", 20, 21)), (2, 5));
+    assert_eq!(
+        tally,
+        Tally {
+            asked: 10,
+            kept: 4,
+            dropped: 6
+        }
+    );
+}
+
+/// Lifts that the second program would take long to list base by base.
+#[test]
+fn the_largest_block_lifts() {
+    let limit = 2_147_483_647u64;
+    let text = format!("chain 0 t {limit} + 0 {limit} q {limit} - 0 {limit} 1\n{limit}");
+    let last = limit - 1;
+    let lifted = LiftedPosition {
+        partner: 0,
+        drift: -(last as i64),
+    };
+    assert_eq!(lift_position(text.as_bytes(), last), Ok(lifted));
+    let region = LiftedRegion {
+        kept: limit,
+        dropped: 0,
+        start: 0,
+        end: limit,
+    };
+    assert_eq!(lift_region(text.as_bytes(), 0, limit), Ok(region));
+    let end = LiftedRegion {
+        kept: 2,
+        dropped: 0,
+        start: 0,
+        end: 2,
+    };
+    assert_eq!(lift_region(text.as_bytes(), limit - 2, limit), Ok(end));
+    assert_eq!(refused(lift_position(text.as_bytes(), limit)), (13, 0));
+}
+
+#[test]
+fn spans_convert() {
+    assert_eq!(convert(5, 33, 80), Ok((47, 75)));
+    assert_eq!(refused(convert(33, 5, 80)), (7, 0));
+    assert_eq!(refused(convert(0, 1, 2_147_483_648)), (5, 0));
+}
