@@ -1,7 +1,8 @@
 //! The samples command: one case a line on standard input, one answer a line on
 //! standard output. A case is its letter, a space and an escaped payload (of the
-//! record cases `W`, `X` and `Y`, words of which only the names are escaped); empty
-//! lines and lines that begin with `#` are comments.
+//! record cases `W`, `X` and `Y`, words of which only the names are escaped; of the
+//! cases of lifts, turns and tallies, a question and a chain); empty lines and lines
+//! that begin with `#` are comments.
 //!
 //! It makes what the programs that run the library must print:
 //! `cargo run --offline --release --manifest-path reference/Cargo.toml < crates/samples_psl/stdin > crates/samples_psl/stdout`,
@@ -13,22 +14,25 @@ use std::io::{self, Read, Write};
 
 use reference::ledger::{Answer, BED_SCORE_LIMIT, BLOCK_LIMIT};
 use reference::ledger::{CHAIN_ID_LIMIT, CHAIN_SCORE_LIMIT, COORDINATE_LIMIT};
+use reference::lift::Tally;
 use reference::{bed, chain, psl, text};
 use samples::escape::unescape;
-use samples::{bed_cases, chain_cases, psl_cases, refused, words};
+use samples::{bed_cases, chain_cases, lift_cases, psl_cases, refused, words};
 
 fn main() -> io::Result<()> {
     let mut input = Vec::new();
     io::stdin().read_to_end(&mut input)?;
     let mut output = Vec::new();
+    let mut tally = Tally::default();
     for line in text::lines(&input) {
-        answer_line(line.bytes, &mut output);
+        answer_line(line.bytes, &mut tally, &mut output);
     }
     io::stdout().write_all(&output)
 }
 
-/// Adds the answer to one line of the input; a comment has none.
-fn answer_line(line: &[u8], output: &mut Vec<u8>) {
+/// Adds the answer to one line of the input; a comment has none. The tally is as the
+/// last line left it.
+fn answer_line(line: &[u8], tally: &mut Tally, output: &mut Vec<u8>) {
     let (letter, payload) = match line {
         [] | [b'#', ..] => return,
         [letter] => (*letter, &[][..]),
@@ -43,6 +47,8 @@ fn answer_line(line: &[u8], output: &mut Vec<u8>) {
         b'W' => bed_cases::record(payload),
         b'X' => psl_cases::record(payload),
         b'Y' => chain_cases::record(payload),
+        b'p' | b'g' | b'u' | b'a' | b'm' => lift_cases::answer(letter, payload, tally),
+        b'v' => lift_cases::conversion(payload),
         _ => answer(letter, &unescape(payload)).unwrap_or_else(refused),
     };
     output.extend([&[letter, b' '][..], &answer, b"\n"].concat());

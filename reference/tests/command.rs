@@ -292,6 +292,72 @@ fn chains_and_records() {
     ]);
 }
 
+#[test]
+fn lifts_and_conversions() {
+    let text = r"chain 100 tA 100 + 10 40 qB 80 - 5 33 7\n10 3 0\n8 0 1\n9\n";
+    let turned = r"chain 100 qB 80 + 47 75 tA 100 - 60 90 7\n9 1 0\n8 0 3\n10\n";
+    let record = "100 100 10 40 80 - 5 33 7 3 =tA =qB 10,5,10 23,15,8 31,24,9";
+    cases(&[
+        (&format!("p 10 {text}"), "p lifted 74 drift 64"),
+        (&format!("p 74 {turned}"), "p lifted 10 drift -64"),
+        (&format!("p 20 {record}"), "p refused 12 at 0"),
+        (&format!("p 100 {record}"), "p refused 13 at 0"),
+        (
+            &format!("p 10 {}", record.replace("7 3", "7 4")),
+            "p refused 9 at 0",
+        ),
+        (
+            &format!("p 10 {}", text.replace(r"\n9", r"\n10")),
+            "p text refused 9 at 56",
+        ),
+        (&format!("g 18 25 {text}"), "g kept 4 dropped 3 query 63 67"),
+        (&format!("g 20 20 {record}"), "g refused 13 at 0"),
+        ("v 5 33 80", "v span 47 75"),
+        ("v 5 2147483648 80", "v refused 5 at 0"),
+        ("v 5 5 80", "v refused 7 at 0"),
+    ]);
+}
+
+#[test]
+fn turns_and_tallies() {
+    let text = r"chain 100 tA 100 + 10 40 qB 80 - 5 33 7\n10 3 0\n8 0 1\n9\n";
+    let turned = r"chain 100 qB 80 + 47 75 tA 100 - 60 90 7\n9 1 0\n8 0 3\n10\n";
+    let record = "100 100 10 40 80 - 5 33 7 3 =tA =qB 10,5,10 23,15,8 31,24,9";
+    let numbers = |t_place: u64, q_place: u64| {
+        format!(
+            "100 {t_place}+2 80 47 75 {q_place}+2 100 60 90 - 7 3 rows 47,60,9 57,69,8 65,80,10"
+        )
+    };
+    cases(&[
+        (
+            &format!("u 3 {text}"),
+            &format!("u turned {} text {turned} check ok", numbers(25, 10)),
+        ),
+        (
+            &format!("u 3 {record}"),
+            &format!("u turned {} text {turned} check ok", numbers(2, 0)),
+        ),
+        (&format!("u 2 {text}"), "u refused 11 at 0"),
+        (
+            &format!("m 18 25 {text}"),
+            "m kept 4 dropped 3 query 63 67 tally 7 4 3",
+        ),
+        (
+            &format!("m 20 23 {record}"),
+            "m refused 12 at 0 tally 10 4 6",
+        ),
+        (
+            &format!("a 1 1 1 18 25 {text}"),
+            "a refused 10 at 0 tally 1 1 1",
+        ),
+        (&format!("m 20 20 {text}"), "m refused 13 at 0 tally 1 1 1"),
+        (
+            &format!("a 9223372036854775807 0 9223372036854775807 20 23 {text}"),
+            "a refused 5 at 0 tally 9223372036854775807 0 9223372036854775807",
+        ),
+    ]);
+}
+
 /// Every program that runs the library has its cases in `stdin`, and in `stdout` the answers of
 /// this command.
 #[test]

@@ -3,6 +3,7 @@
 pub mod bed_cases;
 pub mod chain_cases;
 pub mod escape;
+pub mod lift_cases;
 pub mod psl_cases;
 pub mod words;
 
@@ -41,14 +42,19 @@ fn part(part: Part) -> String {
     format!("{}+{}", part.start, part.length)
 }
 
+/// Rows of three numbers, a space before each.
+fn row_list(rows: &[Row]) -> String {
+    let row = |row: &Row| format!(" {},{},{}", row.target, row.query, row.size);
+    rows.iter().map(row).collect()
+}
+
 /// The answer of a reader: a record's columns, its rows, its standard text and what the record
 /// checker says; or the refusal.
 fn accepted(columns: &str, rows: &[Row], text: Answer<Vec<u8>>, check: Answer<()>) -> Vec<u8> {
-    let row = |row: &Row| format!(" {},{},{}", row.target, row.query, row.size);
     [
         columns.as_bytes(),
         b" rows",
-        rows.iter().map(row).collect::<String>().as_bytes(),
+        row_list(rows).as_bytes(),
         b" text ",
         &shown(text),
         b" check ",

@@ -1,0 +1,59 @@
+-- Whatever stores the bytes that are left completes the number. Assumes nothing.
+use borrow.Author.Needs.{needs}
+use Prim.Native.Nat.{_≤_}
+use mathlib.Core.Path.{_≡_, refl}
+use lib.ListN.{length}
+use Rattle.ledger.specs.Limits.{largestPlace}
+use Rattle.writing.proofs.PutLaws.{Completes, completes-all}
+use Rattle.binary.specs.Bytes.{lowBytes}
+use Rattle.binary.proofs.ByteLaws.{low-step, low-done}
+use Rattle.binary.proofs.put_low.Statement.{statement}
+use Rattle.binary.proofs.put_low.Tie as tie
+use Rattle.binary.proofs.put_low.Reads as reads
+use Rattle.binary.proofs.put_low.Lts as lts
+use Rattle.writing.proofs.put_byte.Reads as put-byte-reads
+
+abbrev Inv-loop : tie.InvT-loop
+Inv-loop buf₀ at n count p₀ rest₀ left₀ buf p rest left = (length buf ≡ length buf₀) × (length buf ≤ largestPlace) × (p ≤ largestPlace) × Completes (lowBytes left rest) p buf (lowBytes count n) at buf₀
+
+abbrev μ-loop : tie.MeasureT-loop
+μ-loop buf₀ at n count p₀ rest₀ left₀ buf p rest left = left
+
+loop-holds : tie.Need-loop-holds Inv-loop μ-loop
+loop-holds c = (refl, search needs, search needs, completes-all _ _ _)
+
+cast-put-byte : tie.Need-cast-put-byte Inv-loop μ-loop
+cast-put-byte c = search needs
+
+put-byte-requires : tie.Need-put-byte-requires Inv-loop μ-loop
+put-byte-requires c κs = search needs
+
+sub-left : tie.Need-sub-left Inv-loop μ-loop
+sub-left c = search needs
+
+loop-less : tie.Need-loop-less Inv-loop μ-loop
+loop-less c = search needs
+
+loop-again : tie.Need-loop-again Inv-loop μ-loop
+loop-again c = (search needs, search needs, search needs, search low-step)
+
+same-length : tie.Need-same-length Inv-loop μ-loop
+same-length c = search needs
+
+returns : tie.Need-returns Inv-loop μ-loop
+returns c = search low-done
+
+pub put-low-spec : {M : Type 1} → statement M
+put-low-spec =
+    tie.close
+    (tie.spec
+    Inv-loop
+    μ-loop
+    loop-holds
+    cast-put-byte
+    put-byte-requires
+    sub-left
+    loop-less
+    loop-again
+    same-length
+    returns)

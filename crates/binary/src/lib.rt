@@ -1,0 +1,109 @@
+// Numbers as bytes, the lowest first: stored in a lent buffer and read back. `put_` functions are as those of `writing`.
+ghost use mathlib.Core.Path.{_≡_};
+ghost use mathlib.Core.List.{[], _∷_};
+ghost use Prim.Native.Nat.{_+_, _≤_, min};
+ghost use Rattle.blocks.specs.Rows.{rowAs, tableOf};
+ghost use Rattle.writing.specs.Puts.{Put};
+ghost use Rattle.binary.specs.Bytes.{lowBytes, wordSize, wordsBytes, lowAt, rowsNumbers, ByteRead};
+
+// A number takes so many bytes where nothing else is said.
+pub const WORD_SIZE: usize = 8;
+
+// Stores the lowest so many bytes of a number.
+pub fn put_low(buf: &mut [u8], at: usize, n: u64, count: usize) -> usize
+    ensures { λ r. ⌜ Put (lowBytes count n) at (now (buf .entry)) (now (buf .exit)) r ⌝ }
+{
+    let mut p = at;
+    let mut rest = n;
+    let mut left = count;
+    while 0 < left {
+        p = writing::put_byte(buf, p, (rest % 256) as u8);
+        rest = rest / 256;
+        left -= 1;
+    }
+    p
+}
+
+// Stores numbers, a word each.
+pub fn put_words(buf: &mut [u8], at: usize, vs: &[u64]) -> usize
+    ensures { λ r. ⌜ Put (wordsBytes (now (vs .entry))) at (now (buf .entry)) (now (buf .exit)) r ⌝ }
+{
+    let mut p = at;
+    let mut i = 0;
+    while i < vs.len() {
+        p = put_low(buf, p, vs[i], WORD_SIZE);
+        i += 1;
+    }
+    p
+}
+
+// Stores the three numbers of a row.
+fn put_row(buf: &mut [u8], at: usize, target: u64, query: u64, size: u64) -> usize
+    ensures { λ r. ⌜ Put (wordsBytes (rowsNumbers (rowAs target query size ∷ []))) at (now (buf .entry)) (now (buf .exit)) r ⌝ }
+{
+    let p = put_low(buf, at, target, WORD_SIZE);
+    let q = put_low(buf, p, query, WORD_SIZE);
+    put_low(buf, q, size, WORD_SIZE)
+}
+
+// Stores the rows of three flat slices, as many as the shortest has.
+pub fn put_rows(buf: &mut [u8], at: usize, targets: &[u64], queries: &[u64], sizes: &[u64]) -> usize
+    ensures { λ r. ⌜ Put (wordsBytes (rowsNumbers (tableOf (now (targets .entry)) (now (queries .entry)) (now (sizes .entry))))) at
+        (now (buf .entry)) (now (buf .exit)) r ⌝ }
+{
+    let n = blocks::rows_of(targets, queries, sizes);
+    let mut p = at;
+    let mut i = 0;
+    while i < n {
+        p = put_row(buf, p, targets[i], queries[i], sizes[i]);
+        i += 1;
+    }
+    p
+}
+
+fn wide(b: u8) -> u64
+    ensures { λ r. ⌜ (r ≡ b) × (r ≤ 255) ⌝ }
+{
+    b as u64
+}
+
+// The byte so many places on, as a number; 0 past the end.
+fn byte_at(bytes: &[u8], at: usize, on: usize) -> u64
+    ensures { λ r. ⌜ ByteRead (now (bytes .entry)) (at + on) r ⌝ }
+{
+    if bytes.len() <= at {
+        return 0;
+    }
+    if bytes.len() - at <= on {
+        return 0;
+    }
+    wide(bytes[at + on])
+}
+
+// So many bytes, at most a word's.
+fn in_word(count: usize) -> usize
+    ensures { λ r. ⌜ r ≡ min count wordSize ⌝ }
+{
+    if WORD_SIZE < count { WORD_SIZE } else { count }
+}
+
+// The number that so many bytes from a place on make, at most a word's.
+pub fn low_at(bytes: &[u8], at: usize, count: usize) -> u64
+    ensures { λ r. ⌜ r ≡ lowAt (min count wordSize) (now (bytes .entry)) at ⌝ }
+{
+    let most = in_word(count);
+    let mut left = most;
+    let mut n = 0;
+    while 0 < left {
+        left -= 1;
+        n = byte_at(bytes, at, left) + 256 * n;
+    }
+    n
+}
+
+// The word at a place.
+pub fn word_at(bytes: &[u8], at: usize) -> u64
+    ensures { λ r. ⌜ r ≡ lowAt wordSize (now (bytes .entry)) at ⌝ }
+{
+    low_at(bytes, at, WORD_SIZE)
+}

@@ -1,0 +1,7 @@
+pub mod AnswerLaws
+pub mod StageLaws
+pub mod EntryLaws
+pub mod WriteLaws
+pub mod LiftLaws
+pub mod TallyLaws
+pub mod TurnLaws

@@ -1,0 +1,24 @@
+-- The reason's number fits below the place. Assumes nothing.
+use Rattle.desk.proofs.AnswerLaws.{code-fits}
+use borrow.Author.Needs.{needs}
+use Rattle.desk.proofs.refusal_code.Statement.{statement}
+use Rattle.desk.proofs.refusal_code.Tie as tie
+use Rattle.desk.proofs.refusal_code.Reads as reads
+use Rattle.desk.proofs.refusal_code.Lts as lts
+use Rattle.desk.proofs.told_as.Reads as told-as-reads
+use Rattle.ledger.proofs.Reason.number.Reads as number-reads
+
+told-as-requires : tie.Need-told-as-requires
+told-as-requires c κs = search needs
+
+number-requires : tie.Need-number-requires
+number-requires c κs = search needs
+
+add-result : tie.Need-add-result
+add-result c = search code-fits
+
+returns : tie.Need-returns
+returns c = search needs
+
+pub refusal-code-spec : {M : Type 1} → statement M
+refusal-code-spec = tie.close (tie.spec told-as-requires number-requires add-result returns)

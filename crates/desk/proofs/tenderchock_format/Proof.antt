@@ -1,0 +1,60 @@
+-- By kind. Assumes nothing.
+use Rattle.desk.proofs.EntryLaws.{formatted-bed, formatted-psl, formatted-chain, formatted-other}
+use borrow.Author.Needs.{needs}
+use Rattle.desk.proofs.tenderchock_format.Statement.{statement}
+use Rattle.desk.proofs.tenderchock_format.Tie as tie
+use Rattle.desk.proofs.tenderchock_format.Reads as reads
+use Rattle.desk.proofs.tenderchock_format.Lts as lts
+use Rattle.desk.proofs.format_bed.Reads as format-bed-reads
+use Rattle.desk.proofs.format_chain.Reads as format-chain-reads
+use Rattle.desk.proofs.format_psl.Reads as format-psl-reads
+use Rattle.desk.proofs.refused_by.Reads as refused-by-reads
+
+format-bed-requires : tie.Need-format-bed-requires
+format-bed-requires c κs = search needs
+
+format-psl-requires : tie.Need-format-psl-requires
+format-psl-requires c κs = search needs
+
+format-chain-requires : tie.Need-format-chain-requires
+format-chain-requires c κs = search needs
+
+refused-by-requires : tie.Need-refused-by-requires
+refused-by-requires c κs = search needs
+
+same-length : tie.Need-same-length
+same-length c = search needs
+
+returns : tie.Need-returns
+returns c = search (formatted-bed, formatted-psl, formatted-chain, formatted-other)
+
+same-length-2 : tie.Need-same-length-2
+same-length-2 c = search needs
+
+returns-2 : tie.Need-returns-2
+returns-2 c = search (formatted-bed, formatted-psl, formatted-chain, formatted-other)
+
+same-length-3 : tie.Need-same-length-3
+same-length-3 c = search needs
+
+returns-3 : tie.Need-returns-3
+returns-3 c = search (formatted-bed, formatted-psl, formatted-chain, formatted-other)
+
+returns-4 : tie.Need-returns-4
+returns-4 c = search (formatted-bed, formatted-psl, formatted-chain, formatted-other)
+
+pub tenderchock-format-spec : {M : Type 1} → statement M
+tenderchock-format-spec =
+    tie.close
+    (tie.spec
+    format-bed-requires
+    format-psl-requires
+    format-chain-requires
+    refused-by-requires
+    same-length
+    returns
+    same-length-2
+    returns-2
+    same-length-3
+    returns-3
+    returns-4)

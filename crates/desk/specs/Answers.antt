@@ -1,0 +1,60 @@
+-- What an entry answers (docs/DESK.md, "Answers"), and what the lent bytes hold then.
+use Prim.Native.Nat.{ℕ, _+_, _*_, _≤_, min}
+use mathlib.Core.Path.{_≡_}
+use mathlib.Core.Bool.{Bool, true, false}
+use mathlib.Core.List.{List, [], _++_}
+use lib.ListN.{length, drop}
+use lib.Dec.{leb, eqb}
+use Rattle.ledger.specs.declared.Reason.{Reason}
+use Rattle.ledger.specs.declared.Reason.the-variants.{BadWord, NoRoom}
+use Rattle.ledger.specs.declared.Refusal.{Refusal}
+use Rattle.ledger.specs.Reasons.{reasonNumber}
+use Rattle.binary.specs.Bytes.{wordsBytes}
+
+-- places and counts over this are told as this: 2^60 − 1
+abbrev pub mostTold : ℕ
+mostTold = 1152921504606846975
+
+-- 16 × value; the reason of a refusal is added
+unfoldable pub told : ℕ → ℕ
+told value = 16 * min value mostTold
+
+-- the answer, and the bytes that stand at the front of what was lent; those past them stay as they were
+pub record Outcome : Type 0 where
+  pub answer : ℕ
+  pub bytes : List ℕ
+
+-- accepted, with a count
+abbrev pub gives : ℕ → List ℕ → Outcome
+gives count bytes = record { answer = told count; bytes = bytes }
+
+abbrev pub refusalCode : Refusal → ℕ
+refusalCode x = told (x .place) + reasonNumber (x .reason)
+
+-- refused, with nothing written
+abbrev pub refuses : Refusal → Outcome
+refuses x = record { answer = refusalCode x; bytes = [] }
+
+abbrev pub refusesBy : Reason → ℕ → Outcome
+refusesBy why place = refuses (record { reason = why; place = place })
+
+abbrev pub pickOutcome : Bool → Outcome → Outcome → Outcome
+pickOutcome true a b = a
+pickOutcome false a b = b
+
+-- what an entry promises of its answer and of what was lent to it
+pub record Answered (o : Outcome) (before after : List ℕ) (r : ℕ) : Type 0 where
+  pub is : r ≡ o .answer
+  pub left : after ≡ o .bytes ++ drop (length (o .bytes)) before
+
+-- bytes into so much room, or 11 at the text's end
+unfoldable pub roomed : ℕ → ℕ → ℕ → List ℕ → Outcome
+roomed end room count bytes = pickOutcome (leb (length bytes) room) (gives count bytes) (refusesBy NoRoom end)
+
+-- numbers, 8 bytes each, the lowest first; the count is how many
+unfoldable pub numbered : ℕ → ℕ → List ℕ → Outcome
+numbered end room vs = roomed end room (length vs) (wordsBytes vs)
+
+-- by the kind of text: 1 BED, 2 PSL, 3 chain; any other is 6 at place 0
+unfoldable pub byKind : ℕ → Outcome → Outcome → Outcome → Outcome
+byKind kind bed psl chain = pickOutcome (eqb kind 1) bed (pickOutcome (eqb kind 2) psl (pickOutcome (eqb kind 3) chain (refusesBy BadWord 0)))

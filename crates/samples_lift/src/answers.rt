@@ -1,0 +1,235 @@
+// The questions about a chain handed in, and their answers as bytes.
+use crate::drifts;
+use crate::entries;
+use chain::Chain;
+use ledger::Part;
+use lift::PositionAnswer;
+use lift::SpanAnswer;
+use region::RegionAnswer;
+use region::Tally;
+use turn::TurnAnswer;
+
+fn put_position(out: &mut [u8], at: usize, answer: PositionAnswer) -> usize {
+    match answer {
+        PositionAnswer::Lifted(partner, drift) => {
+            let a = cases::put_labelled(out, at, b"lifted ", partner);
+            drifts::put_drift(out, a, drift)
+        }
+        PositionAnswer::Refused(x) => cases::put_refusal(out, at, x),
+    }
+}
+
+fn put_region(out: &mut [u8], at: usize, answer: RegionAnswer) -> usize {
+    match answer {
+        RegionAnswer::Lifted(r) => {
+            let a = cases::put_labelled(out, at, b"kept ", r.kept);
+            let b = cases::put_labelled(out, a, b" dropped ", r.dropped);
+            let c = writing::put_bytes(out, b, b" query");
+            cases::put_spaced(out, c, &[r.start, r.end])
+        }
+        RegionAnswer::Refused(x) => cases::put_refusal(out, at, x),
+    }
+}
+
+// Puts a tally's three numbers into a lent table.
+fn keep_tally(tally: &mut [u64], asked: u64, kept: u64, dropped: u64) {
+    numbers::store(tally, 0, asked);
+    numbers::store(tally, 1, kept);
+    numbers::store(tally, 2, dropped);
+}
+
+// A region with a tally: its answer, and the tally that it leaves.
+fn tally_case(
+    start: u64,
+    end: u64,
+    c: Chain,
+    targets: &[u64],
+    queries: &[u64],
+    sizes: &[u64],
+    tally: &mut [u64],
+    out: &mut [u8],
+    at: usize,
+) -> usize {
+    let before = Tally {
+        asked: columns::value_at(tally, 0),
+        kept: columns::value_at(tally, 1),
+        dropped: columns::value_at(tally, 2),
+    };
+    let done = entries::tally_region(before, c, targets, queries, sizes, start, end);
+    let answer = done.answer;
+    let after = done.tally;
+    keep_tally(tally, after.asked, after.kept, after.dropped);
+    let a = put_region(out, at, answer);
+    let b = writing::put_bytes(out, a, b" tally");
+    cases::put_spaced(out, b, &[after.asked, after.kept, after.dropped])
+}
+
+// The same with a tally that the case hands in.
+fn new_tally_case(
+    line: &[u8],
+    c: Chain,
+    targets: &[u64],
+    queries: &[u64],
+    sizes: &[u64],
+    tally: &mut [u64],
+    out: &mut [u8],
+    at: usize,
+) -> usize {
+    let asked = cases::number_at(line, 0);
+    let kept = cases::number_at(line, 1);
+    keep_tally(tally, asked, kept, cases::number_at(line, 2));
+    let start = cases::number_at(line, 3);
+    let end = cases::number_at(line, 4);
+    tally_case(start, end, c, targets, queries, sizes, tally, out, at)
+}
+
+// One side of a record: its name by place and length, its size and its span.
+fn put_side(out: &mut [u8], at: usize, name: Part, size: u64, start: u64, end: u64) -> usize {
+    let a = cases::put_part(out, at, name);
+    cases::put_spaced(out, a, &[size, start, end])
+}
+
+fn put_record(out: &mut [u8], at: usize, d: Chain) -> usize {
+    let tName = d.tName;
+    let qName = d.qName;
+    let strand = d.qStrand;
+    let a = cases::put_labelled(out, at, b"turned ", d.score);
+    let b = put_side(out, a, tName, d.tSize, d.tStart, d.tEnd);
+    let c = put_side(out, b, qName, d.qSize, d.qStart, d.qEnd);
+    let e = cases::put_strand(out, c, strand);
+    cases::put_spaced(out, e, &[d.id, d.blockCount])
+}
+
+// The standard text of a turned chain, and what the record checker says.
+fn put_standard(
+    out: &mut [u8],
+    at: usize,
+    d: Chain,
+    page: &[u8],
+    targets: &[u64],
+    queries: &[u64],
+    sizes: &[u64],
+) -> usize {
+    let t = text::name_in(page, d.tName);
+    let q = text::name_in(page, d.qName);
+    let mut buf = cases::marked_bytes();
+    let written = chain::write_chain(d, t, q, targets, queries, sizes, &mut buf);
+    let a = writing::put_bytes(out, at, b" text ");
+    let b = cases::put_text(out, a, &buf, written);
+    let c = writing::put_bytes(out, b, b" check ");
+    cases::put_check(out, c, chain::check_chain(d, targets, queries, sizes))
+}
+
+// What a turn answers, and what it left in the tables.
+fn put_turn(
+    out: &mut [u8],
+    at: usize,
+    answer: TurnAnswer,
+    page: &[u8],
+    targets: &[u64],
+    queries: &[u64],
+    sizes: &[u64],
+) -> usize {
+    match answer {
+        TurnAnswer::Turned(d) => {
+            let count = d.blockCount as usize;
+            let a = put_record(out, at, d);
+            let b = writing::put_bytes(out, a, b" rows");
+            let c = cases::put_rows(out, b, targets, queries, sizes, count);
+            let e = cases::put_kept(out, c, cases::rows_kept(targets, queries, sizes, count));
+            put_standard(out, e, d, page, targets, queries, sizes)
+        }
+        TurnAnswer::Refused(x) => {
+            let a = cases::put_refusal(out, at, x);
+            cases::put_kept(out, a, cases::rows_kept(targets, queries, sizes, 0))
+        }
+    }
+}
+
+// A turn into the first rows of marked tables.
+fn turn_into(
+    room: usize,
+    c: Chain,
+    targets: &[u64],
+    queries: &[u64],
+    sizes: &[u64],
+    newTargets: &mut [u64],
+    newQueries: &mut [u64],
+    newSizes: &mut [u64],
+) -> TurnAnswer {
+    let t = cases::least(room, newTargets.len());
+    let q = cases::least(room, newQueries.len());
+    let z = cases::least(room, newSizes.len());
+    entries::turn_chain(
+        c,
+        targets,
+        queries,
+        sizes,
+        &mut newTargets[0..t],
+        &mut newQueries[0..q],
+        &mut newSizes[0..z],
+    )
+}
+
+fn turn_case(
+    line: &[u8],
+    c: Chain,
+    page: &[u8],
+    targets: &[u64],
+    queries: &[u64],
+    sizes: &[u64],
+    out: &mut [u8],
+    at: usize,
+) -> usize {
+    let room = cases::number_at(line, 0) as usize;
+    let mut t = cases::marked_rows();
+    let mut q = cases::marked_rows();
+    let mut z = cases::marked_rows();
+    let answer = turn_into(room, c, targets, queries, sizes, &mut t, &mut q, &mut z);
+    put_turn(out, at, answer, page, &t, &q, &z)
+}
+
+// The answer to a case's question about a chain.
+pub(crate) fn answer(
+    letter: u8,
+    line: &[u8],
+    c: Chain,
+    page: &[u8],
+    targets: &[u64],
+    queries: &[u64],
+    sizes: &[u64],
+    tally: &mut [u64],
+    out: &mut [u8],
+    at: usize,
+) -> usize {
+    let first = cases::number_at(line, 0);
+    let second = cases::number_at(line, 1);
+    match letter {
+        b'p' => put_position(
+            out,
+            at,
+            entries::lift_position(c, targets, queries, sizes, first),
+        ),
+        b'g' => put_region(
+            out,
+            at,
+            entries::lift_region(c, targets, queries, sizes, first, second),
+        ),
+        b'u' => turn_case(line, c, page, targets, queries, sizes, out, at),
+        b'm' => tally_case(first, second, c, targets, queries, sizes, tally, out, at),
+        _ => new_tally_case(line, c, targets, queries, sizes, tally, out, at),
+    }
+}
+
+// A span converted to the other strand.
+pub(crate) fn convert_case(line: &[u8], out: &mut [u8], at: usize) -> usize {
+    let start = cases::number_at(line, 0);
+    let end = cases::number_at(line, 1);
+    match lift::convert(start, end, cases::number_at(line, 2)) {
+        SpanAnswer::Converted(span) => {
+            let a = writing::put_bytes(out, at, b"span");
+            cases::put_spaced(out, a, &[span.start, span.end])
+        }
+        SpanAnswer::Refused(x) => cases::put_refusal(out, at, x),
+    }
+}
