@@ -87,11 +87,7 @@ fn psl(dice: &mut Dice) -> Draft {
         true => query.turned(),
         false => (query.start, query.end),
     };
-    let bases: u64 = blocks.iter().map(|block| block.size).sum();
-    let matches = dice.between(0, bases);
-    let mis_matches = dice.between(0, bases - matches);
-    let rep_matches = dice.between(0, bases - matches - mis_matches);
-    let n_count = bases - matches - mis_matches - rep_matches;
+    let [matches, mis_matches, rep_matches, n_count] = counts(dice, blocks);
     let gaps = |gap: fn(&Block) -> u64| {
         let count = blocks.iter().filter(|block| gap(block) > 0).count() as u64;
         (number(count), number(blocks.iter().map(gap).sum()))
@@ -121,6 +117,17 @@ fn psl(dice: &mut Dice) -> Draft {
         list(dice, starts(blocks, query.start, |block| block.dq)),
         list(dice, starts(blocks, target.start, |block| block.dt)),
     ]]
+}
+
+/// Four counts that add up to the bases of the blocks.
+fn counts(dice: &mut Dice, blocks: &[Block]) -> [u64; 4] {
+    let mut left = blocks.iter().map(|block| block.size).sum();
+    let first = [0; 3].map(|_| {
+        let count = dice.between(0, left);
+        left -= count;
+        count
+    });
+    [first[0], first[1], first[2], left]
 }
 
 fn chain(dice: &mut Dice) -> Draft {

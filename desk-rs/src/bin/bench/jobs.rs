@@ -40,47 +40,64 @@ const REGIONS: u64 = 10_000;
 /// The jobs; `small` has fewer regions, for counting instructions.
 pub fn all(small: bool) -> Vec<Job> {
     let regions = if small { REGIONS / 100 } else { REGIONS };
-    let lines = |name, about, kind, text| Job {
+    let bed = job(
+        "bed",
+        "a BED line of 12 words with 512 blocks, parsed",
+        Kind::Bed,
+        bed(),
+    );
+    let psl = job(
+        "psl",
+        "a PSL line with 512 blocks, parsed",
+        Kind::Psl,
+        psl(),
+    );
+    let chain = job(
+        "chain",
+        "a chain of 512 blocks, parsed",
+        Kind::Chain,
+        chain(),
+    );
+    let scores = Job {
+        work: Work::Check(Kind::Chain),
+        texts: self::scores(),
+        units: NUMBERS,
+        ..job("scores", SCORES, Kind::Chain, Vec::new())
+    };
+    let list = Job {
+        work: Work::Check(Kind::Bed),
+        units: NUMBERS,
+        unit: "number",
+        ..job("list", LIST, Kind::Bed, long_list())
+    };
+    let lift = Job {
+        work: Work::Lift,
+        regions: (0..regions).map(region).collect(),
+        units: regions,
+        unit: "region",
+        ..job("lift", LIFT, Kind::Chain, chain.texts[0].clone())
+    };
+    vec![scores, list, bed, psl, chain, lift]
+}
+
+const SCORES: &str =
+    "3,000 numbers of 1 to 18 digits, each the score of a chain of one block, checked";
+const LIST: &str = "3,000 numbers of 1 to 10 digits in one list of a BED line, \
+     which is read to its end and refused by 8";
+const LIFT: &str =
+    "10,000 regions lifted one by one through that chain, whose text is handed in each time";
+
+/// One text parsed.
+fn job(name: &'static str, about: &'static str, kind: Kind, text: Vec<u8>) -> Job {
+    Job {
         name,
         about,
         work: Work::Parse(kind),
         texts: vec![text],
         regions: Vec::new(),
         units: 1,
-        unit: "line",
-    };
-    vec![
-        Job {
-            name: "scores",
-            about: "3,000 numbers of 1 to 18 digits, each the score of a chain of one block, checked",
-            work: Work::Check(Kind::Chain),
-            texts: scores(),
-            regions: Vec::new(),
-            units: NUMBERS,
-            unit: "chain",
-        },
-        Job {
-            name: "list",
-            about: "3,000 numbers of 1 to 10 digits in one list of a BED line, which is read to its end and refused by 8",
-            work: Work::Check(Kind::Bed),
-            texts: vec![long_list()],
-            regions: Vec::new(),
-            units: NUMBERS,
-            unit: "number",
-        },
-        lines("bed", "a BED line of 12 words with 512 blocks, parsed", Kind::Bed, bed()),
-        lines("psl", "a PSL line with 512 blocks, parsed", Kind::Psl, psl()),
-        Job { unit: "chain", ..lines("chain", "a chain of 512 blocks, parsed", Kind::Chain, chain()) },
-        Job {
-            name: "lift",
-            about: "10,000 regions lifted one by one through that chain, whose text is handed in each time",
-            work: Work::Lift,
-            texts: vec![chain()],
-            regions: (0..regions).map(region).collect(),
-            units: regions,
-            unit: "region",
-        },
-    ]
+        unit: if kind == Kind::Chain { "chain" } else { "line" },
+    }
 }
 
 impl Job {

@@ -15,16 +15,20 @@ use jobs::{Job, Lent, Side};
 const HELP: &str = "\
 bench: times the jobs of docs/BENCHMARKS.md, through the library and in plain Rust
 
-  bench [JOB..]                  times: warm-up, then the median of 15 samples of each side in turn
+  bench [JOB..]                  times: warm-up, then the median of many short samples of each side in turn
   bench --instructions [JOB..]   instructions, counted by valgrind --tool=callgrind
 
 Without a JOB, all: scores, list, bed, psl, chain, lift.
 ";
 
-/// Samples of each side; their median counts.
-const SAMPLES: usize = 15;
+/// Samples of each side, the two in turn; their median counts. A short sample is
+/// seldom disturbed by other work of the machine.
+const SAMPLES: usize = 301;
 /// How long one sample takes at least.
-const SAMPLE: Duration = Duration::from_millis(20);
+const SAMPLE: Duration = Duration::from_millis(1);
+/// Where samples take long, these are enough after so long a time.
+const ENOUGH: usize = 9;
+const LONG: Duration = Duration::from_secs(10);
 /// Damaged texts on which both sides must answer the same before anything is timed.
 const DAMAGED: u64 = 500;
 
@@ -33,6 +37,10 @@ fn main() -> ExitCode {
     let words: Vec<&str> = words.iter().map(String::as_str).collect();
     let done = match &words[..] {
         ["--once", job, side, rounds] => once(job, side, rounds),
+        ["--help"] => {
+            print!("{HELP}");
+            Ok(())
+        }
         ["--instructions", names @ ..] => chosen(names, true).and_then(instructions),
         names => chosen(names, false).and_then(times),
     };
@@ -60,40 +68,53 @@ fn chosen(names: &[&str], small: bool) -> Result<Vec<Job>, String> {
 
 /// Times these jobs on both sides.
 fn times(jobs: Vec<Job>) -> Result<(), String> {
-    println!("| Job | Library | Rust | Library : Rust |\n|---|---|---|---|");
+    println!("| Job | Library | Rust | Library : Rust | least : least |\n|---|---|---|---|---|");
     for job in jobs {
         if !job.sides_agree(DAMAGED) {
             return Err(format!("{}: the two sides answer differently", job.name));
         }
-        let (library, rust) = timed(&job);
+        let [library, rust] = timed(&job);
         let unit = |time: f64| format!("{} per {}", shown(time / job.units as f64), job.unit);
-        let ratio = library / rust;
         println!(
-            "| {}: {} | {} | {} | {ratio:.2} |",
+            "| {}: {} | {} | {} | {:.2} | {:.2} |",
             job.name,
             job.about,
-            unit(library),
-            unit(rust)
+            unit(library.median),
+            unit(rust.median),
+            library.median / rust.median,
+            library.least / rust.least,
         );
     }
     Ok(())
 }
 
-/// The medians of both sides in nanoseconds a round, sampled in turn.
-fn timed(job: &Job) -> (f64, f64) {
+/// Nanoseconds a round. On a busy machine the least tells more than the median.
+struct Timed {
+    median: f64,
+    least: f64,
+}
+
+/// The library's times and plain Rust's, sampled in turn.
+fn timed(job: &Job) -> [Timed; 2] {
     let mut lent = Lent::new();
     let sides = [Side::Library, Side::Rust];
     let rounds = sides.map(|side| rounds_per_sample(job, side, &mut lent));
     let mut samples = [Vec::new(), Vec::new()];
-    for _ in 0..SAMPLES {
+    let start = Instant::now();
+    while samples[1].len() < SAMPLES && (samples[1].len() < ENOUGH || start.elapsed() < LONG) {
         for (at, side) in sides.into_iter().enumerate() {
             let start = Instant::now();
             (0..rounds[at]).for_each(|_| job.run(side, &mut lent));
             samples[at].push(start.elapsed().as_nanos() as f64 / rounds[at] as f64);
         }
     }
-    let [library, rust] = samples.map(median);
-    (library, rust)
+    samples.map(|mut samples| {
+        samples.sort_by(f64::total_cmp);
+        Timed {
+            median: samples[samples.len() / 2],
+            least: samples[0],
+        }
+    })
 }
 
 /// Warms up, and finds how many rounds fill a sample.
@@ -107,11 +128,6 @@ fn rounds_per_sample(job: &Job, side: Side, lent: &mut Lent) -> u64 {
         }
         rounds *= 2;
     }
-}
-
-fn median(mut samples: Vec<f64>) -> f64 {
-    samples.sort_by(f64::total_cmp);
-    samples[samples.len() / 2]
 }
 
 fn shown(nanoseconds: f64) -> String {

@@ -123,20 +123,25 @@ fn read_words(text: &[u8], line: &Split<12>, rows: &mut Rows) -> Answer<Bed> {
         bed.colour = colour(text, words[8])?;
     }
     if count > 9 {
-        let blocks = number(text, words[9], (1, BLOCK_LIMIT as u64))?;
-        bed.block_count = blocks as usize;
-        list_of(text, words[10], (1, LIMIT), blocks, |at, size| {
-            if let Some(row) = rows.get_mut(at) {
-                row.size = size;
-            }
-        })?;
-        list_of(text, words[11], COORDINATE, blocks, |at, start| {
-            if let Some(row) = rows.get_mut(at) {
-                row.target = start;
-            }
-        })?;
+        bed.block_count = blocks(text, &words[9..], rows)?;
     }
     Ok(bed)
+}
+
+/// blockCount, blockSizes and blockStarts.
+fn blocks(text: &[u8], words: &[Word], rows: &mut Rows) -> Answer<usize> {
+    let blocks = number(text, words[0], (1, BLOCK_LIMIT as u64))?;
+    list_of(text, words[1], (1, LIMIT), blocks, |at, size| {
+        if let Some(row) = rows.get_mut(at) {
+            row.size = size;
+        }
+    })?;
+    list_of(text, words[2], COORDINATE, blocks, |at, start| {
+        if let Some(row) = rows.get_mut(at) {
+            row.target = start;
+        }
+    })?;
+    Ok(blocks as usize)
 }
 
 fn colour(text: &[u8], word: Word) -> Answer<u64> {
