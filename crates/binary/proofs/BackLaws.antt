@@ -1,5 +1,5 @@
 -- Reading back what was stored gives the number. Assumes nothing.
-use mathlib.Core.Path.{_≡_, refl, sym, ap, _∙_}
+use mathlib.Core.Path.{_≡_, refl, ap, _∙_}
 use mathlib.Core.List.{List, [], _∷_, _++_, append-assoc}
 use Prim.Native.Nat.{ℕ, zero, suc, _+_, _*_, _/_, _%_, _^_, _≤_, _<_}
 use native.Mathlib.Omega.{arith}
@@ -8,7 +8,7 @@ use lib.ListN.{length, getD, take, drop, length-append}
 use lib.Seq.{sets, sets-eq, length-take-le}
 use Rattle.ledger.specs.declared.Row.{Row}
 use Rattle.ledger.specs.Limits.{largestNumber}
-use Rattle.numbers.specs.Ranges.{Between, between-none, between-more}
+use Rattle.numbers.specs.Ranges.{Between, between-more}
 use Rattle.writing.specs.Puts.{Put}
 use Rattle.binary.specs.Bytes.{lowBytes, wordSize, wordsBytes, lowAt, rowsNumbers}
 

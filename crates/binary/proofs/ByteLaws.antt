@@ -1,17 +1,17 @@
 -- Laws of numbers as bytes: storing them one after the other, and reading them back. Assumes nothing.
-use mathlib.Core.Path.{_≡_, refl, sym, ap, _∙_}
+use mathlib.Core.Path.{_≡_, refl, ap}
 use mathlib.Core.List.{List, [], _∷_, _++_, append-assoc}
 use Prim.Native.Nat.{ℕ, zero, suc, _+_, _-_, _*_, _/_, _%_, _^_, _≤_, _<_, min}
 use native.Mathlib.Omega.{arith}
 use native.Mathlib.Nat.{pow-suc}
 use native.Mathlib.Numerals.{add-one}
-use lib.ListN.{length, getD, take, drop, length-append, drop-of-length-le}
+use lib.ListN.{length, getD, take, drop, drop-of-length-le}
 use lib.Seq.{drop-cons, take-all}
 use Rattle.ledger.specs.declared.Row.{Row}
 use Rattle.ledger.specs.Limits.{largestPlace}
 use Rattle.blocks.specs.Blocks.{rowsOf}
 use Rattle.blocks.specs.Rows.{rowAs, rowAt, tableOf}
-use Rattle.blocks.proofs.TableLaws.{table-length, taken-cons, taken-end}
+use Rattle.blocks.proofs.TableLaws.{table-length, taken-cons}
 use Rattle.writing.specs.Puts.{Put}
 use Rattle.writing.proofs.PutLaws.{put-then, Completes, completes-step, completes-done}
 use Rattle.binary.specs.Bytes.{lowBytes, wordSize, wordsBytes, lowAt, rowsNumbers, ByteRead}

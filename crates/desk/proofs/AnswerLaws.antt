@@ -1,11 +1,11 @@
 -- Laws of the answers: codes, and numbers put at the front of what was lent. Assumes nothing.
-use mathlib.Core.Path.{_≡_, refl, sym, ap, _∙_}
-use mathlib.Core.List.{List, [], _∷_, _++_}
-use Prim.Native.Nat.{ℕ, _+_, _*_, _^_, _≤_, _<_, min}
+use mathlib.Core.Path.{_≡_, refl, _∙_}
+use mathlib.Core.List.{List, _++_}
+use Prim.Native.Nat.{ℕ, _+_, _*_, _/_, _%_, _^_, _≤_, _<_, min}
 use native.Mathlib.Omega.{arith}
 use lib.ListN.{length, take, drop, length-append, length-take}
 use lib.Seq.{sets, sets-eq, length-take-le}
-use borrow.Author.Tests.{le-leb, lt-leb, eq-eqb, ne-eqb}
+use borrow.Author.Tests.{le-leb, lt-leb, ne-eqb}
 use Rattle.ledger.specs.declared.Reason.{Reason}
 use Rattle.ledger.specs.declared.Reason.the-variants.{TextTooLong, WrongCount, ByteNotAllowed, NumberMisspelt, NumberOutOfRange, BadWord, SpanDisagrees, ListLength, BlockRules, CountsDisagree, NoRoom, NoPair, OutsideTarget}
 use Rattle.ledger.specs.declared.Refusal.{Refusal}
@@ -17,7 +17,7 @@ use Rattle.writing.proofs.PutLaws.{put-then}
 use Rattle.binary.specs.Bytes.{wordSize, wordsBytes, rowsNumbers}
 use Rattle.binary.proofs.ByteLaws.{words-append}
 use Rattle.binary.proofs.BackLaws.{words-length, rows-length}
-use Rattle.desk.specs.Answers.{mostTold, told, refusalCode, Outcome, gives, refuses, refusesBy, Answered, roomed, numbered, byKind}
+use Rattle.desk.specs.Answers.{mostTold, told, refusalCode, Outcome, refuses, refusesBy, Answered, roomed, numbered, byKind}
 use Rattle.desk.specs.Records.{Answerable}
 use Rattle.desk.specs.Entries.{recorded}
 
@@ -109,20 +109,58 @@ module _ (end n : ℕ) (fields ts qs zs b : List ℕ) (a : Answerable n fields t
       let k : count ≡ length all = omega (arith, all-length) in
       numbers-put end all b b₂ q r (omega (arith, all-length)) (rw (words-append fields (rowsNumbers (tableOf (take n ts) (take n qs) (take n zs)))) (put-then f g)) (rw k at e)
 
--- the kinds of text
+-- an answer tells its reason and its value
+pub accepted-reason : (v : ℕ) → told v % 16 ≡ 0
+unfolding told
+accepted-reason v = omega arith
+
+pub refused-reason : (x : Refusal) → refusalCode x % 16 ≡ reasonNumber (x .reason)
+unfolding told
+refused-reason x = omega (arith, reason-few (x .reason))
+
+pub told-value : (v n : ℕ) → n ≤ 13 → v ≤ mostTold → (told v + n) / 16 ≡ v
+unfolding told
+told-value v n h l = omega arith
+
+-- by the kind of text
 module _ (kind : ℕ) (x y z : Outcome) where
-  pub kind-bed : kind ≡ 1 → byKind kind x y z ≡ x
+  kind-bed : kind ≡ 1 → byKind kind x y z ≡ x
   unfolding byKind
   kind-bed e = rw e
 
-  pub kind-psl : kind ≡ 2 → byKind kind x y z ≡ y
+  kind-psl : kind ≡ 2 → byKind kind x y z ≡ y
   unfolding byKind
   kind-psl e = rw e
 
-  pub kind-chain : kind ≡ 3 → byKind kind x y z ≡ z
+  kind-chain : kind ≡ 3 → byKind kind x y z ≡ z
   unfolding byKind
   kind-chain e = rw e
 
-  pub kind-other : (kind ≡ 1 → ⊥) → (kind ≡ 2 → ⊥) → (kind ≡ 3 → ⊥) → byKind kind x y z ≡ refusesBy BadWord 0
+  kind-other : (kind ≡ 1 → ⊥) → (kind ≡ 2 → ⊥) → (kind ≡ 3 → ⊥) → byKind kind x y z ≡ refusesBy BadWord 0
   unfolding byKind
   kind-other f g h = rw (ne-eqb kind 1 f, ne-eqb kind 2 g, ne-eqb kind 3 h)
+
+  module _ (r : ℕ) where
+    pub code-bed : kind ≡ 1 → r ≡ x .answer → r ≡ byKind kind x y z .answer
+    code-bed e q = rw (kind-bed e) q
+
+    pub code-psl : kind ≡ 2 → r ≡ y .answer → r ≡ byKind kind x y z .answer
+    code-psl e q = rw (kind-psl e) q
+
+    pub code-chain : kind ≡ 3 → r ≡ z .answer → r ≡ byKind kind x y z .answer
+    code-chain e q = rw (kind-chain e) q
+
+    pub code-other : (kind ≡ 1 → ⊥) → (kind ≡ 2 → ⊥) → (kind ≡ 3 → ⊥) → r ≡ refusesBy BadWord 0 .answer → r ≡ byKind kind x y z .answer
+    code-other f g h q = rw (kind-other f g h) q
+
+    pub by-bed : (b b′ : List ℕ) → kind ≡ 1 → Answered x b b′ r → Answered (byKind kind x y z) b b′ r
+    by-bed b b′ e q = rw (kind-bed e) q
+
+    pub by-psl : (b b′ : List ℕ) → kind ≡ 2 → Answered y b b′ r → Answered (byKind kind x y z) b b′ r
+    by-psl b b′ e q = rw (kind-psl e) q
+
+    pub by-chain : (b b′ : List ℕ) → kind ≡ 3 → Answered z b b′ r → Answered (byKind kind x y z) b b′ r
+    by-chain b b′ e q = rw (kind-chain e) q
+
+    pub by-other : (b : List ℕ) → (kind ≡ 1 → ⊥) → (kind ≡ 2 → ⊥) → (kind ≡ 3 → ⊥) → r ≡ refusesBy BadWord 0 .answer → Answered (byKind kind x y z) b b r
+    by-other b f g h q = rw (kind-other f g h) (refused-is (record { reason = BadWord; place = 0 }) b r q)

@@ -1,13 +1,11 @@
 -- The entries, from their parts. Assumes nothing.
-use mathlib.Core.Path.{_≡_, refl, sym, ap, _∙_}
-use mathlib.Core.List.{List, [], _∷_, _++_}
-use Prim.Native.Nat.{ℕ, _+_, _≤_}
+use mathlib.Core.Path.{_≡_, sym, _∙_}
+use mathlib.Core.List.{List, [], _∷_}
+use Prim.Native.Nat.{ℕ, _≤_}
 use native.Mathlib.Omega.{arith}
 use lib.ListN.{length, take}
-use Rattle.ledger.specs.declared.Reason.the-variants.{BadWord}
 use Rattle.ledger.specs.declared.Refusal.{Refusal}
 use Rattle.ledger.specs.declared.Row.{Row}
-use Rattle.ledger.specs.Limits.{blockLimit}
 use Rattle.blocks.specs.Rows.{tableOf}
 use Rattle.bed.specs.declared.Bed.{Bed}
 use Rattle.bed.specs.declared.BedAnswer.{BedAnswer}
@@ -26,10 +24,10 @@ use Rattle.lift.specs.declared.SpanAnswer.{SpanAnswer}
 use Rattle.lift.specs.declared.SpanAnswer.the-variants as span
 use Rattle.lift.specs.Accepted.{Wide}
 use Rattle.lift.specs.Conversion.{converted}
-use Rattle.desk.specs.Answers.{told, refusalCode, Outcome, gives, refuses, Answered, numbered, byKind}
-use Rattle.desk.specs.Records.{bedNumbers, pslNumbers, chainNumbers, bedRows, pslRows, chainRows, Staging, Held, Answerable, BedStaged, PslStaged, ChainStaged}
-use Rattle.desk.specs.Entries.{ofBed, ofPsl, ofChain, checkedBed, checkedPsl, checkedChain, checked, recorded, parsedBed, parsedPsl, parsedChain, parsed, ofSpan, convertedNumbers, bedWritten, pslWritten, chainWritten, formattedBed, formattedPsl, formattedChain, formatted}
-use Rattle.desk.proofs.AnswerLaws.{refused-is, kind-bed, kind-psl, kind-chain, kind-other}
+use Rattle.desk.specs.Answers.{told, refusalCode, Outcome, Answered, numbered}
+use Rattle.desk.specs.Records.{bedNumbers, pslNumbers, chainNumbers, bedRows, pslRows, chainRows, Held, Answerable, BedStaged, PslStaged, ChainStaged}
+use Rattle.desk.specs.Entries.{ofBed, ofPsl, ofChain, checkedBed, checkedPsl, checkedChain, recorded, parsedBed, parsedPsl, parsedChain, convertedNumbers, bedWritten, pslWritten, chainWritten, formattedBed, formattedPsl, formattedChain}
+use Rattle.desk.proofs.AnswerLaws.{refused-is}
 
 -- the rows of the room are those of the text
 held-rows : (n : ℕ) (ts qs zs ts′ qs′ zs′ : List ℕ) → Held n ts qs zs ts′ qs′ zs′ → tableOf (take n ts′) (take n qs′) (take n zs′) ≡ tableOf ts qs zs
@@ -163,55 +161,3 @@ module _ (start end size : ℕ) (x : SpanAnswer) (f : x ≡ converted start end 
       → Answered (convertedNumbers start end size (length b)) b b′ r
   unfolding convertedNumbers
   convert-accepted y b′ r e g = rw (sym f ∙ e) g
-
--- by kind
-module _ (kind : ℕ) (s : List ℕ) (r : ℕ) where
-  pub checked-bed : kind ≡ 1 → r ≡ checkedBed s .answer → r ≡ checked kind s .answer
-  unfolding checked
-  checked-bed e q = rw (kind-bed kind (checkedBed s) (checkedPsl s) (checkedChain s) e) q
-
-  pub checked-psl : kind ≡ 2 → r ≡ checkedPsl s .answer → r ≡ checked kind s .answer
-  unfolding checked
-  checked-psl e q = rw (kind-psl kind (checkedBed s) (checkedPsl s) (checkedChain s) e) q
-
-  pub checked-chain : kind ≡ 3 → r ≡ checkedChain s .answer → r ≡ checked kind s .answer
-  unfolding checked
-  checked-chain e q = rw (kind-chain kind (checkedBed s) (checkedPsl s) (checkedChain s) e) q
-
-  pub checked-other : (kind ≡ 1 → ⊥) → (kind ≡ 2 → ⊥) → (kind ≡ 3 → ⊥) → r ≡ refusalCode (record { reason = BadWord; place = 0 }) → r ≡ checked kind s .answer
-  unfolding checked
-  checked-other f g h q = rw (kind-other kind (checkedBed s) (checkedPsl s) (checkedChain s) f g h) q
-
-module _ (kind : ℕ) (s b b′ : List ℕ) (r : ℕ) where
-  pub parsed-bed : kind ≡ 1 → Answered (parsedBed s (length b)) b b′ r → Answered (parsed kind s (length b)) b b′ r
-  unfolding parsed
-  parsed-bed e q = rw (kind-bed kind (parsedBed s (length b)) (parsedPsl s (length b)) (parsedChain s (length b)) e) q
-
-  pub parsed-psl : kind ≡ 2 → Answered (parsedPsl s (length b)) b b′ r → Answered (parsed kind s (length b)) b b′ r
-  unfolding parsed
-  parsed-psl e q = rw (kind-psl kind (parsedBed s (length b)) (parsedPsl s (length b)) (parsedChain s (length b)) e) q
-
-  pub parsed-chain : kind ≡ 3 → Answered (parsedChain s (length b)) b b′ r → Answered (parsed kind s (length b)) b b′ r
-  unfolding parsed
-  parsed-chain e q = rw (kind-chain kind (parsedBed s (length b)) (parsedPsl s (length b)) (parsedChain s (length b)) e) q
-
-  pub parsed-other : (kind ≡ 1 → ⊥) → (kind ≡ 2 → ⊥) → (kind ≡ 3 → ⊥) → r ≡ refusalCode (record { reason = BadWord; place = 0 }) → Answered (parsed kind s (length b)) b b r
-  unfolding parsed
-  parsed-other f g h q = rw (kind-other kind (parsedBed s (length b)) (parsedPsl s (length b)) (parsedChain s (length b)) f g h) (refused-is (record { reason = BadWord; place = 0 }) b r q)
-
-module _ (kind : ℕ) (s b b′ : List ℕ) (r : ℕ) where
-  pub formatted-bed : kind ≡ 1 → Answered (formattedBed s (length b)) b b′ r → Answered (formatted kind s (length b)) b b′ r
-  unfolding formatted
-  formatted-bed e q = rw (kind-bed kind (formattedBed s (length b)) (formattedPsl s (length b)) (formattedChain s (length b)) e) q
-
-  pub formatted-psl : kind ≡ 2 → Answered (formattedPsl s (length b)) b b′ r → Answered (formatted kind s (length b)) b b′ r
-  unfolding formatted
-  formatted-psl e q = rw (kind-psl kind (formattedBed s (length b)) (formattedPsl s (length b)) (formattedChain s (length b)) e) q
-
-  pub formatted-chain : kind ≡ 3 → Answered (formattedChain s (length b)) b b′ r → Answered (formatted kind s (length b)) b b′ r
-  unfolding formatted
-  formatted-chain e q = rw (kind-chain kind (formattedBed s (length b)) (formattedPsl s (length b)) (formattedChain s (length b)) e) q
-
-  pub formatted-other : (kind ≡ 1 → ⊥) → (kind ≡ 2 → ⊥) → (kind ≡ 3 → ⊥) → r ≡ refusalCode (record { reason = BadWord; place = 0 }) → Answered (formatted kind s (length b)) b b r
-  unfolding formatted
-  formatted-other f g h q = rw (kind-other kind (formattedBed s (length b)) (formattedPsl s (length b)) (formattedChain s (length b)) f g h) (refused-is (record { reason = BadWord; place = 0 }) b r q)

@@ -5,3 +5,4 @@ pub mod WriteLaws
 pub mod LiftLaws
 pub mod TallyLaws
 pub mod TurnLaws
+pub mod Vectors

@@ -1,12 +1,12 @@
 -- Lifts, the tally and the turn of a chain's text. Assumes nothing.
-use mathlib.Core.Path.{_≡_, refl, sym, ap, _∙_}
+use mathlib.Core.Path.{_≡_, sym, ap, _∙_}
 use mathlib.Core.Bool.{Bool, true, false}
-use mathlib.Core.List.{List, [], _∷_, _++_}
-use Prim.Native.Nat.{ℕ, zero, suc, _+_, _-_, _*_, _^_, _≤_, _<_}
+use mathlib.Core.List.{List, [], _∷_}
+use Prim.Native.Nat.{ℕ, zero, suc, _+_, _-_, _^_, _≤_, _<_}
 use native.Mathlib.Omega.{arith}
 use lib.ListN.{length, take}
-use lib.Dec.{ltb, leb}
-use lib.IntN.{ℤ, pos, negsuc, _-ℤ_}
+use lib.Dec.{ltb}
+use lib.IntN.{ℤ, pos, _-ℤ_}
 use borrow.Author.Tests.{lt-ltb, le-ltb}
 use Rattle.ledger.specs.declared.Row.{Row}
 use Rattle.ledger.specs.declared.Refusal.{Refusal}
@@ -27,7 +27,7 @@ use Rattle.region.specs.declared.Region.{Region}
 use Rattle.region.specs.declared.RegionAnswer.{RegionAnswer}
 use Rattle.region.specs.declared.RegionAnswer.the-variants as region
 use Rattle.region.specs.Regions.{liftRegion}
-use Rattle.desk.specs.Answers.{refusalCode, Outcome, Answered, numbered}
+use Rattle.desk.specs.Answers.{refusalCode, Answered, numbered}
 use Rattle.desk.specs.Records.{ChainStaged}
 use Rattle.desk.specs.Entries.{inWord, ofPosition, positionLifted, ofRegion, regionLifted}
 use Rattle.desk.proofs.AnswerLaws.{refused-is}

@@ -1,18 +1,17 @@
 -- The tally in the lent bytes. Assumes nothing.
 use mathlib.Core.Path.{_≡_, refl, sym, ap, _∙_}
 use mathlib.Core.Bool.{Bool, true, false}
-use mathlib.Core.List.{List, [], _∷_, _++_}
-use Prim.Native.Nat.{ℕ, _+_, _-_, _*_, _≤_, _<_}
+use mathlib.Core.List.{List, [], _∷_}
+use Prim.Native.Nat.{ℕ, _-_, _*_, _≤_, _<_}
 use native.Mathlib.Omega.{arith}
-use lib.ListN.{length, take, drop}
-use lib.Dec.{leb, eqb}
+use lib.ListN.{length, take}
+use lib.Dec.{leb}
 use borrow.Author.Tests.{le-leb, lt-leb, leb-true, leb-false, eq-eqb, ne-eqb}
 use Rattle.ledger.specs.declared.Row.{Row}
 use Rattle.ledger.specs.declared.Refusal.{Refusal}
 use Rattle.ledger.specs.declared.Reason.{Reason}
 use Rattle.ledger.specs.declared.Reason.the-variants.{BlockRules, CountsDisagree, NoPair, OutsideTarget}
 use Rattle.ledger.specs.Reasons.{reasonNumber}
-use Rattle.ledger.specs.Limits.{tallyLimit}
 use Rattle.blocks.specs.Rows.{tableOf}
 use Rattle.chain.specs.declared.Chain.{Chain}
 use Rattle.chain.specs.declared.ChainAnswer.{ChainAnswer}
@@ -26,9 +25,9 @@ use Rattle.region.specs.declared.Tallied.{Tallied}
 use Rattle.region.specs.Regions.{notLifted, inside}
 use Rattle.region.specs.Tallies.{goodTally, ifTallied, tallyStep}
 use Rattle.writing.specs.Puts.{Put}
-use Rattle.binary.specs.Bytes.{wordSize, wordsBytes, lowAt}
+use Rattle.binary.specs.Bytes.{wordSize, lowAt}
 use Rattle.binary.proofs.BackLaws.{words-length}
-use Rattle.desk.specs.Answers.{told, refusalCode, Outcome, Answered}
+use Rattle.desk.specs.Answers.{told, refusalCode, Answered}
 use Rattle.desk.specs.Records.{ChainStaged}
 use Rattle.desk.specs.Entries.{badTally, tallyIn, tallyBytes, ofTallied, tallyOutcome, TallyRoom, tallied}
 use Rattle.desk.proofs.AnswerLaws.{refused-is, put-front}

@@ -1,7 +1,7 @@
 -- The turn of a chain's text. Assumes nothing.
-use mathlib.Core.Path.{_≡_, refl, sym, ap, _∙_}
-use mathlib.Core.List.{List, [], _∷_, map}
-use Prim.Native.Nat.{ℕ, _≤_, min}
+use mathlib.Core.Path.{_≡_, sym, ap, _∙_}
+use mathlib.Core.List.{List, map}
+use Prim.Native.Nat.{ℕ}
 use native.Mathlib.Omega.{arith}
 use lib.ListN.{length, take, length-map, length-take}
 use Rattle.ledger.specs.declared.Row.{Row}
@@ -11,14 +11,14 @@ use Rattle.blocks.specs.Rows.{tableOf, targetsOf, queriesOf, sizesOf}
 use Rattle.chain.specs.declared.Chain.{Chain}
 use Rattle.chain.specs.declared.ChainAnswer.{ChainAnswer}
 use Rattle.chain.specs.declared.ChainAnswer.the-variants as chain
-use Rattle.lift.specs.Accepted.{Wide, accepted, used}
+use Rattle.lift.specs.Accepted.{Wide, used}
 use Rattle.lift.proofs.AcceptLaws.{accepted-rules}
 use Rattle.turn.specs.declared.TurnAnswer.{TurnAnswer}
 use Rattle.turn.specs.declared.TurnAnswer.the-variants as turn
 use Rattle.turn.specs.Turns as turns
 use Rattle.turn.proofs.RowLaws.{turned-length}
 use Rattle.turn.proofs.TurnLaws.{Turnable, turnable}
-use Rattle.desk.specs.Answers.{refusalCode, Outcome, Answered}
+use Rattle.desk.specs.Answers.{refusalCode, Answered}
 use Rattle.desk.specs.Records.{Staging, Held, ChainStaged, TurnStaged}
 use Rattle.desk.specs.Entries.{chainWritten, turnWritten, turnedText}
 use Rattle.desk.proofs.AnswerLaws.{refused-is}

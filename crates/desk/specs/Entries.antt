@@ -52,7 +52,7 @@ use Rattle.turn.specs.declared.TurnAnswer.{TurnAnswer}
 use Rattle.turn.specs.declared.TurnAnswer.the-variants as turn
 use Rattle.turn.specs.Turns as turns
 use Rattle.binary.specs.Bytes.{wordSize, wordsBytes, lowAt, rowsNumbers}
-use Rattle.desk.specs.Answers.{told, refusalCode, Outcome, gives, refuses, pickOutcome, numbered, byKind}
+use Rattle.desk.specs.Answers.{refusalCode, Outcome, gives, refuses, pickOutcome, numbered, byKind}
 use Rattle.desk.specs.Records.{bedNumbers, pslNumbers, chainNumbers, bedRows, pslRows, chainRows}
 
 -- an accepted text goes on with its record, any other is refused as its checker says

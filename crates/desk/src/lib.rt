@@ -42,6 +42,7 @@ fn told_as(value: u64) -> u64
     16 * value
 }
 
+// A refusal's place and reason.
 fn refusal_code(x: Refusal) -> u64
     ensures { λ r. ⌜ r ≡ refusalCode x ⌝ }
 {
@@ -67,7 +68,8 @@ fn row_room() -> [u64; ROWS]
 // Numbers to the front of the lent bytes, or 11 at a place.
 fn answer_numbers(end: usize, vs: &[u64], out: &mut [u8]) -> u64
     requires { ⌜ length (now vs) ≤ 8 ⌝ }
-    ensures { λ r. ⌜ Answered (numbered end (length (now (out .entry))) (now (vs .entry))) (now (out .entry)) (now (out .exit)) r ⌝ }
+    ensures { λ r. ⌜ Answered (numbered end (length (now (out .entry))) (now (vs .entry)))
+        (now (out .entry)) (now (out .exit)) r ⌝ }
 {
     if out.len() < binary::WORD_SIZE * vs.len() {
         return refused_by(Reason::NoRoom, end);
@@ -201,6 +203,7 @@ fn chain_fields(r: Chain) -> [u64; 14]
     ]
 }
 
+// Whether a text of a kind is accepted.
 fn check_bed(text: &[u8]) -> u64
     ensures { λ r. ⌜ r ≡ checkedBed (now (text .entry)) .answer ⌝ }
 {
@@ -244,7 +247,8 @@ pub extern "C" fn tenderchock_check(kind: u64, text: &[u8]) -> u64
 // Start and end on the other strand.
 #[no_mangle]
 pub extern "C" fn tenderchock_convert(start: u64, end: u64, size: u64, out: &mut [u8]) -> u64
-    ensures { λ r. ⌜ Answered (convertedNumbers start end size (length (now (out .entry)))) (now (out .entry)) (now (out .exit)) r ⌝ }
+    ensures { λ r. ⌜ Answered (convertedNumbers start end size (length (now (out .entry))))
+        (now (out .entry)) (now (out .exit)) r ⌝ }
 {
     match lift::convert(start, end, size) {
         SpanAnswer::Refused(x) => refusal_code(x),
@@ -255,8 +259,10 @@ pub extern "C" fn tenderchock_convert(start: u64, end: u64, size: u64, out: &mut
     }
 }
 
+// The record of a text of a kind and its rows, as numbers.
 fn parse_bed(text: &[u8], out: &mut [u8]) -> u64
-    ensures { λ r. ⌜ Answered (parsedBed (now (text .entry)) (length (now (out .entry)))) (now (out .entry)) (now (out .exit)) r ⌝ }
+    ensures { λ r. ⌜ Answered (parsedBed (now (text .entry)) (length (now (out .entry))))
+        (now (out .entry)) (now (out .exit)) r ⌝ }
 {
     let mut targets = row_room();
     let mut queries = row_room();
@@ -272,7 +278,8 @@ fn parse_bed(text: &[u8], out: &mut [u8]) -> u64
 }
 
 fn parse_psl(text: &[u8], out: &mut [u8]) -> u64
-    ensures { λ r. ⌜ Answered (parsedPsl (now (text .entry)) (length (now (out .entry)))) (now (out .entry)) (now (out .exit)) r ⌝ }
+    ensures { λ r. ⌜ Answered (parsedPsl (now (text .entry)) (length (now (out .entry))))
+        (now (out .entry)) (now (out .exit)) r ⌝ }
 {
     let mut targets = row_room();
     let mut queries = row_room();
@@ -288,7 +295,8 @@ fn parse_psl(text: &[u8], out: &mut [u8]) -> u64
 }
 
 fn parse_chain(text: &[u8], out: &mut [u8]) -> u64
-    ensures { λ r. ⌜ Answered (parsedChain (now (text .entry)) (length (now (out .entry)))) (now (out .entry)) (now (out .exit)) r ⌝ }
+    ensures { λ r. ⌜ Answered (parsedChain (now (text .entry)) (length (now (out .entry))))
+        (now (out .entry)) (now (out .exit)) r ⌝ }
 {
     let mut targets = row_room();
     let mut queries = row_room();
@@ -306,7 +314,8 @@ fn parse_chain(text: &[u8], out: &mut [u8]) -> u64
 // The record of a text and its rows, as numbers.
 #[no_mangle]
 pub extern "C" fn tenderchock_parse(kind: u64, text: &[u8], out: &mut [u8]) -> u64
-    ensures { λ r. ⌜ Answered (parsed kind (now (text .entry)) (length (now (out .entry)))) (now (out .entry)) (now (out .exit)) r ⌝ }
+    ensures { λ r. ⌜ Answered (parsed kind (now (text .entry)) (length (now (out .entry))))
+        (now (out .entry)) (now (out .exit)) r ⌝ }
 {
     match kind {
         1 => parse_bed(text, out),
@@ -338,6 +347,7 @@ fn written_code(end: usize, answer: Writing) -> u64
     }
 }
 
+// The standard text of a record with its first blockCount rows; the names stand in the text that was read.
 fn write_bed(
     text: &[u8],
     r: Bed,
@@ -348,7 +358,8 @@ fn write_bed(
 ) -> u64
     requires { ⌜ Wide (r .blockCount) (now targets) (now queries) (now sizes) ⌝ }
     ensures { λ x. ⌜ Answered (bedWritten (now (text .entry)) r (take (r .blockCount) (now (targets .entry))) (take (r .blockCount)
-        (now (queries .entry))) (take (r .blockCount) (now (sizes .entry))) (length (now (out .entry)))) (now (out .entry)) (now (out .exit)) x ⌝ }
+        (now (queries .entry))) (take (r .blockCount) (now (sizes .entry))) (length (now (out .entry))))
+        (now (out .entry)) (now (out .exit)) x ⌝ }
 {
     let n = r.blockCount as usize;
     let chrom = text::name_in(text, r.chrom);
@@ -365,8 +376,10 @@ fn write_bed(
     written_code(text.len(), answer)
 }
 
+// The standard text of a text of a kind.
 fn format_bed(text: &[u8], out: &mut [u8]) -> u64
-    ensures { λ r. ⌜ Answered (formattedBed (now (text .entry)) (length (now (out .entry)))) (now (out .entry)) (now (out .exit)) r ⌝ }
+    ensures { λ r. ⌜ Answered (formattedBed (now (text .entry)) (length (now (out .entry))))
+        (now (out .entry)) (now (out .exit)) r ⌝ }
 {
     let mut targets = row_room();
     let mut queries = row_room();
@@ -387,7 +400,8 @@ fn write_psl(
 ) -> u64
     requires { ⌜ Wide (r .blockCount) (now targets) (now queries) (now sizes) ⌝ }
     ensures { λ x. ⌜ Answered (pslWritten (now (text .entry)) r (take (r .blockCount) (now (targets .entry))) (take (r .blockCount)
-        (now (queries .entry))) (take (r .blockCount) (now (sizes .entry))) (length (now (out .entry)))) (now (out .entry)) (now (out .exit)) x ⌝ }
+        (now (queries .entry))) (take (r .blockCount) (now (sizes .entry))) (length (now (out .entry))))
+        (now (out .entry)) (now (out .exit)) x ⌝ }
 {
     let n = r.blockCount as usize;
     let query = text::name_in(text, r.query.name);
@@ -405,7 +419,8 @@ fn write_psl(
 }
 
 fn format_psl(text: &[u8], out: &mut [u8]) -> u64
-    ensures { λ r. ⌜ Answered (formattedPsl (now (text .entry)) (length (now (out .entry)))) (now (out .entry)) (now (out .exit)) r ⌝ }
+    ensures { λ r. ⌜ Answered (formattedPsl (now (text .entry)) (length (now (out .entry))))
+        (now (out .entry)) (now (out .exit)) r ⌝ }
 {
     let mut targets = row_room();
     let mut queries = row_room();
@@ -426,7 +441,8 @@ fn write_chain(
 ) -> u64
     requires { ⌜ Wide (r .blockCount) (now targets) (now queries) (now sizes) ⌝ }
     ensures { λ x. ⌜ Answered (chainWritten (now (text .entry)) r (take (r .blockCount) (now (targets .entry))) (take (r .blockCount)
-        (now (queries .entry))) (take (r .blockCount) (now (sizes .entry))) (length (now (out .entry)))) (now (out .entry)) (now (out .exit)) x ⌝ }
+        (now (queries .entry))) (take (r .blockCount) (now (sizes .entry))) (length (now (out .entry))))
+        (now (out .entry)) (now (out .exit)) x ⌝ }
 {
     let n = r.blockCount as usize;
     let target = text::name_in(text, r.tName);
@@ -444,7 +460,8 @@ fn write_chain(
 }
 
 fn format_chain(text: &[u8], out: &mut [u8]) -> u64
-    ensures { λ r. ⌜ Answered (formattedChain (now (text .entry)) (length (now (out .entry)))) (now (out .entry)) (now (out .exit)) r ⌝ }
+    ensures { λ r. ⌜ Answered (formattedChain (now (text .entry)) (length (now (out .entry))))
+        (now (out .entry)) (now (out .exit)) r ⌝ }
 {
     let mut targets = row_room();
     let mut queries = row_room();
@@ -458,7 +475,8 @@ fn format_chain(text: &[u8], out: &mut [u8]) -> u64
 // The standard text of what was read.
 #[no_mangle]
 pub extern "C" fn tenderchock_format(kind: u64, text: &[u8], out: &mut [u8]) -> u64
-    ensures { λ r. ⌜ Answered (formatted kind (now (text .entry)) (length (now (out .entry)))) (now (out .entry)) (now (out .exit)) r ⌝ }
+    ensures { λ r. ⌜ Answered (formatted kind (now (text .entry)) (length (now (out .entry))))
+        (now (out .entry)) (now (out .exit)) r ⌝ }
 {
     match kind {
         1 => format_bed(text, out),
@@ -478,6 +496,7 @@ fn drift_word(position: u64, partner: u64) -> u64
     partner - position
 }
 
+// The lift through the first blockCount rows.
 fn answer_position(
     end: usize,
     c: Chain,
@@ -505,7 +524,8 @@ fn answer_position(
 // The partner and the drift of a position.
 #[no_mangle]
 pub extern "C" fn tenderchock_lift_position(text: &[u8], position: u64, out: &mut [u8]) -> u64
-    ensures { λ r. ⌜ Answered (positionLifted (now (text .entry)) position (length (now (out .entry)))) (now (out .entry)) (now (out .exit)) r ⌝ }
+    ensures { λ r. ⌜ Answered (positionLifted (now (text .entry)) position (length (now (out .entry))))
+        (now (out .entry)) (now (out .exit)) r ⌝ }
 {
     let mut targets = row_room();
     let mut queries = row_room();
@@ -518,6 +538,7 @@ pub extern "C" fn tenderchock_lift_position(text: &[u8], position: u64, out: &mu
     }
 }
 
+// The same of a region; want of room stands at a place.
 fn answer_region(
     place: usize,
     c: Chain,
@@ -546,7 +567,8 @@ fn answer_region(
 // The bases of a region that are kept and dropped, and its query region.
 #[no_mangle]
 pub extern "C" fn tenderchock_lift_region(text: &[u8], start: u64, end: u64, out: &mut [u8]) -> u64
-    ensures { λ r. ⌜ Answered (regionLifted (now (text .entry)) start end (length (now (out .entry)))) (now (out .entry)) (now (out .exit)) r ⌝ }
+    ensures { λ r. ⌜ Answered (regionLifted (now (text .entry)) start end (length (now (out .entry))))
+        (now (out .entry)) (now (out .exit)) r ⌝ }
 {
     let mut targets = row_room();
     let mut queries = row_room();
@@ -580,6 +602,7 @@ fn tally_of(lent: &[u8]) -> Tally
     }
 }
 
+// Stores a tally's three numbers.
 fn put_tally(lent: &mut [u8], t: Tally) -> usize
     ensures { λ r. ⌜ Put (tallyBytes t) 0 (now (lent .entry)) (now (lent .exit)) r ⌝ }
 {
@@ -609,6 +632,7 @@ fn answer_tallied(answer: RegionAnswer, t: Tally, lent: &mut [u8]) -> u64
     }
 }
 
+// The tally's step through the first blockCount rows.
 fn answer_tally(
     c: Chain,
     targets: &[u64],
@@ -619,7 +643,8 @@ fn answer_tally(
     lent: &mut [u8],
 ) -> u64
     requires { ⌜ Wide (c .blockCount) (now targets) (now queries) (now sizes) ⌝ }
-    ensures { λ r. ⌜ Answered (tallyOutcome (tallyStep (tallyIn (now (lent .entry))) c (tableOf (take (c .blockCount) (now (targets .entry)))
+    ensures { λ r. ⌜ Answered (tallyOutcome (tallyStep (tallyIn (now (lent .entry))) c (tableOf (take (c .blockCount)
+        (now (targets .entry)))
         (take (c .blockCount) (now (queries .entry))) (take (c .blockCount) (now (sizes .entry)))) start end))
         (now (lent .entry)) (now (lent .exit)) r ⌝ }
 {
@@ -642,7 +667,8 @@ fn answer_tally(
 // One region of a batch.
 #[no_mangle]
 pub extern "C" fn tenderchock_tally(text: &[u8], start: u64, end: u64, tally: &mut [u8]) -> u64
-    ensures { λ r. ⌜ Answered (tallied (now (text .entry)) start end (now (tally .entry))) (now (tally .entry)) (now (tally .exit)) r ⌝ }
+    ensures { λ r. ⌜ Answered (tallied (now (text .entry)) start end (now (tally .entry)))
+        (now (tally .entry)) (now (tally .exit)) r ⌝ }
 {
     let mut targets = row_room();
     let mut queries = row_room();
@@ -679,6 +705,7 @@ fn stage_turned(
     )
 }
 
+// The turned chain of the first blockCount rows, as its standard text.
 fn write_turned(
     text: &[u8],
     c: Chain,
@@ -712,7 +739,8 @@ fn write_turned(
 // The standard text of the turned chain.
 #[no_mangle]
 pub extern "C" fn tenderchock_turn(text: &[u8], out: &mut [u8]) -> u64
-    ensures { λ r. ⌜ Answered (turnedText (now (text .entry)) (length (now (out .entry)))) (now (out .entry)) (now (out .exit)) r ⌝ }
+    ensures { λ r. ⌜ Answered (turnedText (now (text .entry)) (length (now (out .entry))))
+        (now (out .entry)) (now (out .exit)) r ⌝ }
 {
     let mut targets = row_room();
     let mut queries = row_room();

@@ -1,12 +1,8 @@
 -- Past the end there is no byte. Assumes nothing.
 use borrow.Author.Needs.{needs}
-use mathlib.Core.Path.{_≡_, sym}
 use Rattle.binary.proofs.ByteLaws.{byte-past, byte-far}
 use Rattle.binary.proofs.byte_at.Statement.{statement}
 use Rattle.binary.proofs.byte_at.Tie as tie
-use Rattle.binary.proofs.byte_at.Reads as reads
-use Rattle.binary.proofs.byte_at.Lts as lts
-use Rattle.binary.proofs.wide.Reads as wide-reads
 
 returns : tie.Need-returns
 returns c = search byte-past

@@ -1,13 +1,8 @@
 -- From the highest byte down. Assumes nothing.
 use borrow.Author.Needs.{needs}
-use native.Mathlib.Omega.{arith}
 use Rattle.binary.proofs.ByteLaws.{Reading, reading-step, times-fits, sum-fits, reading-starts, reading-ends}
 use Rattle.binary.proofs.low_at.Statement.{statement}
 use Rattle.binary.proofs.low_at.Tie as tie
-use Rattle.binary.proofs.low_at.Reads as reads
-use Rattle.binary.proofs.low_at.Lts as lts
-use Rattle.binary.proofs.byte_at.Reads as byte-at-reads
-use Rattle.binary.proofs.in_word.Reads as in-word-reads
 
 abbrev Inv-loop : tie.InvT-loop
 Inv-loop bytes at count most left₀ n₀ left n = Reading bytes at most left n

@@ -9,9 +9,6 @@ use Rattle.binary.specs.Bytes.{lowBytes}
 use Rattle.binary.proofs.ByteLaws.{low-step, low-done}
 use Rattle.binary.proofs.put_low.Statement.{statement}
 use Rattle.binary.proofs.put_low.Tie as tie
-use Rattle.binary.proofs.put_low.Reads as reads
-use Rattle.binary.proofs.put_low.Lts as lts
-use Rattle.writing.proofs.put_byte.Reads as put-byte-reads
 
 abbrev Inv-loop : tie.InvT-loop
 Inv-loop buf₀ at n count p₀ rest₀ left₀ buf p rest left = (length buf ≡ length buf₀) × (length buf ≤ largestPlace) × (p ≤ largestPlace) × Completes (lowBytes left rest) p buf (lowBytes count n) at buf₀

@@ -3,9 +3,6 @@ use Rattle.binary.proofs.ByteLaws.{row-put}
 use borrow.Author.Needs.{needs}
 use Rattle.binary.proofs.put_row.Statement.{statement}
 use Rattle.binary.proofs.put_row.Tie as tie
-use Rattle.binary.proofs.put_row.Reads as reads
-use Rattle.binary.proofs.put_row.Lts as lts
-use Rattle.binary.proofs.put_low.Reads as put-low-reads
 
 put-low-requires : tie.Need-put-low-requires
 put-low-requires c κs = search needs

@@ -10,10 +10,6 @@ use Rattle.binary.specs.Bytes.{wordsBytes, rowsNumbers}
 use Rattle.binary.proofs.ByteLaws.{rows-step, rows-done}
 use Rattle.binary.proofs.put_rows.Statement.{statement}
 use Rattle.binary.proofs.put_rows.Tie as tie
-use Rattle.binary.proofs.put_rows.Reads as reads
-use Rattle.binary.proofs.put_rows.Lts as lts
-use Rattle.binary.proofs.put_row.Reads as put-row-reads
-use Rattle.blocks.proofs.rows_of.Reads as rows-of-reads
 
 abbrev Inv-loop : tie.InvT-loop
 Inv-loop buf₀ at targets queries sizes n p₀ i₀ buf p i = (i ≤ n) × (length buf ≡ length buf₀) × (length buf ≤ largestPlace) × (p ≤ largestPlace) × Completes (wordsBytes (rowsNumbers (drop i (tableOf targets queries sizes)))) p buf (wordsBytes (rowsNumbers (tableOf targets queries sizes))) at buf₀

@@ -9,9 +9,6 @@ use Rattle.binary.specs.Bytes.{wordsBytes}
 use Rattle.binary.proofs.ByteLaws.{words-step, words-done}
 use Rattle.binary.proofs.put_words.Statement.{statement}
 use Rattle.binary.proofs.put_words.Tie as tie
-use Rattle.binary.proofs.put_words.Reads as reads
-use Rattle.binary.proofs.put_words.Lts as lts
-use Rattle.binary.proofs.put_low.Reads as put-low-reads
 
 abbrev Inv-loop : tie.InvT-loop
 Inv-loop buf₀ at vs p₀ i₀ buf p i = (i ≤ length vs) × (length buf ≡ length buf₀) × (length buf ≤ largestPlace) × (p ≤ largestPlace) × Completes (wordsBytes (drop i vs)) p buf (wordsBytes vs) at buf₀

@@ -3,11 +3,6 @@ use Rattle.desk.proofs.AnswerLaws.{numbers-short, numbers-put}
 use borrow.Author.Needs.{needs}
 use Rattle.desk.proofs.answer_numbers.Statement.{statement}
 use Rattle.desk.proofs.answer_numbers.Tie as tie
-use Rattle.desk.proofs.answer_numbers.Reads as reads
-use Rattle.desk.proofs.answer_numbers.Lts as lts
-use Rattle.binary.proofs.put_words.Reads as put-words-reads
-use Rattle.desk.proofs.refused_by.Reads as refused-by-reads
-use Rattle.desk.proofs.told_as.Reads as told-as-reads
 
 mul-if1 : tie.Need-mul-if1
 mul-if1 c = search needs

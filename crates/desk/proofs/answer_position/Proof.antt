@@ -4,12 +4,6 @@ use Rattle.desk.proofs.LiftLaws.{position-refused, position-lifted}
 use borrow.Author.Needs.{needs}
 use Rattle.desk.proofs.answer_position.Statement.{statement}
 use Rattle.desk.proofs.answer_position.Tie as tie
-use Rattle.desk.proofs.answer_position.Reads as reads
-use Rattle.desk.proofs.answer_position.Lts as lts
-use Rattle.desk.proofs.answer_numbers.Reads as answer-numbers-reads
-use Rattle.desk.proofs.drift_word.Reads as drift-word-reads
-use Rattle.desk.proofs.refusal_code.Reads as refusal-code-reads
-use Rattle.lift.proofs.lift_position.Reads as lift-position-reads
 
 slice-aggregate-lift-position : tie.Need-slice-aggregate-lift-position
 slice-aggregate-lift-position c = search part-count

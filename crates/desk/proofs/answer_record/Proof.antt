@@ -3,12 +3,6 @@ use Rattle.desk.proofs.AnswerLaws.{part-count, record-short, record-put
 use borrow.Author.Needs.{needs}
 use Rattle.desk.proofs.answer_record.Statement.{statement}
 use Rattle.desk.proofs.answer_record.Tie as tie
-use Rattle.desk.proofs.answer_record.Reads as reads
-use Rattle.desk.proofs.answer_record.Lts as lts
-use Rattle.binary.proofs.put_rows.Reads as put-rows-reads
-use Rattle.binary.proofs.put_words.Reads as put-words-reads
-use Rattle.desk.proofs.refused_by.Reads as refused-by-reads
-use Rattle.desk.proofs.told_as.Reads as told-as-reads
 
 mul-count : tie.Need-mul-count
 mul-count c = search needs

@@ -4,11 +4,6 @@ use Rattle.desk.proofs.LiftLaws.{region-refused, region-lifted}
 use borrow.Author.Needs.{needs}
 use Rattle.desk.proofs.answer_region.Statement.{statement}
 use Rattle.desk.proofs.answer_region.Tie as tie
-use Rattle.desk.proofs.answer_region.Reads as reads
-use Rattle.desk.proofs.answer_region.Lts as lts
-use Rattle.desk.proofs.answer_numbers.Reads as answer-numbers-reads
-use Rattle.desk.proofs.refusal_code.Reads as refusal-code-reads
-use Rattle.region.proofs.lift_region.Reads as lift-region-reads
 
 slice-aggregate-lift-region : tie.Need-slice-aggregate-lift-region
 slice-aggregate-lift-region c = search part-count

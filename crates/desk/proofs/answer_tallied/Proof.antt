@@ -3,12 +3,6 @@ use Rattle.desk.proofs.TallyLaws.{tally-lifted, tally-alone, tally-left
 use borrow.Author.Needs.{needs}
 use Rattle.desk.proofs.answer_tallied.Statement.{statement}
 use Rattle.desk.proofs.answer_tallied.Tie as tie
-use Rattle.desk.proofs.answer_tallied.Reads as reads
-use Rattle.desk.proofs.answer_tallied.Lts as lts
-use Rattle.desk.proofs.put_tally.Reads as put-tally-reads
-use Rattle.desk.proofs.refusal_code.Reads as refusal-code-reads
-use Rattle.desk.proofs.told_as.Reads as told-as-reads
-use Rattle.ledger.proofs.Reason.number.Reads as number-reads
 
 enum-known-answer : tie.Need-enum-known-answer
 enum-known-answer c = search needs

@@ -4,11 +4,6 @@ use Rattle.desk.proofs.TallyLaws.{tally-room, tally-step}
 use borrow.Author.Needs.{needs}
 use Rattle.desk.proofs.answer_tally.Statement.{statement}
 use Rattle.desk.proofs.answer_tally.Tie as tie
-use Rattle.desk.proofs.answer_tally.Reads as reads
-use Rattle.desk.proofs.answer_tally.Lts as lts
-use Rattle.desk.proofs.answer_tallied.Reads as answer-tallied-reads
-use Rattle.desk.proofs.tally_of.Reads as tally-of-reads
-use Rattle.region.proofs.tally_step.Reads as tally-step-reads
 
 tally-of-requires : tie.Need-tally-of-requires
 tally-of-requires c κs = search needs

@@ -3,11 +3,6 @@ use Rattle.desk.proofs.EntryLaws.{check-bed-refused, check-bed-accepted
 use borrow.Author.Needs.{needs}
 use Rattle.desk.proofs.check_bed.Statement.{statement}
 use Rattle.desk.proofs.check_bed.Tie as tie
-use Rattle.desk.proofs.check_bed.Reads as reads
-use Rattle.desk.proofs.check_bed.Lts as lts
-use Rattle.bed.proofs.check_bed_text.Reads as check-bed-text-reads
-use Rattle.desk.proofs.refusal_code.Reads as refusal-code-reads
-use Rattle.desk.proofs.told_as.Reads as told-as-reads
 
 check-bed-text-requires : tie.Need-check-bed-text-requires
 check-bed-text-requires c κs = search needs

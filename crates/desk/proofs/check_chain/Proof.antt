@@ -3,11 +3,6 @@ use Rattle.desk.proofs.EntryLaws.{check-chain-refused, check-chain-acce
 use borrow.Author.Needs.{needs}
 use Rattle.desk.proofs.check_chain.Statement.{statement}
 use Rattle.desk.proofs.check_chain.Tie as tie
-use Rattle.desk.proofs.check_chain.Reads as reads
-use Rattle.desk.proofs.check_chain.Lts as lts
-use Rattle.chain.proofs.check_chain_text.Reads as check-chain-text-reads
-use Rattle.desk.proofs.refusal_code.Reads as refusal-code-reads
-use Rattle.desk.proofs.told_as.Reads as told-as-reads
 
 check-chain-text-requires : tie.Need-check-chain-text-requires
 check-chain-text-requires c κs = search needs

@@ -3,11 +3,6 @@ use Rattle.desk.proofs.EntryLaws.{check-psl-refused, check-psl-accepted
 use borrow.Author.Needs.{needs}
 use Rattle.desk.proofs.check_psl.Statement.{statement}
 use Rattle.desk.proofs.check_psl.Tie as tie
-use Rattle.desk.proofs.check_psl.Reads as reads
-use Rattle.desk.proofs.check_psl.Lts as lts
-use Rattle.desk.proofs.refusal_code.Reads as refusal-code-reads
-use Rattle.desk.proofs.told_as.Reads as told-as-reads
-use Rattle.psl.proofs.check_psl_text.Reads as check-psl-text-reads
 
 check-psl-text-requires : tie.Need-check-psl-text-requires
 check-psl-text-requires c κs = search needs

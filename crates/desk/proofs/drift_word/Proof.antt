@@ -3,8 +3,6 @@ use Rattle.desk.proofs.LiftLaws.{drift-below, drift-above}
 use borrow.Author.Needs.{needs}
 use Rattle.desk.proofs.drift_word.Statement.{statement}
 use Rattle.desk.proofs.drift_word.Tie as tie
-use Rattle.desk.proofs.drift_word.Reads as reads
-use Rattle.desk.proofs.drift_word.Lts as lts
 
 sub-result : tie.Need-sub-result
 sub-result c = search needs

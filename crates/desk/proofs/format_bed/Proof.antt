@@ -4,12 +4,6 @@ use Rattle.desk.proofs.EntryLaws.{bed-refused, bed-wide, format-bed-acc
 use borrow.Author.Needs.{needs}
 use Rattle.desk.proofs.format_bed.Statement.{statement}
 use Rattle.desk.proofs.format_bed.Tie as tie
-use Rattle.desk.proofs.format_bed.Reads as reads
-use Rattle.desk.proofs.format_bed.Lts as lts
-use Rattle.desk.proofs.refusal_code.Reads as refusal-code-reads
-use Rattle.desk.proofs.row_room.Reads as row-room-reads
-use Rattle.desk.proofs.stage_bed.Reads as stage-bed-reads
-use Rattle.desk.proofs.write_bed.Reads as write-bed-reads
 
 row-room-requires : tie.Need-row-room-requires
 row-room-requires c κs = search needs

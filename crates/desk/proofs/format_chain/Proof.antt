@@ -4,12 +4,6 @@ use Rattle.desk.proofs.EntryLaws.{chain-refused, chain-wide, format-cha
 use borrow.Author.Needs.{needs}
 use Rattle.desk.proofs.format_chain.Statement.{statement}
 use Rattle.desk.proofs.format_chain.Tie as tie
-use Rattle.desk.proofs.format_chain.Reads as reads
-use Rattle.desk.proofs.format_chain.Lts as lts
-use Rattle.desk.proofs.refusal_code.Reads as refusal-code-reads
-use Rattle.desk.proofs.row_room.Reads as row-room-reads
-use Rattle.desk.proofs.stage_chain.Reads as stage-chain-reads
-use Rattle.desk.proofs.write_chain.Reads as write-chain-reads
 
 row-room-requires : tie.Need-row-room-requires
 row-room-requires c κs = search needs

@@ -4,12 +4,6 @@ use Rattle.desk.proofs.EntryLaws.{psl-refused, psl-wide, format-psl-acc
 use borrow.Author.Needs.{needs}
 use Rattle.desk.proofs.format_psl.Statement.{statement}
 use Rattle.desk.proofs.format_psl.Tie as tie
-use Rattle.desk.proofs.format_psl.Reads as reads
-use Rattle.desk.proofs.format_psl.Lts as lts
-use Rattle.desk.proofs.refusal_code.Reads as refusal-code-reads
-use Rattle.desk.proofs.row_room.Reads as row-room-reads
-use Rattle.desk.proofs.stage_psl.Reads as stage-psl-reads
-use Rattle.desk.proofs.write_psl.Reads as write-psl-reads
 
 row-room-requires : tie.Need-row-room-requires
 row-room-requires c κs = search needs

@@ -4,13 +4,6 @@ use Rattle.desk.specs.Entries.{parsedBed}
 use borrow.Author.Needs.{needs}
 use Rattle.desk.proofs.parse_bed.Statement.{statement}
 use Rattle.desk.proofs.parse_bed.Tie as tie
-use Rattle.desk.proofs.parse_bed.Reads as reads
-use Rattle.desk.proofs.parse_bed.Lts as lts
-use Rattle.desk.proofs.answer_record.Reads as answer-record-reads
-use Rattle.desk.proofs.bed_fields.Reads as bed-fields-reads
-use Rattle.desk.proofs.refusal_code.Reads as refusal-code-reads
-use Rattle.desk.proofs.row_room.Reads as row-room-reads
-use Rattle.desk.proofs.stage_bed.Reads as stage-bed-reads
 
 row-room-requires : tie.Need-row-room-requires
 row-room-requires c κs = search needs

@@ -4,13 +4,6 @@ use Rattle.desk.specs.Entries.{parsedChain}
 use borrow.Author.Needs.{needs}
 use Rattle.desk.proofs.parse_chain.Statement.{statement}
 use Rattle.desk.proofs.parse_chain.Tie as tie
-use Rattle.desk.proofs.parse_chain.Reads as reads
-use Rattle.desk.proofs.parse_chain.Lts as lts
-use Rattle.desk.proofs.answer_record.Reads as answer-record-reads
-use Rattle.desk.proofs.chain_fields.Reads as chain-fields-reads
-use Rattle.desk.proofs.refusal_code.Reads as refusal-code-reads
-use Rattle.desk.proofs.row_room.Reads as row-room-reads
-use Rattle.desk.proofs.stage_chain.Reads as stage-chain-reads
 
 row-room-requires : tie.Need-row-room-requires
 row-room-requires c κs = search needs

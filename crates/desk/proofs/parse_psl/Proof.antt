@@ -4,13 +4,6 @@ use Rattle.desk.specs.Entries.{parsedPsl}
 use borrow.Author.Needs.{needs}
 use Rattle.desk.proofs.parse_psl.Statement.{statement}
 use Rattle.desk.proofs.parse_psl.Tie as tie
-use Rattle.desk.proofs.parse_psl.Reads as reads
-use Rattle.desk.proofs.parse_psl.Lts as lts
-use Rattle.desk.proofs.answer_record.Reads as answer-record-reads
-use Rattle.desk.proofs.psl_fields.Reads as psl-fields-reads
-use Rattle.desk.proofs.refusal_code.Reads as refusal-code-reads
-use Rattle.desk.proofs.row_room.Reads as row-room-reads
-use Rattle.desk.proofs.stage_psl.Reads as stage-psl-reads
 
 row-room-requires : tie.Need-row-room-requires
 row-room-requires c κs = search needs

@@ -3,10 +3,6 @@ use Rattle.desk.proofs.AnswerLaws.{code-fits}
 use borrow.Author.Needs.{needs}
 use Rattle.desk.proofs.refusal_code.Statement.{statement}
 use Rattle.desk.proofs.refusal_code.Tie as tie
-use Rattle.desk.proofs.refusal_code.Reads as reads
-use Rattle.desk.proofs.refusal_code.Lts as lts
-use Rattle.desk.proofs.told_as.Reads as told-as-reads
-use Rattle.ledger.proofs.Reason.number.Reads as number-reads
 
 told-as-requires : tie.Need-told-as-requires
 told-as-requires c κs = search needs

@@ -3,11 +3,6 @@ use Rattle.desk.proofs.WriteLaws.{moved, not-moved}
 use borrow.Author.Needs.{needs}
 use Rattle.desk.proofs.refused_at_end.Statement.{statement}
 use Rattle.desk.proofs.refused_at_end.Tie as tie
-use Rattle.desk.proofs.refused_at_end.Reads as reads
-use Rattle.desk.proofs.refused_at_end.Lts as lts
-use Rattle.desk.proofs.refusal_code.Reads as refusal-code-reads
-use Rattle.desk.proofs.refused_by.Reads as refused-by-reads
-use Rattle.ledger.proofs.Reason.number.Reads as number-reads
 
 number-requires : tie.Need-number-requires
 number-requires c κs = search needs

@@ -3,9 +3,6 @@ use Rattle.desk.proofs.StageLaws.{bed-staged}
 use borrow.Author.Needs.{needs}
 use Rattle.desk.proofs.stage_bed.Statement.{statement}
 use Rattle.desk.proofs.stage_bed.Tie as tie
-use Rattle.desk.proofs.stage_bed.Reads as reads
-use Rattle.desk.proofs.stage_bed.Lts as lts
-use Rattle.bed.proofs.read_bed.Reads as read-bed-reads
 
 read-bed-requires : tie.Need-read-bed-requires
 read-bed-requires c κs = search needs

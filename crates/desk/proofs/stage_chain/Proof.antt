@@ -3,9 +3,6 @@ use Rattle.desk.proofs.StageLaws.{chain-staged}
 use borrow.Author.Needs.{needs}
 use Rattle.desk.proofs.stage_chain.Statement.{statement}
 use Rattle.desk.proofs.stage_chain.Tie as tie
-use Rattle.desk.proofs.stage_chain.Reads as reads
-use Rattle.desk.proofs.stage_chain.Lts as lts
-use Rattle.chain.proofs.read_chain.Reads as read-chain-reads
 
 read-chain-requires : tie.Need-read-chain-requires
 read-chain-requires c κs = search needs

@@ -3,9 +3,6 @@ use Rattle.desk.proofs.StageLaws.{psl-staged}
 use borrow.Author.Needs.{needs}
 use Rattle.desk.proofs.stage_psl.Statement.{statement}
 use Rattle.desk.proofs.stage_psl.Tie as tie
-use Rattle.desk.proofs.stage_psl.Reads as reads
-use Rattle.desk.proofs.stage_psl.Lts as lts
-use Rattle.psl.proofs.read_psl.Reads as read-psl-reads
 
 read-psl-requires : tie.Need-read-psl-requires
 read-psl-requires c κs = search needs

@@ -4,9 +4,6 @@ use Rattle.desk.proofs.TurnLaws.{turned-staged}
 use borrow.Author.Needs.{needs}
 use Rattle.desk.proofs.stage_turned.Statement.{statement}
 use Rattle.desk.proofs.stage_turned.Tie as tie
-use Rattle.desk.proofs.stage_turned.Reads as reads
-use Rattle.desk.proofs.stage_turned.Lts as lts
-use Rattle.turn.proofs.turn_chain.Reads as turn-chain-reads
 
 slice-aggregate-turn-chain : tie.Need-slice-aggregate-turn-chain
 slice-aggregate-turn-chain c = search part-count

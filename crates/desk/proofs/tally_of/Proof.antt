@@ -3,9 +3,6 @@ use Rattle.desk.proofs.TallyLaws.{tally-short, tally-read}
 use borrow.Author.Needs.{needs}
 use Rattle.desk.proofs.tally_of.Statement.{statement}
 use Rattle.desk.proofs.tally_of.Tie as tie
-use Rattle.desk.proofs.tally_of.Reads as reads
-use Rattle.desk.proofs.tally_of.Lts as lts
-use Rattle.binary.proofs.word_at.Reads as word-at-reads
 
 mul-if1 : tie.Need-mul-if1
 mul-if1 c = search needs

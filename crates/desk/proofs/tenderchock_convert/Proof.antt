@@ -3,11 +3,6 @@ use Rattle.desk.proofs.EntryLaws.{convert-refused, convert-accepted}
 use borrow.Author.Needs.{needs}
 use Rattle.desk.proofs.tenderchock_convert.Statement.{statement}
 use Rattle.desk.proofs.tenderchock_convert.Tie as tie
-use Rattle.desk.proofs.tenderchock_convert.Reads as reads
-use Rattle.desk.proofs.tenderchock_convert.Lts as lts
-use Rattle.desk.proofs.answer_numbers.Reads as answer-numbers-reads
-use Rattle.desk.proofs.refusal_code.Reads as refusal-code-reads
-use Rattle.lift.proofs.convert.Reads as convert-reads
 
 convert-requires : tie.Need-convert-requires
 convert-requires c κs = search needs

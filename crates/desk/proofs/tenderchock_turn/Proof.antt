@@ -5,12 +5,6 @@ use Rattle.desk.proofs.TurnLaws.{turn-answered}
 use borrow.Author.Needs.{needs}
 use Rattle.desk.proofs.tenderchock_turn.Statement.{statement}
 use Rattle.desk.proofs.tenderchock_turn.Tie as tie
-use Rattle.desk.proofs.tenderchock_turn.Reads as reads
-use Rattle.desk.proofs.tenderchock_turn.Lts as lts
-use Rattle.desk.proofs.refusal_code.Reads as refusal-code-reads
-use Rattle.desk.proofs.row_room.Reads as row-room-reads
-use Rattle.desk.proofs.stage_chain.Reads as stage-chain-reads
-use Rattle.desk.proofs.write_turned.Reads as write-turned-reads
 
 row-room-requires : tie.Need-row-room-requires
 row-room-requires c κs = search needs

@@ -3,8 +3,6 @@ use borrow.Author.Needs.{needs}
 use Rattle.desk.proofs.AnswerLaws.{told-most, told-itself}
 use Rattle.desk.proofs.told_as.Statement.{statement}
 use Rattle.desk.proofs.told_as.Tie as tie
-use Rattle.desk.proofs.told_as.Reads as reads
-use Rattle.desk.proofs.told_as.Lts as lts
 
 mul-result : tie.Need-mul-result
 mul-result c = search needs

@@ -4,11 +4,6 @@ use Rattle.desk.proofs.WriteLaws.{bed-written}
 use borrow.Author.Needs.{needs}
 use Rattle.desk.proofs.write_bed.Statement.{statement}
 use Rattle.desk.proofs.write_bed.Tie as tie
-use Rattle.desk.proofs.write_bed.Reads as reads
-use Rattle.desk.proofs.write_bed.Lts as lts
-use Rattle.bed.proofs.write_bed.Reads as write-bed-reads
-use Rattle.desk.proofs.written_code.Reads as written-code-reads
-use Rattle.text.proofs.name_in.Reads as name-in-reads
 
 name-in-requires : tie.Need-name-in-requires
 name-in-requires c κs = search needs

@@ -4,11 +4,6 @@ use Rattle.desk.proofs.WriteLaws.{chain-written}
 use borrow.Author.Needs.{needs}
 use Rattle.desk.proofs.write_chain.Statement.{statement}
 use Rattle.desk.proofs.write_chain.Tie as tie
-use Rattle.desk.proofs.write_chain.Reads as reads
-use Rattle.desk.proofs.write_chain.Lts as lts
-use Rattle.chain.proofs.write_chain.Reads as write-chain-reads
-use Rattle.desk.proofs.written_code.Reads as written-code-reads
-use Rattle.text.proofs.name_in.Reads as name-in-reads
 
 name-in-requires : tie.Need-name-in-requires
 name-in-requires c κs = search needs

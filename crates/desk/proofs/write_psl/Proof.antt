@@ -4,11 +4,6 @@ use Rattle.desk.proofs.WriteLaws.{psl-written}
 use borrow.Author.Needs.{needs}
 use Rattle.desk.proofs.write_psl.Statement.{statement}
 use Rattle.desk.proofs.write_psl.Tie as tie
-use Rattle.desk.proofs.write_psl.Reads as reads
-use Rattle.desk.proofs.write_psl.Lts as lts
-use Rattle.desk.proofs.written_code.Reads as written-code-reads
-use Rattle.psl.proofs.write_psl.Reads as write-psl-reads
-use Rattle.text.proofs.name_in.Reads as name-in-reads
 
 name-in-requires : tie.Need-name-in-requires
 name-in-requires c κs = search needs

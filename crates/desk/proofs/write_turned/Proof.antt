@@ -3,12 +3,6 @@ use Rattle.desk.proofs.TurnLaws.{turned-wide, turned-written, turned-re
 use borrow.Author.Needs.{needs}
 use Rattle.desk.proofs.write_turned.Statement.{statement}
 use Rattle.desk.proofs.write_turned.Tie as tie
-use Rattle.desk.proofs.write_turned.Reads as reads
-use Rattle.desk.proofs.write_turned.Lts as lts
-use Rattle.desk.proofs.refusal_code.Reads as refusal-code-reads
-use Rattle.desk.proofs.row_room.Reads as row-room-reads
-use Rattle.desk.proofs.stage_turned.Reads as stage-turned-reads
-use Rattle.desk.proofs.write_chain.Reads as write-chain-reads
 
 row-room-requires : tie.Need-row-room-requires
 row-room-requires c κs = search needs

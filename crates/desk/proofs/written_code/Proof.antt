@@ -3,10 +3,6 @@ use Rattle.desk.proofs.WriteLaws.{code-written, code-refused}
 use borrow.Author.Needs.{needs}
 use Rattle.desk.proofs.written_code.Statement.{statement}
 use Rattle.desk.proofs.written_code.Tie as tie
-use Rattle.desk.proofs.written_code.Reads as reads
-use Rattle.desk.proofs.written_code.Lts as lts
-use Rattle.desk.proofs.refused_at_end.Reads as refused-at-end-reads
-use Rattle.desk.proofs.told_as.Reads as told-as-reads
 
 enum-known-answer : tie.Need-enum-known-answer
 enum-known-answer c = search needs

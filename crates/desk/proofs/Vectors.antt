@@ -1,0 +1,32 @@
+-- Some answers and what they write. Assumes nothing.
+use mathlib.Core.Path.{_≡_, refl}
+use mathlib.Core.List.{List, [], _∷_}
+use Prim.Native.Nat.{_+_, _*_}
+use Rattle.ledger.specs.declared.Reason.the-variants.{BlockRules, NoRoom, SpanDisagrees}
+use Rattle.lift.specs.Conversion.{converted}
+use Rattle.binary.specs.Bytes.{lowBytes, wordsBytes}
+use Rattle.desk.specs.Answers.{told, gives, refusesBy, roomed, numbered}
+use Rattle.desk.specs.Entries.{convertedNumbers}
+
+-- three blocks; 9 at byte 55
+three-blocks : gives 3 [] .answer ≡ 16 * 3
+unfolding told
+three-blocks = refl
+
+bad-blocks : refusesBy BlockRules 55 .answer ≡ 16 * 55 + 9
+unfolding told
+bad-blocks = refl
+
+-- 5 to 33 of 80 bases is 47 to 75 on the other strand: two numbers in 16 bytes
+span-turned : convertedNumbers 5 33 80 16 ≡ gives 2 (47 ∷ 0 ∷ 0 ∷ 0 ∷ 0 ∷ 0 ∷ 0 ∷ 0 ∷ 75 ∷ 0 ∷ 0 ∷ 0 ∷ 0 ∷ 0 ∷ 0 ∷ 0 ∷ [])
+unfolding convertedNumbers converted numbered roomed wordsBytes lowBytes
+span-turned = refl
+
+-- which 15 bytes do not hold; and 33 to 5 is no span
+span-no-room : convertedNumbers 5 33 80 15 ≡ refusesBy NoRoom 0
+unfolding convertedNumbers converted numbered roomed wordsBytes lowBytes
+span-no-room = refl
+
+span-backwards : convertedNumbers 33 5 80 16 ≡ refusesBy SpanDisagrees 0
+unfolding convertedNumbers converted
+span-backwards = refl
