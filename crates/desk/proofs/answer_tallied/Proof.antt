@@ -32,7 +32,7 @@ same-length : tie.Need-same-length
 same-length c = search needs
 
 returns : tie.Need-returns
-returns c = search (tally-lifted, tally-alone, tally-left)
+returns c = search tally-alone
 
 refusal-code-requires-2 : tie.Need-refusal-code-requires-2
 refusal-code-requires-2 c κs = search needs
@@ -41,10 +41,10 @@ same-length-2 : tie.Need-same-length-2
 same-length-2 c = search needs
 
 returns-2 : tie.Need-returns-2
-returns-2 c = search (tally-lifted, tally-alone, tally-left)
+returns-2 c = search tally-lifted
 
 returns-3 : tie.Need-returns-3
-returns-3 c = search (tally-lifted, tally-alone, tally-left)
+returns-3 c = search tally-left
 
 pub answer-tallied-spec : {M : Type 1} → statement M
 answer-tallied-spec =

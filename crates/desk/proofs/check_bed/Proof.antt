@@ -20,10 +20,10 @@ told-as-requires : tie.Need-told-as-requires
 told-as-requires c κs = search needs
 
 returns : tie.Need-returns
-returns c = search (check-bed-refused, check-bed-accepted)
+returns c = search check-bed-refused
 
 returns-2 : tie.Need-returns-2
-returns-2 c = search (check-bed-refused, check-bed-accepted)
+returns-2 c = search check-bed-accepted
 
 pub check-bed-spec : {M : Type 1} → statement M
 check-bed-spec =

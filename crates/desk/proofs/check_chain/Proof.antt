@@ -20,10 +20,10 @@ told-as-requires : tie.Need-told-as-requires
 told-as-requires c κs = search needs
 
 returns : tie.Need-returns
-returns c = search (check-chain-refused, check-chain-accepted)
+returns c = search check-chain-refused
 
 returns-2 : tie.Need-returns-2
-returns-2 c = search (check-chain-refused, check-chain-accepted)
+returns-2 c = search check-chain-accepted
 
 pub check-chain-spec : {M : Type 1} → statement M
 check-chain-spec =

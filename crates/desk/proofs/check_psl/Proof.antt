@@ -20,10 +20,10 @@ told-as-requires : tie.Need-told-as-requires
 told-as-requires c κs = search needs
 
 returns : tie.Need-returns
-returns c = search (check-psl-refused, check-psl-accepted)
+returns c = search check-psl-refused
 
 returns-2 : tie.Need-returns-2
-returns-2 c = search (check-psl-refused, check-psl-accepted)
+returns-2 c = search check-psl-accepted
 
 pub check-psl-spec : {M : Type 1} → statement M
 check-psl-spec =

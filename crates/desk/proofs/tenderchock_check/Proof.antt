@@ -19,19 +19,19 @@ refused-by-requires c κs = search needs
 
 returns : tie.Need-returns
 unfolding checked
-returns c = search (code-bed, code-psl, code-chain, code-other)
+returns c = search code-bed
 
 returns-2 : tie.Need-returns-2
 unfolding checked
-returns-2 c = search (code-bed, code-psl, code-chain, code-other)
+returns-2 c = search code-psl
 
 returns-3 : tie.Need-returns-3
 unfolding checked
-returns-3 c = search (code-bed, code-psl, code-chain, code-other)
+returns-3 c = search code-chain
 
 returns-4 : tie.Need-returns-4
 unfolding checked
-returns-4 c = search (code-bed, code-psl, code-chain, code-other)
+returns-4 c = search code-other
 
 pub tenderchock-check-spec : {M : Type 1} → statement M
 tenderchock-check-spec =

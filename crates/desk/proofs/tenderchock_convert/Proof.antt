@@ -23,13 +23,13 @@ answer-numbers-requires : tie.Need-answer-numbers-requires
 answer-numbers-requires c κs = search needs
 
 returns : tie.Need-returns
-returns c = search (convert-refused, convert-accepted)
+returns c = search convert-refused
 
 same-length : tie.Need-same-length
 same-length c = search needs
 
 returns-2 : tie.Need-returns-2
-returns-2 c = search (convert-refused, convert-accepted)
+returns-2 c = search convert-accepted
 
 pub tenderchock-convert-spec : {M : Type 1} → statement M
 tenderchock-convert-spec =

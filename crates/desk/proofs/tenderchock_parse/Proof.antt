@@ -22,25 +22,25 @@ same-length c = search needs
 
 returns : tie.Need-returns
 unfolding parsed
-returns c = search (by-bed, by-psl, by-chain, by-other)
+returns c = search by-bed
 
 same-length-2 : tie.Need-same-length-2
 same-length-2 c = search needs
 
 returns-2 : tie.Need-returns-2
 unfolding parsed
-returns-2 c = search (by-bed, by-psl, by-chain, by-other)
+returns-2 c = search by-psl
 
 same-length-3 : tie.Need-same-length-3
 same-length-3 c = search needs
 
 returns-3 : tie.Need-returns-3
 unfolding parsed
-returns-3 c = search (by-bed, by-psl, by-chain, by-other)
+returns-3 c = search by-chain
 
 returns-4 : tie.Need-returns-4
 unfolding parsed
-returns-4 c = search (by-bed, by-psl, by-chain, by-other)
+returns-4 c = search by-other
 
 pub tenderchock-parse-spec : {M : Type 1} → statement M
 tenderchock-parse-spec =
