@@ -23,20 +23,17 @@ use Rattle.text.proofs.PieceLaws.{Worded, worded-more, pieces-join, lines-none,
 use Rattle.writing.proofs.ListLaws.{list-values}
 use Rattle.blocks.specs.Blocks.{orderFrom, blocksFill, sumsFrom, shifted, subtracted}
 use Rattle.blocks.specs.Rules.{Fills}
-use Rattle.blocks.proofs.RuleLaws.{fills-of, fill-low, fill-shift, back-shifted, sums-only}
+use Rattle.blocks.proofs.RuleLaws.{fills-of, fill-low, fill-shift, back-shifted, sums-only, subtracted-length}
 use Rattle.bed.specs.declared.Bed.{Bed}
 use Rattle.bed.specs.declared.BedAnswer.the-variants.{Accepted}
 use Rattle.bed.specs.Records.{bedSizes, bedStarts, bedTargets, bedQueries}
 use Rattle.bed.specs.Read.{roomCheck, bedCheck, bedRead}
-use Rattle.bed.specs.Rules.{WordNumber, three-to-nine, twelve, partOf, BedLine, placed}
+use Rattle.bed.specs.Rules.{WordNumber, three-to-nine, twelve, BedLine, placed}
 use Rattle.bed.specs.Write.{writeCheck, bedWords, bedText}
 use Rattle.bed.proofs.LineLaws.{most-words, least-words, line-is}
-use Rattle.bed.proofs.BackWordLaws.{MayWrite, may-write, wordValues, subtracted-length, sizes-between, starts-between, words-spell, words-worded}
-
--- the bytes of a word, as a part and as an extent
-part-bytes : (s : List ℕ) (w : Extent) → partBytes s (partOf w) ≡ bytesOf s w
-unfolding partBytes bytesOf
-part-bytes s w = refl
+use Rattle.bed.proofs.BackWordLaws.{MayWrite, may-write, wordValues, sizes-between, starts-between, words-spell, words-worded}
+use Rattle.columns.specs.Names.{partOf}
+use Rattle.columns.proofs.WordLaws.{part-bytes}
 
 no-bytes : (xs : List ℕ) → length xs ≡ 0 → [] ≡ xs
 no-bytes [] e = refl

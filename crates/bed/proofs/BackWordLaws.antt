@@ -28,16 +28,18 @@ use Rattle.kinds.specs.declared.Kind.the-variants.{Name, Number, Count, Items, 
 use Rattle.kinds.specs.Kinds.{leastOf, mostOf, countAfter}
 use Rattle.kinds.proofs.BackLaws.{Written, written}
 use Rattle.columns.specs.Spells.{Spells, spells-none, spells-more}
-use Rattle.blocks.specs.Blocks.{blocksFill, areSums, allBetween, subtracted, countFits, rowsOf}
-use Rattle.blocks.proofs.RuleLaws.{between-of}
+use Rattle.blocks.specs.Blocks.{blocksFill, areSums, allBetween, subtracted, countFits, rowsOf, rowNumbersFit}
+use Rattle.blocks.proofs.RuleLaws.{between-of, subtracted-length}
 use Rattle.bed.specs.declared.Bed.{Bed}
 use Rattle.bed.specs.Table.{bedColumns}
 use Rattle.ledger.specs.Parts.{partAt}
 use Rattle.bed.specs.Records.{}
 use Rattle.bed.specs.Rules.{BedRules}
-use Rattle.bed.specs.Tests.{ifThere, namesFit, allGraphic, strandFits, fieldsFit, rowNumbersFit, spansFit, rowsFit, bedValid}
+use Rattle.bed.specs.Tests.{ifThere, namesFit, strandFits, fieldsFit, spansFit, rowsFit, bedValid}
 use Rattle.bed.specs.Write.{namesShow, writeCheck, bedWords}
 use Rattle.bed.proofs.RuleLaws.{rules-of}
+use Rattle.columns.specs.Names.{allGraphic}
+use Rattle.columns.proofs.WordLaws.{all-graphic, and-i, name-written, list-written}
 
 -- the record with names of these lengths
 abbrev pub named : Bed → List ℕ → List ℕ → Bed
@@ -65,15 +67,6 @@ pub record MayWrite (r : Bed) (chrom name ts qs zs : List ℕ) : Type 0 where
   pub fill : blocksFill (r .chromStart) (r .chromEnd) (take (r .blockCount) ts) (take (r .blockCount) zs) ≡ true
   pub sums : areSums 0 (take (r .blockCount) qs) (take (r .blockCount) zs) ≡ true
 
-all-graphic : (w : List ℕ) → allGraphic w ≡ true → All Graphic w
-unfolding endOf
-all-graphic w e =
-    let l : length w ≤ 0 + run Graphic w = leb-true (length w) (endOf Graphic w 0) e in
-    omega (arith, run-most Graphic w)
-
-and-is : (a b : Bool) → a ≡ true → b ≡ true → (a && b) ≡ true
-and-is a b h k = rw (h, k)
-
 -- THE WRITER'S CHECKS, ONE BY ONE
 pub may-write : (r : Bed) (chrom name ts qs zs : List ℕ) → writeCheck r chrom name ts qs zs ≡ Holds → MayWrite r chrom name ts qs zs
 unfolding writeCheck namesShow bedValid strandFits fieldsFit spansFit rowsFit rowNumbersFit
@@ -92,7 +85,7 @@ may-write r chrom name ts qs zs e =
     let others = both (allBetween 0 largestPosition (take n qs)) (allBetween 1 largestPosition (take n zs)) (starts .1) in
     let filled = both (ifThere (r .words) 9 true (eqb n 1)) (blocksFill (r .chromStart) (r .chromEnd) (take n ts) (take n zs) && areSums 0 (take n qs) (take n zs)) (rows .0) in
     let summed = both (blocksFill (r .chromStart) (r .chromEnd) (take n ts) (take n zs)) (areSums 0 (take n qs) (take n zs)) (filled .1) in
-    let valid : bedValid (named r chrom name) ts qs zs ≡ true = and-is _ _ (count .0) (and-is _ _ (lengths .0) (and-is _ _ (names .1) (and-is _ _ (fields .0) (and-is _ _ (fields .1) (and-is _ _ (spans .0) (rows .0)))))) in
+    let valid : bedValid (named r chrom name) ts qs zs ≡ true = and-i _ _ (count .0) (and-i _ _ (lengths .0) (and-i _ _ (names .1) (and-i _ _ (fields .0) (and-i _ _ (fields .1) (and-i _ _ (spans .0) (rows .0)))))) in
     record {
       rules = rules-of (named r chrom name) ts qs zs valid;
       chromShows = all-graphic chrom (shown .0);
@@ -103,27 +96,10 @@ may-write r chrom name ts qs zs e =
       sums = summed .1;
     }
 
--- one word of each kind
-name-written : (n : ℕ) (w : List ℕ) → 1 ≤ length w → length w ≤ nameLimit → All Graphic w → Written Name n (length w) w []
-name-written n w some short shows =
-    let a : take (length w) (drop 0 w) ≡ w = take-length w in
-    rw a at (written Name w [] n 0 (length w) 0 (record { some = some; short = short; there = ap length a; shows = ap (run Graphic) a ∙ shows }))
-
 strand-written : (n : ℕ) (t : Strand) → Written (Stranded true) n (strandLetter t) (strandLetter t ∷ []) []
 strand-written n Plus = written (Stranded true) [] [] n 0 43 0 refl
 strand-written n Minus = written (Stranded true) [] [] n 0 45 0 refl
 strand-written n Dot = written (Stranded true) [] [] n 0 46 0 refl
-
-list-written : (c : Range) (n : ℕ) (xs : List ℕ) → 1 ≤ n → length xs ≡ n → Between (leastOf c) (mostOf c) xs → Written (Items c) n n (listText xs) xs
-list-written c n xs some l b =
-    let a : take n (drop 0 xs) ≡ xs = take-all n xs (omega arith) in
-    rw a at (written (Items c) [] xs n 0 n 0 (record { some = some; count = refl; there = ap length a ∙ l; range = rw a b }))
-
--- numbers moved down
-pub subtracted-length : (a : ℕ) (xs : List ℕ) → length (subtracted a xs) ≡ length xs
-unfolding subtracted
-subtracted-length a [] = refl
-subtracted-length a (x ∷ xs) = ap suc (subtracted-length a xs)
 
 pub subtracted-between : (a most : ℕ) (xs : List ℕ) → Between 0 most xs → Between 0 most (subtracted a xs)
 unfolding subtracted

@@ -39,15 +39,11 @@ use Rattle.bed.specs.declared.BedAnswer.the-variants.{Accepted, Refused}
 use Rattle.bed.specs.Table.{bedColumns}
 use Rattle.bed.specs.Records.{isWordCount, valueOr, bedRecord}
 use Rattle.bed.specs.Read.{wordsCheck, spanCheck, afterSpans, afterLines, afterColumns, afterWords, afterText, bedCheck, Counted, Listed, Staged}
+use Rattle.columns.proofs.WordLaws.{map-take, stored-at, zeros, passed}
 
 -- the codes of the table in the code
 abbrev bedCodes : List ℕ
 bedCodes = 0 ∷ 1 ∷ 1 ∷ 0 ∷ 3 ∷ 10 ∷ 1 ∷ 1 ∷ 13 ∷ 6 ∷ 7 ∷ 8 ∷ []
-
-map-take : (f : ℕ → Kind) (n : ℕ) (xs : List ℕ) → map f (take n xs) ≡ take n (map f xs)
-map-take f zero xs = refl
-map-take f (suc n) [] = refl
-map-take f (suc n) (x ∷ xs) = ap (λ (l : List Kind). f x ∷ l) (map-take f n xs)
 
 pub table-is : (n : ℕ) → n ≤ 12 → tableOf (take n bedCodes) ≡ take n bedColumns
 unfolding tableOf kindOf bedColumns
@@ -70,18 +66,6 @@ count-split n h P a b = go (leb 3 n) (leb n 9) (eqb n 12) refl refl refl h
 
 pub count-most : (n : ℕ) → isWordCount n ≡ true → n ≤ 12
 count-most n h = count-split n h (n ≤ 12) (λ a b. omega arith) (λ e. omega arith)
-
--- values stored in a table of zeros read as the values
-stored-at : (z vs : List ℕ) → ((i : ℕ) → getD z i 0 ≡ 0) → length vs ≤ length z → (i : ℕ) → getD (sets z 0 vs) i 0 ≡ getD vs i 0
-stored-at z vs zeros h i =
-    let e : sets z 0 vs ≡ vs ++ drop (0 + length vs) z = sets-eq vs z 0 (omega arith) in
-    rw e
-    (either (length vs) i _ (λ l.
-    let q : i ≡ length vs + (i - length vs) = omega arith in
-    let x : getD (vs ++ drop (0 + length vs) z) (length vs + (i - length vs)) 0 ≡ getD (drop (0 + length vs) z) (i - length vs) 0 = getD-append-add vs (drop (0 + length vs) z) (i - length vs) 0 in
-    let y : getD (drop (0 + length vs) z) (i - length vs) 0 ≡ getD z (0 + length vs + (i - length vs)) 0 = getD-drop (0 + length vs) z (i - length vs) 0 in
-    (rw (← q) at (x ∙ y ∙ zeros (0 + length vs + (i - length vs)))) ∙ sym (List·getD-eq-default vs 0 l))
-    (λ l. List·getD-append vs (drop (0 + length vs) z) 0 i l))
 
 -- a record and its checks depend on the values at their places alone
 module _ (n : ℕ) (a b : List ℕ) (same : (i : ℕ) → getD a i 0 ≡ getD b i 0) where
@@ -194,12 +178,6 @@ module _ (s : List ℕ) (n e : ℕ) (d : List ℕ) (counted : Counted s n d) (re
         starts = λ k. rw (v, t) (starts-held s e r c d (counted .long));
       })
 
--- the columns read, and on
-zeros : (m i : ℕ) → _≡_ {A = ℕ} (getD {A = ℕ} (replicate m 0) i 0) 0
-zeros zero i = refl
-zeros (suc m) zero = refl
-zeros (suc m) (suc i) = zeros m i
-
 module _ (s : List ℕ) (n : ℕ) (b′ d d′ : List ℕ) (counted : Counted s n d) (x : Columns) (read : ColumnsRead (tableOf (take n bedCodes)) s 0 (replicate 24 0) b′ d d′ x) where
   read-is : x ≡ columnsFrom (take n bedColumns) 0 s 0
   read-is = rw (table-is n (count-most n (counted .good))) at (read .result)
@@ -237,16 +215,10 @@ words-few s n d h = count-most n (h .good)
 pub words-length : (s : List ℕ) (n : ℕ) (d : List ℕ) → Counted s n d → n ≡ length (take n bedCodes)
 words-length s n d h = codes-length n (count-most n (h .good))
 
--- a number of words that passes its check
-passed : (a b : Bool) (x y : Refusal) → pickCheck a (pickCheck b Holds (check.Refused x)) (check.Refused y) ≡ Holds → b ≡ true
-passed true true x y e = refl
-passed true false x y e = absurd (let q : _≡_ {A = ℕ} 0 1 = cc in omega arith)
-passed false b x y e = absurd (let q : _≡_ {A = ℕ} 0 1 = cc in omega arith)
-
 module _ (s : List ℕ) (n : ℕ) (en : n ≡ wordCount s 0) (c : Check) (ec : c ≡ wordsCheck s n) where
   pub words-counted : (d : List ℕ) → length d ≡ 2 * blockLimit → c ≡ Holds → Counted s n d
   unfolding wordsCheck
-  words-counted d l q = record { long = l; count = en; good = passed (leb n 12) (isWordCount n) _ _ (sym ec ∙ q) }
+  words-counted d l q = record { long = l; count = en; good = passed (leb n 12) (isWordCount n) _ _ (sym ec ∙ q) .1 }
 
   pub text-refused : (l : List ℕ) (x : Refusal) → c ≡ check.Refused x → Staged s (afterText s) l (Refused x)
   unfolding afterText

@@ -43,9 +43,11 @@ use Rattle.ledger.specs.Strands.{strandIs}
 use Rattle.ledger.specs.Parts.{partAt}
 use Rattle.bed.specs.Records.{valueOr, placeOr, bedRecord, bedSizes, bedStarts}
 use Rattle.bed.specs.Read.{wordsCheck, thickFits, spanCheck, blockCheck, bedCheck}
-use Rattle.bed.specs.Rules.{WordNumber, three-to-nine, twelve, partOf, BedLine}
+use Rattle.bed.specs.Rules.{WordNumber, three-to-nine, twelve, BedLine}
 use Rattle.bed.proofs.ReadLaws.{value-there, value-left}
 use Rattle.bed.proofs.AcceptLaws.{lineValues, Accepts, accepts-of, accepts-is, number-is, words-of, span-of, thick-of, sizes-count, starts-count, accepted-count, accepted-starts, accepted-fills}
+use Rattle.columns.specs.Names.{partOf}
+use Rattle.columns.proofs.WordLaws.{word-length, strand-is, letter-is}
 
 -- the number of words
 pub most-words : {n : ℕ} → WordNumber n → n ≤ 12
@@ -74,15 +76,6 @@ span-is r vs h a b c = rw (lt-ltb (r .chromStart) (r .chromEnd) h, le-leb (r .ch
 block-is : (s : List ℕ) (r : Bed) → length (bedStarts s r) ≡ r .blockCount → length (bedSizes s r) ≡ r .blockCount → Fills 0 (r .chromEnd - r .chromStart) (r .blockCount) (bedStarts s r) (bedSizes s r) → blockCheck s r ≡ Holds
 unfolding blockCheck
 block-is s r a b f = rw (fills-is 0 (r .chromEnd - r .chromStart) (r .blockCount) (bedStarts s r) (bedSizes s r) a b f)
-
--- a word's bytes are as many as its extent says
-pub word-length : (s : List ℕ) (k : ℕ) → length (bytesOf s (wordAt s 0 k)) ≡ wordAt s 0 k .end - wordAt s 0 k .start
-unfolding bytesOf endOf
-word-length s k =
-    let w = wordAt s 0 k in
-    let a : w .end ≡ w .start + run Word (drop (w .start) s) = word-ends s 0 k in
-    let b = run-most Word (drop (w .start) s) in
-    rw length-take (omega arith)
 
 -- the columns of a line that is read, by their numbers
 module _ (s : List ℕ) (e : ℕ) (number : WordNumber (wordCount s 0)) (read : columnsFrom (take (wordCount s 0) bedColumns) 0 s 0 ≡ Next e) where
@@ -124,19 +117,6 @@ module _ (n : ℕ) (us : List ℕ) (k : ℕ) where
   value-none : (d : ℕ) → n ≤ k → valueOr n us k d ≡ d
   value-none d h = rw (le-ltb k n h)
 
--- a strand is read from its letter, and a letter from its strand
-strand-is : (t : Strand) (v : ℕ) → strandLetter t ≡ v → t ≡ strandIs (strandOf v)
-strand-is t v e = rw (← e, strand-of-letter t)
-
-letter-is : (v : ℕ) → isStrand true (v ∷ []) ≡ true → strandLetter (strandIs (strandOf v)) ≡ v
-letter-is v h = go (eqb v 43) (eqb v 45) (eqb v 46) refl refl refl h
-  where
-    go : (x y z : Bool) → eqb v 43 ≡ x → eqb v 45 ≡ y → eqb v 46 ≡ z → (x || (y || z)) ≡ true → strandLetter (strandIs (strandOf v)) ≡ v
-    go true y z e f g k = rw e (sym (eqb-true v 43 e))
-    go false true z e f g k = rw (e, f) (sym (eqb-true v 45 f))
-    go false false true e f g k = rw (e, f, g) (sym (eqb-true v 46 g))
-    go false false false e f g k = absurd (let q : _≡_ {A = ℕ} 0 1 = cc in omega arith)
-
 -- two records with the same fields are the same
 bed-same : (r q : Bed) → r .words ≡ q .words → r .chrom ≡ q .chrom → r .chromStart ≡ q .chromStart → r .chromEnd ≡ q .chromEnd → r .name ≡ q .name → r .score ≡ q .score → r .strand ≡ q .strand → r .thickStart ≡ q .thickStart → r .thickEnd ≡ q .thickEnd → r .itemRgb ≡ q .itemRgb → r .blockCount ≡ q .blockCount → r ≡ q
 bed-same r q a b c d e f g h i j k =
@@ -177,7 +157,7 @@ module _ (s : List ℕ) (r : Bed) (ok : bedCheck s ≡ Accepted r) where
 
   letter-at : 5 < n → strandLetter (strandIs (strandOf (getD us 10 0))) ≡ getD us 10 0
   unfolding bedColumns
-  letter-at h = letter-is (getD us 10 0) (strand-spelt true _ (bytesOf s (wordAt s 0 5)) (getD us 10 0) (value-spelt s (a .end) number (a .read) 5 h) .0)
+  letter-at h = letter-is true (getD us 10 0) (strand-spelt true _ (bytesOf s (wordAt s 0 5)) (getD us 10 0) (value-spelt s (a .end) number (a .read) 5 h) .0)
 
   pub line-of : BedLine s (firsts (valuesFrom (take (wordCount s 0) bedColumns) 0 s 0)) r
   unfolding bedRecord bedColumns

@@ -12,17 +12,15 @@ use Rattle.ledger.specs.declared.Strand.{Strand}
 use Rattle.ledger.specs.declared.Strand.the-variants.{Plus, Minus, Dot}
 use Rattle.ledger.specs.Limits.{blockLimit, nameLimit, largestPosition, bedScoreLimit, colourLimit}
 use Rattle.text.proofs.TextLaws.{both}
-use Rattle.blocks.specs.Blocks.{countFits, rowsOf}
+use Rattle.blocks.specs.Blocks.{countFits, rowsOf, rowNumbersFit}
 use Rattle.blocks.proofs.RuleLaws.{fills-of, fills-is, sums-of, sums-is, ranged-of, ranged-is}
 use Rattle.blocks.proofs.TakeLaws.{fills-take, fills-back, sums-take, sums-back, ranged-take, ranged-back}
 use Rattle.bed.specs.declared.Bed.{Bed}
 use Rattle.bed.specs.Records.{isWordCount}
-use Rattle.bed.specs.Tests.{ifThere, lengthFits, namesFit, isDot, strandFits, fieldsFit, rowNumbersFit, spansFit, rowsFit, bedValid}
+use Rattle.bed.specs.Tests.{ifThere, namesFit, isDot, strandFits, fieldsFit, spansFit, rowsFit, bedValid}
 use Rattle.bed.specs.Rules.{WordNumber, three-to-nine, twelve, BedRules}
-
--- two tests that hold
-and-i : (a b : Bool) → a ≡ true → b ≡ true → (a && b) ≡ true
-and-i a b h k = rw (h, k)
+use Rattle.columns.specs.Names.{lengthFits}
+use Rattle.columns.proofs.WordLaws.{and-i}
 
 -- a column that is there, and one left out
 module _ (n k : ℕ) (a b : Bool) where

@@ -23,29 +23,20 @@ use Rattle.kinds.proofs.RangeLaws.{number-spelt, count-spelt, name-spelt, colou
 use Rattle.columns.specs.Spells.{firsts}
 use Rattle.columns.specs.Places.{kindAt, countBefore}
 use Rattle.columns.proofs.PlaceLaws.{value-first}
-use Rattle.blocks.specs.Blocks.{blocksFill, sumsFrom, sumOf, areSums, allBetween, rowsOf, countFits}
-use Rattle.blocks.proofs.RuleLaws.{between-is, fill-low, fill-shift, shifted-length, sums-made, sums-length, total-fits}
+use Rattle.blocks.specs.Blocks.{blocksFill, sumsFrom, sumOf, areSums, allBetween, rowsOf, countFits, rowNumbersFit}
+use Rattle.blocks.proofs.RuleLaws.{between-is, fill-low, fill-shift, shifted-length, sums-made, sums-length, total-fits, wider}
 use Rattle.bed.specs.declared.Bed.{Bed}
 use Rattle.bed.specs.declared.BedAnswer.the-variants.{Accepted}
 use Rattle.bed.specs.Table.{bedColumns}
 use Rattle.bed.specs.Records.{bedSizes, bedStarts, bedTargets, bedQueries}
 use Rattle.bed.specs.Read.{bedCheck}
-use Rattle.bed.specs.Rules.{WordNumber, three-to-nine, twelve, partOf, BedLine}
-use Rattle.bed.specs.Tests.{ifThere, lengthFits, namesFit, isDot, strandFits, fieldsFit, rowNumbersFit, spansFit, rowsFit, bedValid}
+use Rattle.bed.specs.Rules.{WordNumber, three-to-nine, twelve, BedLine}
+use Rattle.bed.specs.Tests.{ifThere, namesFit, isDot, strandFits, fieldsFit, spansFit, rowsFit, bedValid}
 use Rattle.bed.proofs.ColumnLaws.{block-sizes}
 use Rattle.bed.proofs.AcceptLaws.{lineValues, accepts-of, number-is, thick-of, read-all, accepted-number, accepted-span, accepted-fills, accepted-count, accepted-starts}
-use Rattle.bed.proofs.LineLaws.{least-words, word-length, value-spelt, line-of}
-
--- numbers of a range lie in a wider one
-wider : (a b c d : ℕ) (vs : List ℕ) → c ≤ a → b ≤ d → allBetween a b vs ≡ true → allBetween c d vs ≡ true
-unfolding allBetween
-wider a b c d [] l h e = refl
-wider a b c d (v ∷ vs) l h e =
-    let p = both (leb a v && leb v b) (allBetween a b vs) e in
-    let q = both (leb a v) (leb v b) (p .0) in
-    let x = leb-true a v (q .0) in
-    let y = leb-true v b (q .1) in
-    rw (le-leb c v (omega arith), le-leb v d (omega arith)) (wider a b c d vs l h (p .1))
+use Rattle.bed.proofs.LineLaws.{least-words, value-spelt, line-of}
+use Rattle.columns.specs.Names.{partOf, lengthFits}
+use Rattle.columns.proofs.WordLaws.{word-length}
 
 -- sums lie within a number that their total fits into
 sums-between : (most acc : ℕ) (zs : List ℕ) → acc + sumOf zs ≤ most → allBetween 0 most (sumsFrom acc zs) ≡ true

@@ -12,14 +12,14 @@ use Rattle.text.specs.Parts.{partBytes}
 use Rattle.text.specs.Pieces.{joined}
 use Rattle.writing.specs.Digits.{digitsIn, digits, listText}
 use Rattle.kinds.specs.Words.{colourText}
-use Rattle.blocks.specs.Blocks.{orderFrom, blocksFill, areSums, allBetween, subtracted}
+use Rattle.blocks.specs.Blocks.{orderFrom, blocksFill, areSums, allBetween, subtracted, rowNumbersFit}
 use Rattle.bed.specs.declared.Bed.{Bed}
 use Rattle.bed.specs.declared.BedAnswer.the-variants.{Accepted}
 use Rattle.ledger.specs.Parts.{partAt}
 use Rattle.bed.specs.Records.{bedTargets}
 use Rattle.bed.specs.Read.{bedRead}
 use Rattle.bed.specs.Rules.{placed}
-use Rattle.bed.specs.Tests.{namesFit, strandFits, fieldsFit, rowNumbersFit, spansFit, rowsFit}
+use Rattle.bed.specs.Tests.{namesFit, strandFits, fieldsFit, spansFit, rowsFit}
 use Rattle.bed.specs.Write.{namesShow, writeCheck, bedWords, bedText}
 use Rattle.bed.proofs.BackLaws.{back-read, back-chrom, back-targets}
 

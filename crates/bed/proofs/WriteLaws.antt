@@ -26,18 +26,21 @@ use Rattle.writing.specs.declared.Writing.{Writing}
 use Rattle.writing.specs.declared.Writing.the-variants as writing
 use Rattle.kinds.proofs.SpellLaws.{part-stored}
 use Rattle.columns.specs.Columns.{tableOf}
-use Rattle.columns.specs.Lines.{lineText, fedLine}
+use Rattle.columns.specs.Lines.{lineText, fedLine, thenWrite}
 use Rattle.columns.specs.Ranges.{wordsFrom}
 use Rattle.columns.proofs.BackLaws.{line-joins, words-take}
 use Rattle.columns.proofs.PlaceLaws.{sets-keep, sets-there}
-use Rattle.blocks.specs.Blocks.{countFits, rowsOf, subtracted}
+use Rattle.blocks.specs.Blocks.{countFits, rowsOf, subtracted, rowNumbersFit}
 use Rattle.bed.specs.declared.Bed.{Bed}
 use Rattle.bed.specs.Table.{bedColumns}
 use Rattle.bed.specs.Records.{isWordCount}
-use Rattle.bed.specs.Tests.{pickTest, ifThere, lengthFits, namesFit, fieldsFit, strandFits, rowNumbersFit, spansFit, rowsFit}
-use Rattle.bed.specs.Write.{namesShow, writeCheck, bedWords, bedText, bedValues, bedWrite, thenWrite, BedWrote, NamesShort, NamesPut, RowsThere, ListsPut, Writable}
+use Rattle.bed.specs.Tests.{pickTest, ifThere, namesFit, fieldsFit, strandFits, spansFit, rowsFit}
+use Rattle.bed.specs.Write.{namesShow, writeCheck, bedWords, bedText, bedValues, bedWrite, BedWrote, NamesShort, NamesPut, RowsThere, ListsPut, Writable}
 use Rattle.bed.proofs.AcceptLaws.{number-of}
 use Rattle.bed.proofs.ColumnLaws.{table-is, codes-length, count-most}
+use Rattle.columns.specs.Names.{lengthFits}
+use Rattle.columns.proofs.WordLaws.{letter-byte}
+use Rattle.blocks.proofs.RuleLaws.{subtracted-length}
 
 -- the codes of the table in the code
 abbrev bedCodes : List ℕ
@@ -49,12 +52,6 @@ names-put chrom name t t₁ t₂ p q h f g = record {
   chromAt = rw (g .stored) (sets-keep t₁ nameLimit name 0 (length chrom) (omega (arith, h .chromShort)) ∙ rw (f .stored) (sets-there t 0 chrom (omega (arith, h .chromShort, h .long))));
   nameAt = rw (g .stored) (sets-there t₁ nameLimit name (rw (f .stored, length-sets) (omega (arith, h .nameShort, h .long))));
 }
-
--- the two lists
-subtracted-length : (a : ℕ) (xs : List ℕ) → length (subtracted a xs) ≡ length xs
-unfolding subtracted
-subtracted-length a [] = refl
-subtracted-length a (x ∷ xs) = ap suc (subtracted-length a xs)
 
 pub lists-put : (r : Bed) (ts zs l l₁ y : List ℕ) → RowsThere r ts zs l → l₁ ≡ sets l 0 (take (r .blockCount) zs)
     → y ≡ sets (take (length l₁ - blockLimit) (drop blockLimit l₁)) 0 (subtracted (r .chromStart) (take (r .blockCount) ts)) → ListsPut r ts zs (putMid blockLimit (length l₁ - blockLimit) l₁ y)
@@ -72,11 +69,6 @@ lists-put r ts zs l l₁ y h e₁ ey =
       sizes = rw e (sets-keep l₁ blockLimit xs 0 n (omega (arith, h .few)) ∙ rw e₁ (rw a at u));
       starts = rw e (rw c at w);
     }
-
-letter-byte : (s : Strand) → strandLetter s % 256 ≡ strandLetter s
-letter-byte Plus = refl
-letter-byte Minus = refl
-letter-byte Dot = refl
 
 -- the line that the line writer makes of the values is the standard text
 module _ (r : Bed) (chrom name ts zs t l : List ℕ) (names : NamesPut chrom name t) (lists : ListsPut r ts zs l) where

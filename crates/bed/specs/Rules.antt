@@ -19,15 +19,12 @@ use Rattle.blocks.specs.Rules.{Fills, Sums, Ranged}
 use Rattle.bed.specs.declared.Bed.{Bed}
 use Rattle.bed.specs.Table.{bedColumns}
 use Rattle.bed.specs.Records.{bedSizes, bedStarts}
+use Rattle.columns.specs.Names.{partOf}
 
 -- a BED line has 3 to 9 words, or 12
 pub data WordNumber : ℕ → Type 0 where
   three-to-nine : {n : ℕ} → 3 ≤ n → n ≤ 9 → WordNumber n
   twelve : WordNumber 12
-
--- the part of a text that a word stands in
-abbrev pub partOf : Extent → Part
-partOf w = record { start = w .start; length = w .end - w .start }
 
 -- the text s is a BED line whose words spell the values vs, one a column, and the record r is what it says
 pub record BedLine (s vs : List ℕ) (r : Bed) : Type 0 where

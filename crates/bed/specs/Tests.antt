@@ -9,10 +9,11 @@ use Rattle.ledger.specs.declared.Strand.the-variants.{Plus, Minus, Dot}
 use Rattle.ledger.specs.Limits.{nameLimit, largestPosition, bedScoreLimit, colourLimit}
 use Rattle.text.specs.declared.Class.the-variants.{Graphic}
 use Rattle.text.specs.Scan.{endOf}
-use Rattle.blocks.specs.Blocks.{blocksFill, areSums, allBetween, countFits, rowsOf}
+use Rattle.blocks.specs.Blocks.{blocksFill, areSums, allBetween, countFits, rowsOf, rowNumbersFit}
 use Rattle.bed.specs.declared.Bed.{Bed}
 use Rattle.bed.specs.Records.{isWordCount}
 use Rattle.bed.specs.Read.{thickFits}
+use Rattle.columns.specs.Names.{allGraphic, lengthFits}
 
 abbrev pub pickTest : Bool → Bool → Bool → Bool
 pickTest true a b = a
@@ -22,17 +23,9 @@ pickTest false a b = b
 abbrev pub ifThere : ℕ → ℕ → Bool → Bool → Bool
 ifThere n k there left = pickTest (ltb k n) there left
 
--- a name's length
-abbrev pub lengthFits : ℕ → Bool
-lengthFits n = leb 1 n && leb n nameLimit
-
 -- the two names by their lengths; a name left out is empty
 unfoldable pub namesFit : ℕ → ℕ → ℕ → Bool
 namesFit n chrom name = lengthFits chrom && ifThere n 3 (lengthFits name) (eqb name 0)
-
--- bytes that all show: 33 to 126
-abbrev pub allGraphic : List ℕ → Bool
-allGraphic w = leb (length w) (endOf Graphic w 0)
 
 abbrev pub isDot : Strand → Bool
 isDot Plus = false
@@ -51,10 +44,6 @@ fieldsFit r =
     && (ifThere (r .words) 6 (leb (r .thickStart) largestPosition) (eqb (r .thickStart) (r .chromStart))
     && (ifThere (r .words) 7 (leb (r .thickEnd) largestPosition) (eqb (r .thickEnd) (r .chromEnd))
     && ifThere (r .words) 8 (ltb (r .itemRgb) (suc colourLimit * suc colourLimit * suc colourLimit)) (eqb (r .itemRgb) 0))))))
-
--- the numbers of the used rows in their ranges
-unfoldable pub rowNumbersFit : List ℕ → List ℕ → List ℕ → Bool
-rowNumbersFit ts qs zs = allBetween 0 largestPosition ts && (allBetween 0 largestPosition qs && allBetween 1 largestPosition zs)
 
 -- the spans
 unfoldable pub spansFit : Bed → Bool

@@ -19,9 +19,11 @@ use Rattle.writing.specs.declared.Writing.{Writing}
 use Rattle.writing.specs.declared.Writing.the-variants as writing
 use Rattle.writing.specs.Answers.{roomAnswer, leftAfter}
 use Rattle.kinds.specs.Words.{colourText}
-use Rattle.blocks.specs.Blocks.{countFits, rowsOf, subtracted}
+use Rattle.blocks.specs.Blocks.{countFits, rowsOf, subtracted, rowNumbersFit}
 use Rattle.bed.specs.declared.Bed.{Bed}
-use Rattle.bed.specs.Tests.{namesFit, allGraphic, strandFits, fieldsFit, rowNumbersFit, spansFit, rowsFit, bedValid, ifThere}
+use Rattle.bed.specs.Tests.{namesFit, strandFits, fieldsFit, spansFit, rowsFit, bedValid, ifThere}
+use Rattle.columns.specs.Names.{allGraphic}
+use Rattle.columns.specs.Lines.{thenWrite}
 
 -- the names that are handed in: their lengths, and that all their bytes show
 unfoldable pub namesShow : Bed → List ℕ → List ℕ → Bool
@@ -51,10 +53,6 @@ bedText r chrom name ts zs = joined 9 (take (r .words) (bedWords r chrom name ts
 unfoldable pub bedValues : Bed → ℕ → ℕ → List ℕ
 bedValues r chrom name =
     chrom ∷ 0 ∷ r .chromStart ∷ 0 ∷ r .chromEnd ∷ 0 ∷ name ∷ nameLimit ∷ r .score ∷ 0 ∷ strandLetter (r .strand) ∷ 0 ∷ r .thickStart ∷ 0 ∷ r .thickEnd ∷ 0 ∷ r .itemRgb ∷ 0 ∷ r .blockCount ∷ 0 ∷ r .blockCount ∷ 0 ∷ r .blockCount ∷ 0 ∷ []
-
-abbrev pub thenWrite : Check → Writing → Writing
-thenWrite Holds rest = rest
-thenWrite (check.Refused x) rest = writing.Refused x
 
 -- THE WRITER: the checks, then the text's length (1), then the room (11)
 unfoldable pub bedWrite : Bed → List ℕ → List ℕ → List ℕ → List ℕ → List ℕ → ℕ → Writing

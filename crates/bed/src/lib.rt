@@ -7,7 +7,7 @@ ghost use Rattle.ledger.specs.Limits.{nameLimit, blockLimit};
 ghost use Rattle.writing.specs.Answers.{Wrote};
 ghost use Rattle.bed.specs.Records.{isWordCount, valueOr, placeOr, bedRecord};
 ghost use Rattle.text.specs.Checks.{require};
-ghost use Rattle.bed.specs.Tests.{ifThere, lengthFits, allGraphic, namesFit, isDot, strandFits, fieldsFit, rowNumbersFit, spansFit, rowsFit, bedValid};
+ghost use Rattle.bed.specs.Tests.{ifThere, namesFit, isDot, strandFits, fieldsFit, spansFit, rowsFit, bedValid};
 ghost use Rattle.bed.specs.Write.{namesShow, writeCheck, bedValues, bedText, NamesShort, NamesPut, RowsThere, ListsPut, Writable, BedWrote, recordCheck};
 ghost use Rattle.bed.specs.Read.{wordsCheck, thickFits, thickPlace, spanCheck, blockCheck, withDefault, afterSpans, afterLines, afterColumns, afterWords, afterText, bedCheck, Counted, Listed, Blocked, Staged, Stored, RowsStored, BedRead};
 use columns::Columns;
@@ -18,6 +18,8 @@ use ledger::Strand;
 use text::Check;
 use text::Class;
 use writing::Writing;
+ghost use Rattle.columns.specs.Names.{lengthFits, allGraphic};
+ghost use Rattle.blocks.specs.Blocks.{rowNumbersFit};
 
 // The record of a BED line. A name is a part of the text; a colour is one number, (red × 256 + green) × 256 + blue.
 pub struct Bed {

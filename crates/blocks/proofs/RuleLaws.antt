@@ -262,3 +262,20 @@ shifted-within most a high (x ∷ xs) e h =
     let b = both (leb 0 x && leb x high) (allBetween 0 high xs) e in
     let l = leb-true x high (both (leb 0 x) (leb x high) (b .0) .1) in
     rw (le-leb (a + x) most (omega arith), shifted-within most a high xs (b .1) h)
+
+-- numbers in a range are in a wider one
+pub wider : (a b c d : ℕ) (vs : List ℕ) → c ≤ a → b ≤ d → allBetween a b vs ≡ true → allBetween c d vs ≡ true
+unfolding allBetween
+wider a b c d [] l h e = refl
+wider a b c d (v ∷ vs) l h e =
+    let p = both (leb a v && leb v b) (allBetween a b vs) e in
+    let q = both (leb a v) (leb v b) (p .0) in
+    let x = leb-true a v (q .0) in
+    let y = leb-true v b (q .1) in
+    rw (le-leb c v (omega arith), le-leb v d (omega arith)) (wider a b c d vs l h (p .1))
+
+-- numbers moved down are as many
+pub subtracted-length : (a : ℕ) (xs : List ℕ) → length (subtracted a xs) ≡ length xs
+unfolding subtracted
+subtracted-length a [] = refl
+subtracted-length a (x ∷ xs) = ap suc (subtracted-length a xs)

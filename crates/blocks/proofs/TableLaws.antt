@@ -78,3 +78,9 @@ pub table-back : (rows : List Row) → tableOf (targetsOf rows) (queriesOf rows)
 unfolding tableOf
 table-back [] = refl
 table-back (b ∷ rows) = ap (λ (l : List Row). b ∷ l) (table-back rows)
+
+-- the first numbers of a column are the column of the first rows
+pub take-map : (g : Row → ℕ) (n : ℕ) (rows : List Row) → take n (map g rows) ≡ map g (take n rows)
+take-map g zero rows = refl
+take-map g (suc n) [] = refl
+take-map g (suc n) (b ∷ rows) = ap (λ (l : List ℕ). g b ∷ l) (take-map g n rows)

@@ -4,7 +4,7 @@ use mathlib.Core.Bool.{Bool, true, false, _&&_}
 use mathlib.Core.List.{List, [], _∷_}
 use lib.ListN.{length}
 use lib.Dec.{leb, ltb, eqb}
-use Rattle.ledger.specs.Limits.{blockLimit, largestNumber}
+use Rattle.ledger.specs.Limits.{blockLimit, largestPosition, largestNumber}
 
 -- after a block that starts at s with size z: each further block starts at or after the end of the one before, and the last ends at a place
 unfoldable pub orderFrom : ℕ → ℕ → ℕ → List ℕ → List ℕ → Bool
@@ -54,6 +54,10 @@ sumOf (z ∷ zs) = z + sumOf zs
 unfoldable pub allBetween : ℕ → ℕ → List ℕ → Bool
 allBetween least most [] = true
 allBetween least most (v ∷ vs) = (leb least v && leb v most) && allBetween least most vs
+
+-- the numbers of used rows in their ranges: starts from 0, sizes from 1
+unfoldable pub rowNumbersFit : List ℕ → List ℕ → List ℕ → Bool
+rowNumbersFit ts qs zs = allBetween 0 largestPosition ts && (allBetween 0 largestPosition qs && allBetween 1 largestPosition zs)
 
 -- numbers moved up by a, and down by a
 unfoldable pub shifted : ℕ → List ℕ → List ℕ

@@ -30,18 +30,21 @@ use Rattle.kinds.specs.declared.Kind.the-variants.{Name, Number, Stranded, Word
 use Rattle.kinds.specs.Kinds.{countAfter}
 use Rattle.kinds.proofs.BackLaws.{Written, written}
 use Rattle.columns.specs.Spells.{Spells, spells-none, spells-more}
-use Rattle.blocks.specs.Blocks.{countFits, rowsOf}
+use Rattle.blocks.specs.Blocks.{countFits, rowsOf, rowNumbersFit}
 use Rattle.chain.specs.declared.Chain.{Chain}
 use Rattle.chain.specs.declared.ChainAnswer.the-variants.{Accepted}
 use Rattle.chain.specs.Table.{chainColumns, blockColumns}
-use Rattle.chain.specs.Records.{partAt, chainTargets, chainQueries, chainSizes}
+use Rattle.chain.specs.Records.{chainTargets, chainQueries, chainSizes}
 use Rattle.chain.specs.Read.{roomCheck, chainCheck, chainRead}
-use Rattle.chain.specs.Tests.{namesFit, allGraphic, strandFits, fieldsFit, rowNumbersFit, spansFit, rowsFit, chainValid}
+use Rattle.chain.specs.Tests.{namesFit, strandFits, fieldsFit, spansFit, rowsFit, chainValid}
 use Rattle.chain.specs.Write.{namesShow, writeCheck, headWords, fedWords, gapTo, gapWords, blockText, chainText}
-use Rattle.chain.specs.Rules.{partOf, BlockLines, last-line, more-lines, ChainText, ChainRules, placed}
-use Rattle.chain.proofs.WriteLaws.{require-holds}
+use Rattle.chain.specs.Rules.{BlockLines, last-line, more-lines, ChainText, ChainRules, placed}
 use Rattle.chain.proofs.RuleLaws.{rules-of}
 use Rattle.chain.proofs.TextLaws.{text-is, text-targets, text-queries, text-sizes}
+use Rattle.ledger.specs.Parts.{partAt}
+use Rattle.columns.specs.Names.{allGraphic, partOf}
+use Rattle.columns.proofs.WordLaws.{all-graphic, and-i, name-written, row-spells, row-worded, Row, row-none, row-more, part-bytes}
+use Rattle.text.proofs.CheckLaws.{require-holds}
 
 -- the record with names of these lengths
 abbrev pub named : Chain → List ℕ → List ℕ → Chain
@@ -66,25 +69,6 @@ pub record MayWrite (r : Chain) (tName qName ts qs zs : List ℕ) : Type 0 where
   pub tShows : All Graphic tName
   pub qShows : All Graphic qName
 
--- a scan ends in the text
-run-most : (c : Class) (s : List ℕ) → run c s ≤ length s
-unfolding run
-run-most c [] = omega arith
-run-most c (b ∷ s) = go (isIn c b) (run-most c s)
-  where
-    go : (t : Bool) → run c s ≤ length s → oneMore t (run c s) ≤ suc (length s)
-    go true h = omega arith
-    go false h = omega arith
-
-all-graphic : (w : List ℕ) → allGraphic w ≡ true → All Graphic w
-unfolding endOf
-all-graphic w e =
-    let l : length w ≤ 0 + run Graphic w = leb-true (length w) (endOf Graphic w 0) e in
-    omega (arith, run-most Graphic w)
-
-and-is : (a b : Bool) → a ≡ true → b ≡ true → (a && b) ≡ true
-and-is a b h k = rw (h, k)
-
 -- THE WRITER'S CHECKS, ONE BY ONE
 pub may-write : (r : Chain) (tName qName ts qs zs : List ℕ) → writeCheck r tName qName ts qs zs ≡ Holds → MayWrite r tName qName ts qs zs
 unfolding writeCheck namesShow chainValid fieldsFit spansFit rowsFit rowNumbersFit
@@ -99,36 +83,17 @@ may-write r tName qName ts qs zs e =
     let lengths = both (namesFit (length tName) (length qName)) (allGraphic tName && allGraphic qName) (names .0) in
     let shown = both (allGraphic tName) (allGraphic qName) (lengths .1) in
     let fields = both (fieldsFit r) (rowNumbersFit (take n ts) (take n qs) (take n zs)) (numbers .0) in
-    let valid : chainValid (named r tName qName) ts qs zs ≡ true = and-is _ _ (count .0) (and-is _ _ (lengths .0) (and-is _ _ (names .1) (and-is _ _ (fields .0) (and-is _ _ (fields .1) (and-is _ _ (spans .0) (rows .0)))))) in
+    let valid : chainValid (named r tName qName) ts qs zs ≡ true = and-i _ _ (count .0) (and-i _ _ (lengths .0) (and-i _ _ (names .1) (and-i _ _ (fields .0) (and-i _ _ (fields .1) (and-i _ _ (spans .0) (rows .0)))))) in
     record {
       rules = rules-of (named r tName qName) ts qs zs valid;
       tShows = all-graphic tName (shown .0);
       qShows = all-graphic qName (shown .1);
     }
 
--- one word of each kind
-name-written : (n : ℕ) (w : List ℕ) → 1 ≤ length w → length w ≤ nameLimit → All Graphic w → Written Name n (length w) w []
-name-written n w some short shows =
-    let a : take (length w) (drop 0 w) ≡ w = take-length w in
-    rw a at (written Name w [] n 0 (length w) 0 (record { some = some; short = short; there = ap length a; shows = ap (run Graphic) a ∙ shows }))
-
 strand-written : (n : ℕ) (t : Strand) → (t ≡ Dot → ⊥) → Written (Stranded false) n (strandLetter t) (strandLetter t ∷ []) []
 strand-written n Plus h = written (Stranded false) [] [] n 0 43 0 refl
 strand-written n Minus h = written (Stranded false) [] [] n 0 45 0 refl
 strand-written n Dot h = absurd (h refl)
-
--- the words ws of the columns cs are there, show, and spell the values vs
-data Row : List Kind → ℕ → List (List ℕ) → List ℕ → Type 0 where
-  row-none : {n : ℕ} → Row [] n [] []
-  row-more : {n v : ℕ} {c : Kind} {cs : List Kind} {w held : List ℕ} {ws : List (List ℕ)} {vs : List ℕ} → Written c n v w held → Row cs (countAfter c v n) ws vs → Row (c ∷ cs) n (w ∷ ws) (v ∷ vs)
-
-row-spells : {n : ℕ} {cs : List Kind} {ws : List (List ℕ)} {vs : List ℕ} → Row cs n ws vs → Spells cs n ws vs
-row-spells row-none = spells-none
-row-spells (row-more f t) = spells-more (f .back) (row-spells t)
-
-row-worded : {n : ℕ} {cs : List Kind} {ws : List (List ℕ)} {vs : List ℕ} → Row cs n ws vs → Worded ws
-row-worded row-none = worded-none
-row-worded (row-more {w = w} f t) = worded-more w (f .some) (f .shows) (row-worded t)
 
 -- the values of a record's thirteen columns; a name means its length, and a fixed word nothing
 abbrev pub wordValues : Chain → List ℕ → List ℕ → List ℕ
@@ -237,11 +202,6 @@ module _ (r : Chain) (ts qs zs : List ℕ) (c : ChainRules r ts qs zs) where
   unfolding blockText
   blocks-allowed zero i e = fed-allowed (digits (getD zs i 0) ∷ []) (row-worded (size-row i (omega arith)))
   blocks-allowed (suc k) i e = all-append Allowed (fedWords (gapWords i ts qs zs)) (blockText k (suc i) ts qs zs) (fed-allowed (gapWords i ts qs zs) (row-worded (gap-row i (omega arith)))) (blocks-allowed k (suc i) (omega arith))
-
--- the bytes of a word, as a part and as an extent
-part-bytes : (s : List ℕ) (w : Extent) → partBytes s (partOf w) ≡ bytesOf s w
-unfolding partBytes bytesOf
-part-bytes s w = refl
 
 -- what a record that may be written reads back as
 module _ (r : Chain) (tName qName ts qs zs : List ℕ) (ok : MayWrite r tName qName ts qs zs) where

@@ -35,15 +35,11 @@ use Rattle.chain.specs.declared.Block.the-variants as block
 use Rattle.chain.specs.Table.{blockColumns}
 use Rattle.chain.specs.Records.{lineValues, sizeAt, targetGap, queryGap}
 use Rattle.chain.specs.Read.{isBlockCount, blockWords, limitCheck, firstOf, lineCheck, blockOne, pickBlock, checkBlock, readBlock, blockIs, blockNumbers, blockLine, blockSize, blockTargetGap, blockQueryGap, LineCounted, NumbersRead, BlockRead}
+use Rattle.columns.proofs.WordLaws.{map-take, stored-at, zeros, passed}
 
 -- the codes of the table in the code
 abbrev blockCodes : List ℕ
 blockCodes = 2 ∷ 1 ∷ 1 ∷ []
-
-map-take : (f : ℕ → Kind) (n : ℕ) (xs : List ℕ) → map f (take n xs) ≡ take n (map f xs)
-map-take f zero xs = refl
-map-take f (suc n) [] = refl
-map-take f (suc n) (x ∷ xs) = ap (λ (l : List Kind). f x ∷ l) (map-take f n xs)
 
 pub table-is : (n : ℕ) → n ≤ 3 → tableOf (take n blockCodes) ≡ take n blockColumns
 unfolding tableOf kindOf blockColumns
@@ -62,23 +58,6 @@ count-split n h P a b = go (eqb n 1) (eqb n 3) refl refl h
 
 pub count-most : (n : ℕ) → isBlockCount n ≡ true → n ≤ 3
 count-most n h = count-split n h (n ≤ 3) (λ e. omega arith) (λ e. omega arith)
-
--- values stored in a table of zeros read as the values
-pub stored-at : (z vs : List ℕ) → ((i : ℕ) → getD z i 0 ≡ 0) → length vs ≤ length z → (i : ℕ) → getD (sets z 0 vs) i 0 ≡ getD vs i 0
-stored-at z vs zeros h i =
-    let e : sets z 0 vs ≡ vs ++ drop (0 + length vs) z = sets-eq vs z 0 (omega arith) in
-    rw e
-    (either (length vs) i _ (λ l.
-    let q : i ≡ length vs + (i - length vs) = omega arith in
-    let x : getD (vs ++ drop (0 + length vs) z) (length vs + (i - length vs)) 0 ≡ getD (drop (0 + length vs) z) (i - length vs) 0 = getD-append-add vs (drop (0 + length vs) z) (i - length vs) 0 in
-    let y : getD (drop (0 + length vs) z) (i - length vs) 0 ≡ getD z (0 + length vs + (i - length vs)) 0 = getD-drop (0 + length vs) z (i - length vs) 0 in
-    (rw (← q) at (x ∙ y ∙ zeros (0 + length vs + (i - length vs)))) ∙ sym (List·getD-eq-default vs 0 l))
-    (λ l. List·getD-append vs (drop (0 + length vs) z) 0 i l))
-
-pub zeros : (m i : ℕ) → _≡_ {A = ℕ} (getD {A = ℕ} (replicate m 0) i 0) 0
-zeros zero i = refl
-zeros (suc m) zero = refl
-zeros (suc m) (suc i) = zeros m i
 
 -- the numbers of a line that is read are coordinates
 module _ (s : List ℕ) (line e : ℕ) where
@@ -194,15 +173,9 @@ module _ (s : List ℕ) (line n : ℕ) (counted : LineCounted s line n) (b′ d 
           queryGap = rw p (query-in (eqb n 1) (query-low s line n e counted next));
         }
 
--- a number of words that passes its check
-passed : (a b : Bool) (x y : Refusal) → pickCheck a (pickCheck b Holds (check.Refused x)) (check.Refused y) ≡ Holds → b ≡ true
-passed true true x y e = refl
-passed true false x y e = absurd (let q : _≡_ {A = ℕ} 0 1 = cc in omega arith)
-passed false b x y e = absurd (let q : _≡_ {A = ℕ} 0 1 = cc in omega arith)
-
 pub words-good : (s : List ℕ) (line n : ℕ) → blockWords s line n ≡ Holds → isBlockCount n ≡ true
 unfolding blockWords
-words-good s line n e = passed (leb n 3) (isBlockCount n) _ _ e
+words-good s line n e = passed (leb n 3) (isBlockCount n) _ _ e .1
 
 -- the limit
 pub limit-reached : (line k : ℕ) → k ≡ 0 → check.Refused (record { reason = NoRoom; place = line }) ≡ limitCheck line k

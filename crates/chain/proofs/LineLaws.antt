@@ -38,7 +38,7 @@ use Rattle.chain.specs.Read.{blockWords, checkBlock, readBlock, blockIs,
 use Rattle.chain.specs.Rules.{BlockLines, last-line, more-lines}
 use Rattle.chain.proofs.BlockLaws.{count-split, words-good, gap-holds, last-holds}
 use Rattle.chain.proofs.WalkLaws.{from-last, from-gap}
-use Rattle.chain.proofs.WriteLaws.{require-holds}
+use Rattle.text.proofs.CheckLaws.{require-holds}
 
 -- the lines from a place on
 module _ (s : List ℕ) (i : ℕ) where

@@ -7,7 +7,7 @@ use lib.ListN.{length, set, getD}
 use lib.Dec.{eqb}
 use borrow.Author.Tests.{le-leb, lt-leb, ne-eqb, eq-eqb, not-true, not-false}
 use Rattle.ledger.specs.Limits.{blockLimit}
-use Rattle.ledger.specs.Strands.{strandOf, pickLettered}
+use Rattle.ledger.specs.Strands.{strandOf, pickLettered, strandIs}
 use Rattle.ledger.specs.declared.Lettered.the-variants.{Is, NoStrand}
 use Rattle.ledger.specs.declared.Strand.{Strand}
 use Rattle.ledger.specs.declared.Strand.the-variants.{Plus, Minus, Dot}
@@ -20,8 +20,9 @@ use Rattle.text.specs.Words.{lineEnd, wordAt}
 use Rattle.chain.specs.declared.Chain.{Chain}
 use Rattle.chain.specs.declared.Ending.{Ending}
 use Rattle.chain.specs.declared.Block.the-variants.{Last, Gap}
-use Rattle.chain.specs.Records.{partAt, strandIs, chainRecord, spanFits}
+use Rattle.chain.specs.Records.{chainRecord, spanFits}
 use Rattle.chain.specs.Read.{headCheck, spanCheck, isBlockCount, blockWords, blockIs, fillCheck}
+use Rattle.ledger.specs.Parts.{partAt}
 
 -- the header's number of words
 module _ (s : List ℕ) (n : ℕ) where

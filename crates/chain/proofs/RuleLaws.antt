@@ -12,16 +12,15 @@ use Rattle.ledger.specs.declared.Strand.{Strand}
 use Rattle.ledger.specs.declared.Strand.the-variants.{Plus, Minus, Dot}
 use Rattle.ledger.specs.Limits.{blockLimit, nameLimit, largestPosition, chainScoreLimit, chainIdLimit}
 use Rattle.text.proofs.TextLaws.{both}
-use Rattle.blocks.specs.Blocks.{blocksFill, allBetween, countFits, rowsOf}
+use Rattle.blocks.specs.Blocks.{blocksFill, allBetween, countFits, rowsOf, rowNumbersFit}
 use Rattle.blocks.proofs.RuleLaws.{fills-of, fills-is, ranged-of, ranged-is}
 use Rattle.blocks.proofs.TakeLaws.{fills-take, fills-back, ranged-take, ranged-back}
 use Rattle.chain.specs.declared.Chain.{Chain}
 use Rattle.chain.specs.Records.{spanFits}
-use Rattle.chain.specs.Tests.{lengthFits, namesFit, strandFits, sizeFits, fieldsFit, rowNumbersFit, spansFit, rowsFit, chainValid}
+use Rattle.chain.specs.Tests.{namesFit, strandFits, sizeFits, fieldsFit, spansFit, rowsFit, chainValid}
 use Rattle.chain.specs.Rules.{ChainRules}
-
-and-i : (a b : Bool) → a ≡ true → b ≡ true → (a && b) ≡ true
-and-i a b h k = rw (h, k)
+use Rattle.columns.specs.Names.{lengthFits}
+use Rattle.columns.proofs.WordLaws.{and-i}
 
 strand-of : (s : Strand) → strandFits s ≡ true → s ≡ Dot → ⊥
 strand-of Plus e d = let z : _≡_ {A = ℕ} 0 1 = cc in omega arith

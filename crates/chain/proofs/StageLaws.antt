@@ -38,7 +38,7 @@ use Rattle.chain.specs.declared.ChainAnswer.the-variants.{Accepted, Refu
 use Rattle.chain.specs.Table.{chainColumns}
 use Rattle.chain.specs.Records.{chainRecord, chainTargets, chainQueries, chainSizes}
 use Rattle.chain.specs.Read.{thenCheck, headCheck, spanCheck, fillCheck, roomCheck, afterLast, afterLines, afterSpans, afterColumns, afterWords, afterText, chainCheck, chainRead, Counted, Walked, Headed, Held, Staged, RowsStored, ChainRead}
-use Rattle.chain.proofs.BlockLaws.{stored-at, zeros}
+use Rattle.columns.proofs.WordLaws.{passed, stored-at, zeros}
 
 -- the codes of the table in the code
 abbrev chainCodes : List ℕ
@@ -184,12 +184,6 @@ module _ (s rows b′ d d′ : List ℕ) (counted : Counted s rows) (x : Columns
   words-refused l y q =
       let z : columnsFrom chainColumns 0 s 0 ≡ columns.Refused y = sym read-is ∙ q in
       record { is = rw z; held = λ b e. absurd (let k : _≡_ {A = ℕ} 0 1 = cc in omega arith) }
-
--- a header's number of words that passes its check
-passed : (a b : Bool) (x y : Refusal) → pickCheck a (pickCheck b Holds (check.Refused x)) (check.Refused y) ≡ Holds → (a ≡ true) × (b ≡ true)
-passed true true x y e = (refl, refl)
-passed true false x y e = absurd (let q : _≡_ {A = ℕ} 0 1 = cc in omega arith)
-passed false b x y e = absurd (let q : _≡_ {A = ℕ} 0 1 = cc in omega arith)
 
 pub head-count : (s : List ℕ) (n : ℕ) → headCheck s n ≡ Holds → n ≡ 13
 unfolding headCheck

@@ -9,11 +9,12 @@ use Rattle.ledger.specs.Limits.{largestPosition, chainScoreLimit, chainIdLimit}
 use Rattle.ledger.specs.declared.Reason.the-variants.{BlockRules}
 use Rattle.text.specs.declared.Check.the-variants.{Holds}
 use Rattle.text.specs.declared.Check.the-variants as check
-use Rattle.blocks.specs.Blocks.{blocksFill, allBetween}
+use Rattle.blocks.specs.Blocks.{blocksFill, allBetween, rowNumbersFit}
 use Rattle.chain.specs.declared.Chain.{Chain}
 use Rattle.chain.specs.Records.{spanFits}
-use Rattle.chain.specs.Tests.{lengthFits, namesFit, allGraphic, sizeFits, fieldsFit, rowNumbersFit, spansFit, rowsFit, chainValid}
+use Rattle.chain.specs.Tests.{namesFit, sizeFits, fieldsFit, spansFit, rowsFit, chainValid}
 use Rattle.chain.specs.Write.{namesShow, recordCheck}
+use Rattle.columns.specs.Names.{lengthFits, allGraphic}
 
 module _ (a b : Bool) where
   pub names-are : (t q : ℕ) → a ≡ lengthFits t → b ≡ lengthFits q → (a && b) ≡ namesFit t q

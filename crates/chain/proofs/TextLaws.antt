@@ -9,7 +9,7 @@ use lib.Dec.{leb, ltb, eqb}
 use borrow.Author.Tests.{lt-ltb, le-leb, leb-true, ltb-true, eqb-true, eq-eqb}
 use Rattle.ledger.specs.declared.Strand.{Strand}
 use Rattle.ledger.specs.Limits.{textLimit, blockLimit}
-use Rattle.ledger.specs.Strands.{strandOf, strandLetter}
+use Rattle.ledger.specs.Strands.{strandOf, strandLetter, strandIs}
 use Rattle.ledger.proofs.Laws.{strand-of-letter}
 use Rattle.text.specs.declared.Class.{Class}
 use Rattle.text.specs.declared.Class.the-variants.{Word, Allowed}
@@ -43,12 +43,16 @@ use Rattle.chain.specs.declared.Lines.the-variants as lines
 use Rattle.chain.specs.declared.ChainAnswer.{ChainAnswer}
 use Rattle.chain.specs.declared.ChainAnswer.the-variants.{Accepted, Refused}
 use Rattle.chain.specs.Table.{chainColumns}
-use Rattle.chain.specs.Records.{partAt, strandIs, chainRecord, spanFits, sizesFrom, chainTargets, chainQueries, chainSizes}
+use Rattle.chain.specs.Records.{chainRecord, spanFits, sizesFrom, chainTargets, chainQueries, chainSizes}
 use Rattle.chain.specs.Read.{thenCheck, thenRead, thenLines, headCheck, spanCheck, fillCheck, linesFrom, afterLast, afterLines, afterSpans, afterColumns, afterWords, afterText, chainCheck}
-use Rattle.chain.specs.Rules.{partOf, BlockLines, ChainText}
+use Rattle.chain.specs.Rules.{BlockLines, ChainText}
 use Rattle.chain.proofs.StageLaws.{head-spells, head-count}
-use Rattle.chain.proofs.WriteLaws.{require-holds}
 use Rattle.chain.proofs.LineLaws.{lines-at, line-there, Ends, walk-says, Ran, lines-run}
+use Rattle.ledger.specs.Parts.{partAt}
+use Rattle.columns.specs.Names.{partOf}
+use Rattle.columns.proofs.WordLaws.{word-length, strand-is, letter-is}
+use Rattle.text.proofs.CheckLaws.{require-holds}
+use Rattle.text.proofs.CheckLaws as textLaws
 
 -- the values of a header: two numbers for each of its words
 abbrev pub headValues : List ℕ → List ℕ
@@ -109,41 +113,6 @@ module _ (s : List ℕ) (r : Chain) where
   unfolding chainCheck afterText afterWords afterColumns afterSpans afterLines afterLast
   accepts-is a = rw (a .text, a .head, a .read, a .spans, a .walk, a .line, a .fill, a .is)
 
--- a scan ends in the text
-run-most : (c : Class) (s : List ℕ) → run c s ≤ length s
-unfolding run
-run-most c [] = omega arith
-run-most c (b ∷ s) = go (isIn c b) (run-most c s)
-  where
-    go : (t : Bool) → run c s ≤ length s → oneMore t (run c s) ≤ suc (length s)
-    go true h = omega arith
-    go false h = omega arith
-
-empty-none : wordCount [] 0 ≡ 0
-unfolding wordCount lineOf wordsOf nonEmpty piecesOf run
-empty-none = refl
-
--- the text's length and bytes
-module _ (s : List ℕ) where
-  text-holds : textCheck s ≡ Holds → (length s ≤ textLimit) × (run Allowed s ≡ length s)
-  unfolding textCheck endOf
-  text-holds e =
-      let a = require-holds (leb (length s) textLimit) _ _ e in
-      let b = require-holds (leb (length s) (endOf Allowed s 0)) _ _ (a .1) in
-      let l : length s ≤ 0 + run Allowed s = leb-true (length s) (endOf Allowed s 0) (b .0) in
-      (leb-true (length s) textLimit (a .0), omega (arith, run-most Allowed s))
-
-  holds-text : length s ≤ textLimit → run Allowed s ≡ length s → textCheck s ≡ Holds
-  unfolding endOf
-  holds-text h e = sym (text-good s (endOf Allowed s 0) h refl (omega arith))
-
-  some-text : 1 ≤ wordCount s 0 → 0 < length s
-  some-text h = go s h
-    where
-      go : (t : List ℕ) → 1 ≤ wordCount t 0 → 0 < length t
-      go [] k = absurd (omega (arith, empty-none))
-      go (x ∷ t) k = omega arith
-
 head-holds : (s : List ℕ) (n : ℕ) → n ≡ 13 → headCheck s n ≡ Holds
 unfolding headCheck
 head-holds s n e = rw e
@@ -176,15 +145,6 @@ hold-fill : (s : List ℕ) (r : Chain) (e : Ending) → e .target ≡ r .tEnd �
 unfolding fillCheck
 hold-fill s r e a b = rw (eq-eqb (e .target) (r .tEnd) a, eq-eqb (e .query) (r .qEnd) b)
 
--- a word's bytes are as many as its extent says
-pub word-length : (s : List ℕ) (k : ℕ) → length (bytesOf s (wordAt s 0 k)) ≡ wordAt s 0 k .end - wordAt s 0 k .start
-unfolding bytesOf endOf
-word-length s k =
-    let w = wordAt s 0 k in
-    let a : w .end ≡ w .start + run Word (drop (w .start) s) = word-ends s 0 k in
-    let b = run-most Word (drop (w .start) s) in
-    rw length-take (omega arith)
-
 -- the columns of a header that is read, by their numbers
 module _ (s : List ℕ) (e : ℕ) (count : wordCount s 0 ≡ 13) (read : columnsFrom chainColumns 0 s 0 ≡ Next e) (k : ℕ) (h : k < 13) where
   abbrev vs : List ℕ
@@ -205,18 +165,6 @@ module _ (s : List ℕ) (e : ℕ) (count : wordCount s 0 ≡ 13) (read : columns
       let p = name-spelt _ (bytesOf s (wordAt s 0 k)) (getD vs (2 * k) 0) (rw q at value-spelt) in
       let v : getD vs (2 * k) 0 ≡ wordAt s 0 k .end - wordAt s 0 k .start = p .0 ∙ word-length s k in
       rw (place-spelt, v)
-
--- a strand is read from its letter, and a letter from its strand
-strand-is : (t : Strand) (v : ℕ) → strandLetter t ≡ v → t ≡ strandIs (strandOf v)
-strand-is t v e = rw (← e, strand-of-letter t)
-
-letter-is : (v : ℕ) → isStrand false (v ∷ []) ≡ true → strandLetter (strandIs (strandOf v)) ≡ v
-letter-is v h = go (eqb v 43) (eqb v 45) refl refl h
-  where
-    go : (x y : Bool) → eqb v 43 ≡ x → eqb v 45 ≡ y → (x || (y || false)) ≡ true → strandLetter (strandIs (strandOf v)) ≡ v
-    go true y e f k = rw e (sym (eqb-true v 43 e))
-    go false true e f k = rw (e, f) (sym (eqb-true v 45 f))
-    go false false e f k = absurd (let q : _≡_ {A = ℕ} 0 1 = cc in omega arith)
 
 -- two records with the same fields are the same
 chain-same : (r q : Chain) → r .score ≡ q .score → r .tName ≡ q .tName → r .tSize ≡ q .tSize → r .tStart ≡ q .tStart → r .tEnd ≡ q .tEnd → r .qName ≡ q .qName → r .qSize ≡ q .qSize → r .qStrand ≡ q .qStrand → r .qStart ≡ q .qStart → r .qEnd ≡ q .qEnd → r .id ≡ q .id → r .blockCount ≡ q .blockCount → r ≡ q
@@ -264,7 +212,7 @@ module _ (s : List ℕ) (r : Chain) (ok : chainCheck s ≡ Accepted r) where
 
   letter-at : strandLetter (strandIs (strandOf (getD us 18 0))) ≡ getD us 18 0
   unfolding chainColumns
-  letter-at = letter-is (getD us 18 0) (strand-spelt false _ (bytesOf s (wordAt s 0 9)) (getD us 18 0) (value-spelt s (a .end) count (a .read) 9 (omega arith)) .0)
+  letter-at = letter-is false (getD us 18 0) (strand-spelt false _ (bytesOf s (wordAt s 0 9)) (getD us 18 0) (value-spelt s (a .end) count (a .read) 9 (omega arith)) .0)
 
   target-end : a .ending .target ≡ getD us 12 0
   unfolding chainRecord
@@ -285,7 +233,7 @@ module _ (s : List ℕ) (r : Chain) (ok : chainCheck s ≡ Accepted r) where
   pub text-of : ChainText s (firsts (valuesFrom chainColumns 0 s 0)) (linesOf (drop (nextLine s 0) s)) r (chainTargets s r) (chainQueries s r) (chainSizes s r)
   unfolding chainRecord chainColumns
   text-of =
-      let t = text-holds s (a .text) in
+      let t = textLaws.text-of s (a .text) in
       let f = spans-hold (chainRecord us 0) us (a .spans) in
       let tSpan = span-pair (getD us 10 0) (getD us 12 0) (getD us 6 0) (f .0) in
       let qSpan = span-pair (getD us 20 0) (getD us 22 0) (getD us 16 0) (f .1) in
@@ -293,7 +241,7 @@ module _ (s : List ℕ) (r : Chain) (ok : chainCheck s ≡ Accepted r) where
       record {
         short = t .0;
         allowed = t .1;
-        lines = lines-at s 0 (some-text s (omega (arith, count)));
+        lines = lines-at s 0 (textLaws.some-text s (omega (arith, count)));
         spelt = head-spells s (a .end) count (a .read);
         score = rw i (first-at 1);
         tName = rw i (name-part s (a .end) count (a .read) 2 (omega arith) refl);
@@ -376,7 +324,7 @@ module _ (s vs : List ℕ) (ls : List (List ℕ)) (r : Chain) (ts qs zs : List �
   pub text-is : chainCheck s ≡ Accepted r
   text-is =
       accepts-is s r (record {
-        text = holds-text s (c .short) (c .allowed);
+        text = textLaws.text-is s (c .short) (c .allowed);
         head = head-holds s (wordCount s 0) thirteen;
         end = reads .end;
         read = reads .read;

@@ -24,16 +24,18 @@ use Rattle.columns.specs.Spells.{Spells}
 use Rattle.columns.specs.Places.{kindAt}
 use Rattle.columns.proofs.PlaceLaws.{spelt-at}
 use Rattle.blocks.specs.Blocks.{orderFrom, blocksFill, allBetween}
-use Rattle.blocks.proofs.RuleLaws.{fills-of, ranged-of, fill-low}
+use Rattle.blocks.proofs.RuleLaws.{fills-of, ranged-of, fill-low, wider}
 use Rattle.chain.specs.declared.Chain.{Chain}
 use Rattle.chain.specs.declared.ChainAnswer.the-variants.{Accepted}
 use Rattle.chain.specs.Table.{chainColumns, blockColumns}
 use Rattle.chain.specs.Records.{chainTargets, chainQueries, chainSizes}
 use Rattle.chain.specs.Read.{chainCheck}
 use Rattle.chain.specs.Tests.{chainValid}
-use Rattle.chain.specs.Rules.{partOf, BlockLines, last-line, more-lines, ChainText, ChainRules}
+use Rattle.chain.specs.Rules.{BlockLines, last-line, more-lines, ChainText, ChainRules}
 use Rattle.chain.proofs.RuleLaws.{rules-is}
-use Rattle.chain.proofs.TextLaws.{word-length, text-of}
+use Rattle.chain.proofs.TextLaws.{text-of}
+use Rattle.columns.specs.Names.{partOf}
+use Rattle.columns.proofs.WordLaws.{word-length}
 
 -- a block before others that start after its end
 fill-more : (t z a last : ℕ) (ss zs : List ℕ) → t + z ≤ a → blocksFill a last ss zs ≡ true → blocksFill t last (t ∷ ss) (z ∷ zs) ≡ true
@@ -81,17 +83,6 @@ lines-query-count (more-lines sp b) = ap suc (lines-query-count b)
 lines-some : {te qe : ℕ} {ls : List (List ℕ)} {t q : ℕ} {ts qs zs : List ℕ} → BlockLines te qe ls t q ts qs zs → 1 ≤ length zs
 lines-some (last-line sp et eq) = omega arith
 lines-some (more-lines sp b) = omega arith
-
--- numbers of a range lie in a wider one
-wider : (a b c d : ℕ) (vs : List ℕ) → c ≤ a → b ≤ d → allBetween a b vs ≡ true → allBetween c d vs ≡ true
-unfolding allBetween
-wider a b c d [] l h e = refl
-wider a b c d (v ∷ vs) l h e =
-    let p = both (leb a v && leb v b) (allBetween a b vs) e in
-    let q = both (leb a v) (leb v b) (p .0) in
-    let x = leb-true a v (q .0) in
-    let y = leb-true v b (q .1) in
-    rw (le-leb c v (omega arith), le-leb v d (omega arith)) (wider a b c d vs l h (p .1))
 
 -- A TEXT'S RECORD WITH ITS ROWS OBEYS THE RULES
 module _ (s vs : List ℕ) (ls : List (List ℕ)) (r : Chain) (ts qs zs : List ℕ) (c : ChainText s vs ls r ts qs zs) where

@@ -11,15 +11,16 @@ use Rattle.text.specs.Scan.{run, endOf}
 use Rattle.text.specs.Parts.{partBytes}
 use Rattle.text.specs.Pieces.{joined}
 use Rattle.writing.specs.Digits.{digitsIn, digits}
-use Rattle.blocks.specs.Blocks.{orderFrom, blocksFill, allBetween}
+use Rattle.blocks.specs.Blocks.{orderFrom, blocksFill, allBetween, rowNumbersFit}
 use Rattle.chain.specs.declared.Chain.{Chain}
 use Rattle.chain.specs.declared.ChainAnswer.the-variants.{Accepted}
-use Rattle.chain.specs.Records.{partAt, chainTargets, chainQueries, chainSizes}
+use Rattle.chain.specs.Records.{chainTargets, chainQueries, chainSizes}
 use Rattle.chain.specs.Read.{chainRead}
 use Rattle.chain.specs.Rules.{placed}
-use Rattle.chain.specs.Tests.{namesFit, fieldsFit, rowNumbersFit, spansFit, rowsFit}
+use Rattle.chain.specs.Tests.{namesFit, fieldsFit, spansFit, rowsFit}
 use Rattle.chain.specs.Write.{namesShow, writeCheck, headWords, gapWords, blockText, chainText}
 use Rattle.chain.proofs.BackLaws.{back-read, back-target-name, back-targets, back-queries, back-sizes}
+use Rattle.ledger.specs.Parts.{partAt}
 
 abbrev chainA : Chain
 chainA = record {

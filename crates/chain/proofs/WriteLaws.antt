@@ -33,10 +33,13 @@ use Rattle.columns.proofs.PlaceLaws.{sets-keep, sets-there}
 use Rattle.blocks.specs.Blocks.{rowsOf}
 use Rattle.chain.specs.declared.Chain.{Chain}
 use Rattle.chain.specs.Table.{chainColumns, blockColumns}
-use Rattle.chain.specs.Tests.{lengthFits, namesFit, strandFits}
+use Rattle.chain.specs.Tests.{namesFit, strandFits}
 use Rattle.chain.specs.Write.{namesShow, writeCheck, headWords, fedWords, gapTo, gapWords, blockText, chainText, chainValues, textOf, chainWrite, ChainWrote, NamesShort, NamesPut, Writable}
 use Rattle.chain.proofs.BlockLaws as blocks
 use Rattle.chain.proofs.StageLaws as stages
+use Rattle.columns.specs.Names.{lengthFits}
+use Rattle.columns.proofs.WordLaws.{letter-byte}
+use Rattle.text.proofs.CheckLaws.{require-holds}
 
 -- the codes of the tables in the code
 abbrev blockCodes : List ℕ
@@ -128,11 +131,6 @@ pub text-put : (names vs ts qs zs : List ℕ) (n p r : ℕ) (b b₁ b₂ : List 
 unfolding textOf
 text-put names vs ts qs zs n p r b b₁ b₂ f g = put-then (rw (stages.table-is) at f) g
 
-letter-byte : (s : Strand) → strandLetter s % 256 ≡ strandLetter s
-letter-byte Plus = refl
-letter-byte Minus = refl
-letter-byte Dot = refl
-
 -- the line that the line writer makes of the values is the header's standard line
 module _ (r : Chain) (tName qName names : List ℕ) (put : NamesPut tName qName names) where
   head-is : fedLine chainColumns 32 names (chainValues r (length tName) (length qName)) [] ≡ fedWords (headWords r tName qName)
@@ -142,11 +140,6 @@ module _ (r : Chain) (tName qName names : List ℕ) (put : NamesPut tName qName 
   pub text-wrote : (ts qs zs vs b b′ : List ℕ) (x : Writing) → vs ≡ chainValues r (length tName) (length qName) → Wrote (textOf names vs (r .blockCount) ts qs zs) b b′ x → Wrote (chainText r tName qName ts qs zs) b b′ x
   unfolding textOf chainText
   text-wrote ts qs zs vs b b′ x ev w = rw (ev, head-is) at w
-
--- a check that holds: its test is true, and what follows it holds
-pub require-holds : (t : Bool) (rest : Check) (x : Refusal) → pickCheck t rest (check.Refused x) ≡ Holds → (t ≡ true) × (rest ≡ Holds)
-require-holds true rest x e = (refl, e)
-require-holds false rest x e = absurd (let z : _≡_ {A = ℕ} 0 1 = cc in omega arith)
 
 -- a record that passes the checks can be written
 pub check-writable : (r : Chain) (tName qName ts qs zs : List ℕ) → writeCheck r tName qName ts qs zs ≡ Holds → Writable r tName qName ts qs zs

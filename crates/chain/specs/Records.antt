@@ -9,19 +9,12 @@ use Rattle.ledger.specs.declared.Strand.{Strand}
 use Rattle.ledger.specs.declared.Strand.the-variants.{Dot}
 use Rattle.ledger.specs.declared.Lettered.{Lettered}
 use Rattle.ledger.specs.declared.Lettered.the-variants.{Is, NoStrand}
-use Rattle.ledger.specs.Strands.{strandOf}
+use Rattle.ledger.specs.Strands.{strandOf, strandIs}
 use Rattle.text.specs.Words.{nextLine, wordCount}
 use Rattle.columns.specs.Columns.{valuesFrom}
 use Rattle.chain.specs.declared.Chain.{Chain}
 use Rattle.chain.specs.Table.{blockColumns}
-
-abbrev pub partAt : ℕ → ℕ → Part
-partAt start length = record { start = start; length = length }
-
--- the strand of a letter
-abbrev pub strandIs : Lettered → Strand
-strandIs (Is s) = s
-strandIs NoStrand = Dot
+use Rattle.ledger.specs.Parts.{partAt}
 
 -- the record of a header whose columns hold vs, two numbers a column, its value and where its word starts, with n blocks
 unfoldable pub chainRecord : List ℕ → ℕ → Chain

@@ -16,10 +16,7 @@ use Rattle.columns.specs.Spells.{Spells}
 use Rattle.blocks.specs.Rules.{Fills, Ranged}
 use Rattle.chain.specs.declared.Chain.{Chain}
 use Rattle.chain.specs.Table.{chainColumns, blockColumns}
-
--- the part of a text that a word stands in
-abbrev pub partOf : Extent → Part
-partOf w = record { start = w .start; length = w .end - w .start }
+use Rattle.columns.specs.Names.{partOf}
 
 -- lines of blocks and the rows that they say, the first block starting at t and q: each line but the last spells a size and the gaps to the next block, the
 -- last a size alone, and its block ends at te and qe

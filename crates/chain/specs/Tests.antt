@@ -9,21 +9,14 @@ use Rattle.ledger.specs.declared.Strand.the-variants.{Plus, Minus, Dot}
 use Rattle.ledger.specs.Limits.{nameLimit, largestPosition, chainScoreLimit, chainIdLimit}
 use Rattle.text.specs.declared.Class.the-variants.{Graphic}
 use Rattle.text.specs.Scan.{endOf}
-use Rattle.blocks.specs.Blocks.{blocksFill, allBetween, countFits, rowsOf}
+use Rattle.blocks.specs.Blocks.{blocksFill, allBetween, countFits, rowsOf, rowNumbersFit}
 use Rattle.chain.specs.declared.Chain.{Chain}
 use Rattle.chain.specs.Records.{spanFits}
-
--- a name's length
-abbrev pub lengthFits : ℕ → Bool
-lengthFits n = leb 1 n && leb n nameLimit
+use Rattle.columns.specs.Names.{allGraphic, lengthFits}
 
 -- the two names by their lengths
 unfoldable pub namesFit : ℕ → ℕ → Bool
 namesFit t q = lengthFits t && lengthFits q
-
--- bytes that all show: 33 to 126
-abbrev pub allGraphic : List ℕ → Bool
-allGraphic w = leb (length w) (endOf Graphic w 0)
 
 -- the query's strand is `+` or `-`
 abbrev pub strandFits : Strand → Bool
@@ -40,10 +33,6 @@ unfoldable pub fieldsFit : Chain → Bool
 fieldsFit r =
     leb (r .score) chainScoreLimit && (sizeFits (r .tSize) && (leb (r .tStart) largestPosition && (leb (r .tEnd) largestPosition
     && (sizeFits (r .qSize) && (leb (r .qStart) largestPosition && (leb (r .qEnd) largestPosition && leb (r .id) chainIdLimit))))))
-
--- the numbers of the used rows in their ranges
-unfoldable pub rowNumbersFit : List ℕ → List ℕ → List ℕ → Bool
-rowNumbersFit ts qs zs = allBetween 0 largestPosition ts && (allBetween 0 largestPosition qs && allBetween 1 largestPosition zs)
 
 -- the spans of both sides
 unfoldable pub spansFit : Chain → Bool

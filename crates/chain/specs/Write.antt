@@ -18,11 +18,12 @@ use Rattle.writing.specs.declared.Writing.the-variants as writing
 use Rattle.writing.specs.Answers.{roomAnswer, leftAfter}
 use Rattle.kinds.specs.declared.Fixed.the-variants as fixed
 use Rattle.kinds.specs.Kinds.{fixedText}
-use Rattle.blocks.specs.Blocks.{countFits, rowsOf}
-use Rattle.columns.specs.Lines.{fedLine}
+use Rattle.blocks.specs.Blocks.{countFits, rowsOf, rowNumbersFit}
+use Rattle.columns.specs.Lines.{fedLine, thenWrite}
 use Rattle.chain.specs.declared.Chain.{Chain}
 use Rattle.chain.specs.Table.{chainColumns}
-use Rattle.chain.specs.Tests.{namesFit, allGraphic, strandFits, fieldsFit, rowNumbersFit, spansFit, rowsFit, chainValid}
+use Rattle.chain.specs.Tests.{namesFit, strandFits, fieldsFit, spansFit, rowsFit, chainValid}
+use Rattle.columns.specs.Names.{allGraphic}
 
 -- the names that are handed in: their lengths, and that all their bytes show
 unfoldable pub namesShow : List ℕ → List ℕ → Bool
@@ -75,10 +76,6 @@ chainValues r tName qName =
 -- the same text by the line writer's header
 unfoldable pub textOf : List ℕ → List ℕ → ℕ → List ℕ → List ℕ → List ℕ → List ℕ
 textOf names vs n ts qs zs = fedLine chainColumns 32 names vs [] ++ blockText (n - 1) 0 ts qs zs
-
-abbrev pub thenWrite : Check → Writing → Writing
-thenWrite Holds rest = rest
-thenWrite (check.Refused x) rest = writing.Refused x
 
 -- THE WRITER: the checks, then the text's length (1), then the room (11)
 unfoldable pub chainWrite : Chain → List ℕ → List ℕ → List ℕ → List ℕ → List ℕ → ℕ → Writing

@@ -3,13 +3,13 @@ ghost use mathlib.Core.Path.{_≡_};
 ghost use Prim.Native.Nat.{_+_, _-_, _*_, _≤_, _<_};
 ghost use lib.ListN.{length, set, take};
 ghost use Rattle.ledger.specs.Limits.{nameLimit, blockLimit};
-ghost use Rattle.ledger.specs.Strands.{strandOf};
+ghost use Rattle.ledger.specs.Strands.{strandOf, strandIs};
 ghost use Rattle.text.specs.Checks.{require};
 ghost use Rattle.writing.specs.Puts.{Put};
 ghost use Rattle.writing.specs.Answers.{Wrote};
-ghost use Rattle.chain.specs.Records.{partAt, strandIs, chainRecord, spanFits};
+ghost use Rattle.chain.specs.Records.{chainRecord, spanFits};
 ghost use Rattle.chain.specs.Read.{headCheck, spanCheck, isBlockCount, blockWords, limitCheck, firstOf, lineCheck, blockIs, fillCheck, afterLast, afterLines, afterSpans, afterColumns, afterWords, afterText, chainCheck, LineCounted, NumbersRead, BlockRead, Counted, Begins, Walked, Headed, Staged, Held, RowsStored, ChainRead};
-ghost use Rattle.chain.specs.Tests.{lengthFits, namesFit, allGraphic, strandFits, sizeFits, fieldsFit, rowNumbersFit, spansFit, rowsFit, chainValid};
+ghost use Rattle.chain.specs.Tests.{namesFit, strandFits, sizeFits, fieldsFit, spansFit, rowsFit, chainValid};
 ghost use Rattle.chain.specs.Write.{namesShow, writeCheck, fedWords, gapTo, gapWords, blockText, chainText, chainValues, textOf, ChainWrote, recordCheck, NamesShort, NamesPut, RowsThere, Writable};
 ghost use Rattle.chain.specs.Table.{blockColumns};
 ghost use Rattle.columns.specs.Lines.{fedLine};
@@ -22,6 +22,9 @@ use ledger::Strand;
 use text::Check;
 use text::Class;
 use writing::Writing;
+ghost use Rattle.ledger.specs.Parts.{partAt};
+ghost use Rattle.columns.specs.Names.{lengthFits, allGraphic};
+ghost use Rattle.blocks.specs.Blocks.{rowNumbersFit};
 
 // The record of a chain. A name is a part of the text; with `-`, qStart and qEnd count on the reversed query.
 pub struct Chain {

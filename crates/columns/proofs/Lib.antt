@@ -5,3 +5,4 @@ pub mod SpellsLaws
 pub mod PlaceLaws
 pub mod OneLineLaws
 pub mod NameLaws
+pub mod WordLaws

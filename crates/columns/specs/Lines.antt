@@ -5,6 +5,11 @@ use lib.ListN.{getD}
 use Rattle.kinds.specs.declared.Kind.{Kind}
 use Rattle.kinds.specs.Kinds.{baseAfter}
 use Rattle.kinds.specs.Words.{wordOf}
+use Rattle.text.specs.declared.Check.{Check}
+use Rattle.text.specs.declared.Check.the-variants.{Holds}
+use Rattle.writing.specs.declared.Writing.{Writing}
+use Rattle.text.specs.declared.Check.the-variants as check
+use Rattle.writing.specs.declared.Writing.the-variants as writing
 
 -- what stands before column k: nothing before the first, then the separator
 abbrev pub gapOf : ℕ → ℕ → List ℕ
@@ -22,3 +27,8 @@ lineText table sep t vs ls = lineFrom 0 0 table sep t vs ls
 
 unfoldable pub fedLine : List Kind → ℕ → List ℕ → List ℕ → List ℕ → List ℕ
 fedLine table sep t vs ls = lineText table sep t vs ls ++ (10 ∷ [])
+
+-- a writer: where its checks hold go on, else stop with the refusal
+abbrev pub thenWrite : Check → Writing → Writing
+thenWrite Holds rest = rest
+thenWrite (check.Refused x) rest = writing.Refused x

@@ -24,7 +24,7 @@ use Rattle.text.specs.Parts.{partBytes}
 use Rattle.text.proofs.TextLaws.{All, both}
 use Rattle.writing.specs.declared.Writing.the-variants.{Written}
 use Rattle.writing.specs.Answers.{roomAnswer}
-use Rattle.blocks.specs.Blocks.{countFits, rowsOf}
+use Rattle.blocks.specs.Blocks.{countFits, rowsOf, rowNumbersFit}
 use Rattle.blocks.specs.Rows.{tableOf, targetsOf, queriesOf, sizesOf}
 use Rattle.bed.specs.declared.Bed.{Bed}
 use Rattle.bed.specs.declared.BedAnswer.{BedAnswer}
@@ -32,10 +32,10 @@ use Rattle.bed.specs.declared.BedAnswer.the-variants.{Accepted, Refused}
 use Rattle.bed.specs.Records.{bedTargets, bedQueries, bedSizes}
 use Rattle.bed.specs.Read.{bedCheck, bedRead, roomCheck, thenCheck, thenRoom}
 use Rattle.bed.specs.Table.{bedColumns}
-use Rattle.bed.specs.Rules.{partOf, BedLine, BedRules, placed}
-use Rattle.bed.specs.Tests.{namesFit, allGraphic, strandFits, fieldsFit, rowNumbersFit, spansFit, rowsFit, bedValid}
+use Rattle.bed.specs.Rules.{BedLine, BedRules, placed}
+use Rattle.bed.specs.Tests.{namesFit, strandFits, fieldsFit, spansFit, rowsFit, bedValid}
 use Rattle.bed.specs.Write.{namesShow, writeCheck, bedText, bedWrite}
-use Rattle.bed.proofs.LineLaws.{line-of, line-is, word-length}
+use Rattle.bed.proofs.LineLaws.{line-of, line-is}
 use Rattle.bed.proofs.ValidLaws.{accepted-rows, accepted-valid}
 use Rattle.bed.proofs.RuleLaws.{rules-of, rules-is}
 use Rattle.bed.proofs.BackLaws.{back-chrom, back-name, back-targets, back-queries, back-sizes, back-read}
@@ -45,6 +45,8 @@ use Rattle.table_bed.specs.Rows.{bedRows}
 use Rattle.demands.specs.Bed.{BedSpells, bedNames, named, BedValid, SameBed, bed}
 use Rattle.demands.proofs.NameLaws.{word-shows}
 use Rattle.demands.proofs.RowLaws.{Flat, flat, rows-taken}
+use Rattle.columns.specs.Names.{partOf, allGraphic}
+use Rattle.columns.proofs.WordLaws.{word-length, graphic-all}
 
 -- the reader is the text checker with room
 read-of : (s : List ℕ) (room : ℕ) (r : Bed) → bedRead s room ≡ Accepted r → (bedCheck s ≡ Accepted r) × (r .blockCount ≤ room)
@@ -69,10 +71,6 @@ unfolding bedValid strandFits fieldsFit spansFit rowsFit
 valid-named r ns ts qs zs e f h = rw (e, f) h
 
 -- a valid record passes the writer's checks
-shown : (w : List ℕ) → All Graphic w → allGraphic w ≡ true
-unfolding endOf
-shown w h = let l : length w ≤ 0 + run Graphic w = omega arith in le-leb (length w) (0 + run Graphic w) l
-
 passes : (r : Bed) (ns : Names) (ts qs zs : List ℕ) → BedRules (named r ns) ts qs zs → All Graphic (ns .first) → All Graphic (ns .second) → writeCheck r (ns .first) (ns .second) ts qs zs ≡ Holds
 unfolding writeCheck namesShow bedValid strandFits fieldsFit spansFit rowsFit
 passes r ns ts qs zs k c d =
@@ -84,7 +82,7 @@ passes r ns ts qs zs k c d =
     let fields = both (fieldsFit (named r ns)) _ (strand .1) in
     let numbers = both (rowNumbersFit (take n ts) (take n qs) (take n zs)) _ (fields .1) in
     let spans = both (spansFit (named r ns)) (rowsFit (named r ns) (take n ts) (take n qs) (take n zs)) (numbers .1) in
-    rw (count .0, names .0, shown (ns .first) c, shown (ns .second) d, strand .0, fields .0, numbers .0, spans .0, spans .1)
+    rw (count .0, names .0, graphic-all (ns .first) c, graphic-all (ns .second) d, strand .0, fields .0, numbers .0, spans .0, spans .1)
 
 -- ---- an accepted line: its names, and its rows
 module _ (s : List ℕ) (r : Bed) (ok : bedCheck s ≡ Accepted r) where

@@ -24,7 +24,7 @@ use Rattle.text.specs.Parts.{partBytes}
 use Rattle.text.proofs.TextLaws.{All, both}
 use Rattle.writing.specs.declared.Writing.the-variants.{Written}
 use Rattle.writing.specs.Answers.{roomAnswer}
-use Rattle.blocks.specs.Blocks.{countFits, rowsOf}
+use Rattle.blocks.specs.Blocks.{countFits, rowsOf, rowNumbersFit}
 use Rattle.blocks.specs.Rows.{tableOf, targetsOf, queriesOf, sizesOf}
 use Rattle.chain.specs.declared.Chain.{Chain}
 use Rattle.chain.specs.declared.ChainAnswer.{ChainAnswer}
@@ -32,10 +32,10 @@ use Rattle.chain.specs.declared.ChainAnswer.the-variants.{Accepted, Refused}
 use Rattle.chain.specs.Records.{chainTargets, chainQueries, chainSizes}
 use Rattle.chain.specs.Read.{chainCheck, chainRead, roomCheck, thenCheck, thenRoom}
 use Rattle.chain.specs.Table.{chainColumns}
-use Rattle.chain.specs.Rules.{partOf, ChainText, ChainRules, placed}
-use Rattle.chain.specs.Tests.{namesFit, allGraphic, strandFits, fieldsFit, rowNumbersFit, spansFit, rowsFit, chainValid}
+use Rattle.chain.specs.Rules.{ChainText, ChainRules, placed}
+use Rattle.chain.specs.Tests.{namesFit, strandFits, fieldsFit, spansFit, rowsFit, chainValid}
 use Rattle.chain.specs.Write.{namesShow, writeCheck, chainText, chainWrite}
-use Rattle.chain.proofs.TextLaws.{text-of, text-is, text-targets, text-queries, text-sizes, word-length}
+use Rattle.chain.proofs.TextLaws.{text-of, text-is, text-targets, text-queries, text-sizes}
 use Rattle.chain.proofs.ValidLaws.{lines-target-count, lines-query-count, accepted-valid}
 use Rattle.chain.proofs.RuleLaws.{rules-of, rules-is}
 use Rattle.chain.proofs.BackLaws.{back-target-name, back-query-name, back-targets, back-queries, back-sizes, back-read}
@@ -45,6 +45,8 @@ use Rattle.table_chain.specs.Rows.{chainRows}
 use Rattle.demands.specs.Chain.{ChainSpells, chainNames, named, ChainValid, SameChain, chain}
 use Rattle.demands.proofs.NameLaws.{word-shows}
 use Rattle.demands.proofs.RowLaws.{Flat, flat, rows-taken}
+use Rattle.columns.specs.Names.{partOf, allGraphic}
+use Rattle.columns.proofs.WordLaws.{word-length, graphic-all}
 
 -- the reader is the text checker with room
 read-of : (s : List ℕ) (room : ℕ) (r : Chain) → chainRead s room ≡ Accepted r → (chainCheck s ≡ Accepted r) × (r .blockCount ≤ room)
@@ -69,10 +71,6 @@ unfolding chainValid fieldsFit spansFit rowsFit
 valid-named r ns ts qs zs e f h = rw (e, f) h
 
 -- a valid record passes the writer's checks
-shown : (w : List ℕ) → All Graphic w → allGraphic w ≡ true
-unfolding endOf
-shown w h = let l : length w ≤ 0 + run Graphic w = omega arith in le-leb (length w) (0 + run Graphic w) l
-
 passes : (r : Chain) (ns : Names) (ts qs zs : List ℕ) → ChainRules (named r ns) ts qs zs → All Graphic (ns .first) → All Graphic (ns .second) → writeCheck r (ns .first) (ns .second) ts qs zs ≡ Holds
 unfolding writeCheck namesShow chainValid fieldsFit spansFit rowsFit
 passes r ns ts qs zs k c d =
@@ -84,7 +82,7 @@ passes r ns ts qs zs k c d =
     let fields = both (fieldsFit (named r ns)) _ (strand .1) in
     let numbers = both (rowNumbersFit (take n ts) (take n qs) (take n zs)) _ (fields .1) in
     let spans = both (spansFit (named r ns)) (rowsFit (named r ns) (take n ts) (take n qs) (take n zs)) (numbers .1) in
-    rw (count .0, names .0, shown (ns .first) c, shown (ns .second) d, strand .0, fields .0, numbers .0, spans .0, spans .1)
+    rw (count .0, names .0, graphic-all (ns .first) c, graphic-all (ns .second) d, strand .0, fields .0, numbers .0, spans .0, spans .1)
 
 -- ---- an accepted text: its names, and its rows
 module _ (s : List ℕ) (r : Chain) (ok : chainCheck s ≡ Accepted r) where

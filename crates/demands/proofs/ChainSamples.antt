@@ -15,12 +15,12 @@ use Rattle.text.specs.Parts.{partBytes}
 use Rattle.numbers.specs.Numbers.{wellSpelt, valueFrom, value, numberOf}
 use Rattle.kinds.specs.Kinds.{sameBytes, nameOf, strandOf, fixedOf, spelt}
 use Rattle.columns.specs.Columns.{fieldFrom, columnsFrom, valuesFrom}
-use Rattle.blocks.specs.Blocks.{orderFrom, blocksFill, allBetween}
+use Rattle.blocks.specs.Blocks.{orderFrom, blocksFill, allBetween, rowNumbersFit}
 use Rattle.blocks.specs.Rows.{tableOf}
 use Rattle.chain.specs.Table.{chainColumns, blockColumns}
 use Rattle.chain.specs.Records.{chainRecord, lineValues, sizeAt, targetGap, queryGap, targetsFrom, queriesFrom, sizesFrom, chainTargets, chainQueries, chainSizes}
 use Rattle.chain.specs.Read.{headCheck, spanCheck, blockWords, blockNumbers, blockLine, linesFrom, fillCheck, roomCheck, afterLast, afterLines, afterSpans, afterColumns, afterWords, afterText, chainCheck, chainRead}
-use Rattle.chain.specs.Tests.{namesFit, fieldsFit, rowNumbersFit, spansFit, rowsFit, chainValid}
+use Rattle.chain.specs.Tests.{namesFit, fieldsFit, spansFit, rowsFit, chainValid}
 use Rattle.chain.specs.Write.{headWords, gapWords, blockText, chainText}
 use Rattle.text.specs.Pieces.{joined}
 use Rattle.writing.specs.Digits.{digitsIn, digits}

@@ -27,7 +27,7 @@ use Rattle.text.specs.Parts.{partBytes}
 use Rattle.text.proofs.TextLaws.{All, both}
 use Rattle.writing.specs.declared.Writing.the-variants.{Written}
 use Rattle.writing.specs.Answers.{roomAnswer}
-use Rattle.blocks.specs.Blocks.{countFits, rowsOf}
+use Rattle.blocks.specs.Blocks.{countFits, rowsOf, rowNumbersFit}
 use Rattle.blocks.specs.Rows.{tableOf, targetsOf, queriesOf, sizesOf}
 use Rattle.psl.specs.declared.Psl.{Psl}
 use Rattle.psl.specs.declared.PslAnswer.{PslAnswer}
@@ -35,12 +35,12 @@ use Rattle.psl.specs.declared.PslAnswer.the-variants.{Accepted, Refused}
 use Rattle.psl.specs.Records.{pslTargets, pslQueries, pslSizes}
 use Rattle.psl.specs.Read.{pslCheck, pslRead, roomCheck, thenCheck, thenRoom}
 use Rattle.psl.specs.Table.{pslColumns}
-use Rattle.psl.specs.Rules.{partOf, PslLine, PslRules, placed}
+use Rattle.psl.specs.Rules.{PslLine, PslRules, placed}
 use Rattle.psl.specs.declared.Side.{Side}
 use Rattle.psl.specs.Rows.{firstOn, lastOn, rowsFit, countsFit}
-use Rattle.psl.specs.Tests.{lengthFits, isTold, fieldsFit, rowNumbersFit, spansFit, pslValid}
-use Rattle.psl.specs.Write.{allGraphic, wordsShow, writeCheck, pslText, pslWrite}
-use Rattle.psl.proofs.LineLaws.{line-of, line-is, word-length, accepted-targets, accepted-queries, accepted-sizes}
+use Rattle.psl.specs.Tests.{isTold, fieldsFit, spansFit, pslValid}
+use Rattle.psl.specs.Write.{wordsShow, writeCheck, pslText, pslWrite}
+use Rattle.psl.proofs.LineLaws.{line-of, line-is, accepted-targets, accepted-queries, accepted-sizes}
 use Rattle.psl.proofs.ValidLaws.{accepted-valid}
 use Rattle.psl.proofs.RuleLaws.{rules-of, rules-is}
 use Rattle.psl.proofs.BackLaws.{back-query, back-target, back-targets, back-queries, back-sizes, back-read}
@@ -50,6 +50,8 @@ use Rattle.table_psl.specs.Rows.{pslRows}
 use Rattle.demands.specs.Psl.{PslSpells, pslNames, renamed, named, PslValid, SamePsl, psl}
 use Rattle.demands.proofs.NameLaws.{word-shows}
 use Rattle.demands.proofs.RowLaws.{Flat, flat, rows-taken}
+use Rattle.columns.specs.Names.{partOf, lengthFits, allGraphic}
+use Rattle.columns.proofs.WordLaws.{word-length, graphic-all}
 
 -- the reader is the text checker with room
 read-of : (s : List ℕ) (room : ℕ) (r : Psl) → pslRead s room ≡ Accepted r → (pslCheck s ≡ Accepted r) × (r .blockCount ≤ room)
@@ -89,10 +91,6 @@ unfolding pslValid fieldsFit spansFit
 valid-named r ns ts qs zs e f h = rw (rows-named r ns (take (r .blockCount) ts) (take (r .blockCount) qs) (take (r .blockCount) zs), e, f) h
 
 -- a valid record passes the writer's checks
-shown : (w : List ℕ) → All Graphic w → allGraphic w ≡ true
-unfolding endOf
-shown w h = let l : length w ≤ 0 + run Graphic w = omega arith in le-leb (length w) (0 + run Graphic w) l
-
 passes : (r : Psl) (ns : Names) (ts qs zs : List ℕ) → PslRules (named r ns) ts qs zs → All Graphic (ns .first) → All Graphic (ns .second) → writeCheck r (ns .first) (ns .second) ts qs zs ≡ Holds
 unfolding writeCheck wordsShow pslValid fieldsFit spansFit
 passes r ns ts qs zs k c d =
@@ -104,7 +102,7 @@ passes r ns ts qs zs k c d =
     let numbers = both (rowNumbersFit (take n ts) (take n qs) (take n zs)) _ (fields .1) in
     let spans = both (spansFit (named r ns)) _ (numbers .1) in
     let rows = both (rowsFit (named r ns) (take n ts) (take n qs) (take n zs)) (countsFit (r .counts) (take n ts) (take n qs) (take n zs)) (spans .1) in
-    rw (count .0, names .0, shown (ns .first) c, shown (ns .second) d, fields .0, numbers .0, spans .0, ← rows-named r ns (take n ts) (take n qs) (take n zs), rows .0, rows .1)
+    rw (count .0, names .0, graphic-all (ns .first) c, graphic-all (ns .second) d, fields .0, numbers .0, spans .0, ← rows-named r ns (take n ts) (take n qs) (take n zs), rows .0, rows .1)
 
 -- ---- an accepted line: its names, and its rows
 module _ (s : List ℕ) (r : Psl) (ok : pslCheck s ≡ Accepted r) where

@@ -6,7 +6,7 @@ use native.Mathlib.Omega.{arith}
 use lib.ListN.{length, take}
 use Rattle.ledger.specs.declared.Row.{Row}
 use Rattle.blocks.specs.Rows.{tableOf, targetsOf, queriesOf, sizesOf}
-use Rattle.blocks.proofs.TableLaws.{table-back}
+use Rattle.blocks.proofs.TableLaws.{table-back, take-map}
 
 -- the flat lists of a table of three lists of one length are those lists
 pub record Flat (ts qs zs : List ℕ) : Type 0 where
@@ -28,11 +28,6 @@ flat (t ∷ ts) (q ∷ qs) (z ∷ zs) e f =
       queries = ap (λ (l : List ℕ). q ∷ l) (w .queries);
       sizes = ap (λ (l : List ℕ). z ∷ l) (w .sizes);
     }
-
-take-map : (g : Row → ℕ) (n : ℕ) (rows : List Row) → take n (map g rows) ≡ map g (take n rows)
-take-map g zero rows = refl
-take-map g (suc n) [] = refl
-take-map g (suc n) (b ∷ rows) = ap (λ (l : List ℕ). g b ∷ l) (take-map g n rows)
 
 -- three lists that are the first n numbers of a table's flat lists make its first n rows
 pub rows-taken : (n : ℕ) (table : List Row) (ts qs zs : List ℕ) → ts ≡ take n (targetsOf table) → qs ≡ take n (queriesOf table) → zs ≡ take n (sizesOf table) → tableOf ts qs zs ≡ take n table

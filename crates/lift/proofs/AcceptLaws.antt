@@ -22,7 +22,7 @@ use Rattle.blocks.specs.Rules.{Fills, Ranged}
 use Rattle.blocks.specs.Rows.{tableOf, targetsOf, queriesOf, sizesOf, noRow, rowAt}
 use Rattle.blocks.proofs.RuleLaws.{both, fills-of, fills-is, ranged-of, ranged-is}
 use Rattle.blocks.proofs.TakeLaws.{fills-take, fills-back, ranged-take, ranged-back}
-use Rattle.blocks.proofs.TableLaws.{table-length, taken-length, taken-at, column-taken}
+use Rattle.blocks.proofs.TableLaws.{table-length, taken-length, taken-at, column-taken, take-map}
 use Rattle.chain.specs.declared.Chain.{Chain}
 use Rattle.chain.specs.Tests.{chainValid}
 use Rattle.chain.specs.Write.{recordCheck}
@@ -30,12 +30,6 @@ use Rattle.chain.specs.Rules.{ChainRules}
 use Rattle.chain.proofs.RuleLaws.{rules-of, rules-is, valid-used}
 use Rattle.lift.specs.Accepted.{used, accepted, Wide, Ready}
 use Rattle.lift.proofs.RunLaws.{Run, run-at, Placed, placed-of, Tested, placed-is}
-
--- the first rows of a column
-take-map : (g : Row → ℕ) (n : ℕ) (rows : List Row) → take n (map g rows) ≡ map g (take n rows)
-take-map g zero rows = refl
-take-map g (suc n) [] = refl
-take-map g (suc n) (b ∷ rows) = ap (λ (l : List ℕ). g b ∷ l) (take-map g n rows)
 
 -- the rules of an accepted chain, on a table of n rows whose used ones are bs
 pub record Rules (c : Chain) (n : ℕ) (bs : List Row) : Type 0 where

@@ -8,10 +8,10 @@ use Rattle.ledger.specs.declared.Strand.the-variants.{Minus}
 use Rattle.ledger.specs.declared.Row.{Row}
 use Rattle.ledger.specs.declared.Reason.the-variants.{NumberOutOfRange, SpanDisagrees, BlockRules, NoPair, OutsideTarget}
 use Rattle.ledger.specs.Parts.{partAt}
-use Rattle.blocks.specs.Blocks.{blocksFill, orderFrom, allBetween}
+use Rattle.blocks.specs.Blocks.{blocksFill, orderFrom, allBetween, rowNumbersFit}
 use Rattle.blocks.specs.Rows.{rowAs}
 use Rattle.chain.specs.declared.Chain.{Chain}
-use Rattle.chain.specs.Tests.{namesFit, fieldsFit, rowNumbersFit, spansFit, rowsFit, chainValid}
+use Rattle.chain.specs.Tests.{namesFit, fieldsFit, spansFit, rowsFit, chainValid}
 use Rattle.lift.specs.declared.PositionAnswer.{PositionAnswer}
 use Rattle.lift.specs.declared.PositionAnswer.the-variants.{Lifted}
 use Rattle.lift.specs.declared.SpanAnswer.the-variants.{Converted}

@@ -23,15 +23,12 @@ use Rattle.psl.specs.declared.PslAnswer.the-variants.{Accepted}
 use Rattle.psl.specs.Table.{pslColumns}
 use Rattle.psl.specs.Records.{pslSizes, pslQueries, pslTargets}
 use Rattle.psl.specs.Read.{roomCheck, pslCheck, pslRead}
-use Rattle.psl.specs.Rules.{partOf, PslLine, placed}
+use Rattle.psl.specs.Rules.{PslLine, placed}
 use Rattle.psl.specs.Write.{writeCheck, pslWords, pslText}
 use Rattle.psl.proofs.LineLaws.{line-is}
 use Rattle.psl.proofs.BackWordLaws.{named, on-renamed, MayWrite, may-write, wordValues, sizes-between, queries-between, targets-between, words-spell, words-worded}
-
--- the bytes of a word, as a part and as an extent
-part-bytes : (s : List ℕ) (w : Extent) → partBytes s (partOf w) ≡ bytesOf s w
-unfolding partBytes bytesOf
-part-bytes s w = refl
+use Rattle.columns.specs.Names.{partOf}
+use Rattle.columns.proofs.WordLaws.{part-bytes}
 
 -- what a record that may be written reads back as
 module _ (r : Psl) (qName tName ts qs zs : List ℕ) (ok : MayWrite r qName tName ts qs zs) where

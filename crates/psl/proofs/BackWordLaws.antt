@@ -28,16 +28,18 @@ use Rattle.kinds.specs.declared.Kind.the-variants.{Name, Number, Count, Items, 
 use Rattle.kinds.specs.Kinds.{leastOf, mostOf, countAfter}
 use Rattle.kinds.proofs.BackLaws.{Written, written}
 use Rattle.columns.specs.Spells.{Spells, spells-none, spells-more}
-use Rattle.blocks.specs.Blocks.{blocksFill, allBetween, countFits, rowsOf}
+use Rattle.blocks.specs.Blocks.{blocksFill, allBetween, countFits, rowsOf, rowNumbersFit}
 use Rattle.blocks.proofs.RuleLaws.{between-of}
 use Rattle.psl.specs.declared.Side.{Side}
 use Rattle.psl.specs.declared.Psl.{Psl}
 use Rattle.psl.specs.Table.{pslColumns}
 use Rattle.psl.specs.Rows.{firstOn, lastOn, rowsFit, countsFit}
 use Rattle.psl.specs.Rules.{PslRules}
-use Rattle.psl.specs.Tests.{lengthFits, isTold, fieldsFit, rowNumbersFit, spansFit, pslValid}
-use Rattle.psl.specs.Write.{allGraphic, wordsShow, writeCheck, pslWords}
-use Rattle.psl.proofs.RuleLaws.{and-i, rules-of}
+use Rattle.psl.specs.Tests.{isTold, fieldsFit, spansFit, pslValid}
+use Rattle.psl.specs.Write.{wordsShow, writeCheck, pslWords}
+use Rattle.psl.proofs.RuleLaws.{rules-of}
+use Rattle.columns.specs.Names.{lengthFits, allGraphic}
+use Rattle.columns.proofs.WordLaws.{all-graphic, name-written, list-written, row-spells, row-worded, Row, row-none, row-more, and-i}
 
 -- a side with another name, and the record with names of these lengths
 abbrev pub renamed : Side → Part → Side
@@ -67,12 +69,6 @@ pub record MayWrite (r : Psl) (qName tName ts qs zs : List ℕ) : Type 0 where
   pub targets : allBetween 0 largestPosition (take (r .blockCount) ts) ≡ true
   pub queries : allBetween 0 largestPosition (take (r .blockCount) qs) ≡ true
   pub sizes : allBetween 1 largestPosition (take (r .blockCount) zs) ≡ true
-
-all-graphic : (w : List ℕ) → allGraphic w ≡ true → All Graphic w
-unfolding endOf
-all-graphic w e =
-    let l : length w ≤ 0 + run Graphic w = leb-true (length w) (endOf Graphic w 0) e in
-    omega (arith, run-most Graphic w)
 
 -- THE WRITER'S CHECKS, ONE BY ONE
 pub may-write : (r : Psl) (qName tName ts qs zs : List ℕ) → writeCheck r qName tName ts qs zs ≡ Holds → MayWrite r qName tName ts qs zs
@@ -105,37 +101,13 @@ may-write r qName tName ts qs zs e =
       sizes = others .1;
     }
 
--- one word of each kind
-name-written : (n : ℕ) (w : List ℕ) → 1 ≤ length w → length w ≤ nameLimit → All Graphic w → Written Name n (length w) w []
-name-written n w some short shows =
-    let a : take (length w) (drop 0 w) ≡ w = take-length w in
-    rw a at (written Name w [] n 0 (length w) 0 (record { some = some; short = short; there = ap length a; shows = ap (run Graphic) a ∙ shows }))
-
 strand-written : (n : ℕ) (t : Strand) → isTold t ≡ true → Written (Stranded false) n (strandLetter t) (strandLetter t ∷ []) []
 strand-written n Plus h = written (Stranded false) [] [] n 0 43 0 refl
 strand-written n Minus h = written (Stranded false) [] [] n 0 45 0 refl
 strand-written n Dot h = absurd (let z : _≡_ {A = ℕ} 0 1 = cc in omega arith)
 
-list-written : (c : Range) (n : ℕ) (xs : List ℕ) → 1 ≤ n → length xs ≡ n → Between (leastOf c) (mostOf c) xs → Written (Items c) n n (listText xs) xs
-list-written c n xs some l b =
-    let a : take n (drop 0 xs) ≡ xs = take-all n xs (omega arith) in
-    rw a at (written (Items c) [] xs n 0 n 0 (record { some = some; count = refl; there = ap length a ∙ l; range = rw a b }))
-
 coordinate-written : (n v : ℕ) → v ≤ largestPosition → Written (Number Coordinate) n v (digits v) []
 coordinate-written n v h = written (Number Coordinate) [] [] n 0 v 0 (zero-le, h)
-
--- the words ws of the columns cs are there, show, and spell the values vs
-data Row : List Kind → ℕ → List (List ℕ) → List ℕ → Type 0 where
-  row-none : {n : ℕ} → Row [] n [] []
-  row-more : {n v : ℕ} {c : Kind} {cs : List Kind} {w held : List ℕ} {ws : List (List ℕ)} {vs : List ℕ} → Written c n v w held → Row cs (countAfter c v n) ws vs → Row (c ∷ cs) n (w ∷ ws) (v ∷ vs)
-
-row-spells : {n : ℕ} {cs : List Kind} {ws : List (List ℕ)} {vs : List ℕ} → Row cs n ws vs → Spells cs n ws vs
-row-spells row-none = spells-none
-row-spells (row-more g t) = spells-more (g .back) (row-spells t)
-
-row-worded : {n : ℕ} {cs : List Kind} {ws : List (List ℕ)} {vs : List ℕ} → Row cs n ws vs → Worded ws
-row-worded row-none = worded-none
-row-worded (row-more {w = w} g t) = worded-more w (g .some) (g .shows) (row-worded t)
 
 -- the values of a record's twenty-one columns; a name means its length, and a list too
 abbrev pub wordValues : Psl → List ℕ → List ℕ → List ℕ

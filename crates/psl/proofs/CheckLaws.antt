@@ -14,12 +14,13 @@ use Rattle.text.specs.Checks.{require}
 use Rattle.text.specs.declared.Check.the-variants.{Holds}
 use Rattle.text.specs.declared.Check.the-variants as check
 use Rattle.text.proofs.TextLaws.{both}
-use Rattle.blocks.specs.Blocks.{countFits, rowsOf}
+use Rattle.blocks.specs.Blocks.{countFits, rowsOf, rowNumbersFit}
 use Rattle.psl.specs.declared.Psl.{Psl}
 use Rattle.psl.specs.Rows.{rowsFit, countsFit}
 use Rattle.psl.specs.Read.{CountsRange}
-use Rattle.psl.specs.Tests.{lengthFits, isTold, countNumbersFit, fieldsFit, rowNumbersFit, spansFit, headFits, pslValid}
+use Rattle.psl.specs.Tests.{isTold, countNumbersFit, fieldsFit, spansFit, headFits, pslValid}
 use Rattle.psl.specs.Write.{numbersCheck, recordCheck}
+use Rattle.columns.specs.Names.{lengthFits}
 
 -- counts in range
 pub counts-range : (r : Psl) → fieldsFit r ≡ true → CountsRange (r .counts)

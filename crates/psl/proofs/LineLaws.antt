@@ -50,9 +50,11 @@ use Rattle.psl.specs.Table.{pslColumns}
 use Rattle.psl.specs.Records.{countsOf, sideOf, pslRecord, pslSizes, pslQueries, pslTargets}
 use Rattle.psl.specs.Rows.{spanFits, firstOn, lastOn, rowsFit, countsFit}
 use Rattle.psl.specs.Read.{spanCheck, rowCheck, thenLine, thenCheck, afterSpans, afterLine, pslCheck}
-use Rattle.psl.specs.Rules.{partOf, SideSays, SpanIn, CountRules, PslLine}
+use Rattle.psl.specs.Rules.{SideSays, SpanIn, CountRules, PslLine}
 use Rattle.psl.proofs.ColumnLaws.{check-then, accepted-record}
-use Rattle.psl.proofs.RuleLaws.{and-i, span-of, span-is, counts-of, counts-is}
+use Rattle.psl.proofs.RuleLaws.{span-of, span-is, counts-of, counts-is}
+use Rattle.columns.specs.Names.{partOf}
+use Rattle.columns.proofs.WordLaws.{word-length, strand-is, letter-is, and-i}
 
 -- the values of a line: two numbers for each of its words
 abbrev pub lineValues : List ℕ → List ℕ
@@ -130,15 +132,6 @@ module _ (s : List ℕ) (r : Psl) (lt : length (pslTargets s) ≡ r .blockCount)
   unfolding rowCheck
   rows-is h = rw (rows-fit h, counts-is (r .counts) (pslTargets s) (pslQueries s) (pslSizes s) (h .counts))
 
--- a word's bytes are as many as its extent says
-pub word-length : (s : List ℕ) (k : ℕ) → length (bytesOf s (wordAt s 0 k)) ≡ wordAt s 0 k .end - wordAt s 0 k .start
-unfolding bytesOf endOf
-word-length s k =
-    let w = wordAt s 0 k in
-    let a : w .end ≡ w .start + run Word (drop (w .start) s) = word-ends s 0 k in
-    let b = run-most Word (drop (w .start) s) in
-    rw length-take (omega arith)
-
 -- the columns of a line that is read, by their numbers
 module _ (s : List ℕ) (e : ℕ) (found : lineRead pslColumns s ≡ Next e) where
   module _ (k : ℕ) (h : k < 21) where
@@ -184,18 +177,6 @@ module _ (s : List ℕ) (e : ℕ) (found : lineRead pslColumns s ≡ Next e) whe
   targets-are =
       let c = items-spelt Coordinate (getD (firsts (lineValues s)) 17 0) (bytesOf s (wordAt s 0 20)) (getD (lineValues s) 40 0) (value-spelt 20 (omega arith)) in
       (c .1, c .2 ∙ value-first (lineValues s) 17)
-
--- a strand is read from its letter, and a letter from its strand
-strand-is : (t : Strand) (v : ℕ) → strandLetter t ≡ v → t ≡ strandIs (strandOf v)
-strand-is t v e = rw (← e, strand-of-letter t)
-
-letter-is : (v : ℕ) → isStrand false (v ∷ []) ≡ true → strandLetter (strandIs (strandOf v)) ≡ v
-letter-is v h = go (eqb v 43) (eqb v 45) refl refl h
-  where
-    go : (x y : Bool) → eqb v 43 ≡ x → eqb v 45 ≡ y → (x || (y || false)) ≡ true → strandLetter (strandIs (strandOf v)) ≡ v
-    go true y e f k = rw e (sym (eqb-true v 43 e))
-    go false true e f k = rw (e, f) (sym (eqb-true v 45 f))
-    go false false e f k = absurd (let q : _≡_ {A = ℕ} 0 1 = cc in omega arith)
 
 -- two records with the same fields are the same
 counts-same : (c d : Counts) → c .matches ≡ d .matches → c .misMatches ≡ d .misMatches → c .repMatches ≡ d .repMatches → c .nCount ≡ d .nCount → c .qNumInsert ≡ d .qNumInsert → c .qBaseInsert ≡ d .qBaseInsert → c .tNumInsert ≡ d .tNumInsert → c .tBaseInsert ≡ d .tBaseInsert → c ≡ d
@@ -274,7 +255,7 @@ module _ (s : List ℕ) (r : Psl) (ok : pslCheck s ≡ Accepted r) where
         qBaseInsert = rw i (first-at 5);
         tNumInsert = rw i (first-at 6);
         tBaseInsert = rw i (first-at 7);
-        strand = rw i (letter-is (getD us 16 0) (letter-told s (a .end) (a .read)) ∙ first-at 8);
+        strand = rw i (letter-is false (getD us 16 0) (letter-told s (a .end) (a .read)) ∙ first-at 8);
         query = rw i query-says;
         target = rw i target-says;
         blockCount = rw i (first-at 17);

@@ -12,19 +12,17 @@ use Rattle.ledger.specs.declared.Strand.{Strand}
 use Rattle.ledger.specs.declared.Strand.the-variants.{Plus, Minus, Dot}
 use Rattle.ledger.specs.Limits.{blockLimit, nameLimit, largestPosition}
 use Rattle.text.proofs.TextLaws.{both}
-use Rattle.blocks.specs.Blocks.{countFits, rowsOf, sumOf, gapCount, gapBases}
+use Rattle.blocks.specs.Blocks.{countFits, rowsOf, sumOf, gapCount, gapBases, rowNumbersFit}
 use Rattle.blocks.proofs.RuleLaws.{fills-of, fills-is, ranged-of, ranged-is}
 use Rattle.blocks.proofs.TakeLaws.{fills-take, fills-back, ranged-take, ranged-back}
 use Rattle.psl.specs.declared.Counts.{Counts}
 use Rattle.psl.specs.declared.Side.{Side}
 use Rattle.psl.specs.declared.Psl.{Psl}
 use Rattle.psl.specs.Rows.{spanFits, firstOn, lastOn, rowsFit, countsFit}
-use Rattle.psl.specs.Tests.{lengthFits, isTold, sideFits, countNumbersFit, fieldsFit, rowNumbersFit, spansFit, pslValid}
+use Rattle.psl.specs.Tests.{isTold, sideFits, countNumbersFit, fieldsFit, spansFit, pslValid}
 use Rattle.psl.specs.Rules.{SpanIn, CountRules, SideRange, PslRules}
-
--- two tests that hold
-pub and-i : (a b : Bool) → a ≡ true → b ≡ true → (a && b) ≡ true
-and-i a b h k = rw (h, k)
+use Rattle.columns.specs.Names.{lengthFits}
+use Rattle.columns.proofs.WordLaws.{and-i}
 
 -- a strand that is told
 pub told-of : (t : Strand) → isTold t ≡ true → t ≡ Dot → ⊥

@@ -28,9 +28,11 @@ use Rattle.psl.specs.Table.{pslColumns}
 use Rattle.psl.specs.Records.{pslSizes, pslQueries, pslTargets}
 use Rattle.psl.specs.Read.{pslCheck}
 use Rattle.psl.specs.Tests.{pslValid}
-use Rattle.psl.specs.Rules.{partOf, SideSays, SideRange, CountRules, PslLine, PslRules}
+use Rattle.psl.specs.Rules.{SideSays, SideRange, CountRules, PslLine, PslRules}
 use Rattle.psl.proofs.RuleLaws.{rules-is}
-use Rattle.psl.proofs.LineLaws.{lineValues, Accepts, accepts-of, word-length, value-spelt, letter-told, sizes-are, queries-are, targets-are, accepted-targets, accepted-queries, accepted-sizes, line-of}
+use Rattle.psl.proofs.LineLaws.{lineValues, Accepts, accepts-of, value-spelt, letter-told, sizes-are, queries-are, targets-are, accepted-targets, accepted-queries, accepted-sizes, line-of}
+use Rattle.columns.specs.Names.{partOf}
+use Rattle.columns.proofs.WordLaws.{word-length}
 
 module _ (s : List ℕ) (r : Psl) (ok : pslCheck s ≡ Accepted r) where
   abbrev a : Accepts s r

@@ -12,14 +12,14 @@ use Rattle.text.specs.Scan.{run, endOf}
 use Rattle.text.specs.Parts.{partBytes}
 use Rattle.text.specs.Pieces.{joined}
 use Rattle.writing.specs.Digits.{digitsIn, digits, listText}
-use Rattle.blocks.specs.Blocks.{orderFrom, blocksFill, sumOf, allBetween, gapsFrom, basesFrom, gapCount, gapBases}
+use Rattle.blocks.specs.Blocks.{orderFrom, blocksFill, sumOf, allBetween, gapsFrom, basesFrom, gapCount, gapBases, rowNumbersFit}
 use Rattle.psl.specs.declared.Psl.{Psl}
 use Rattle.psl.specs.declared.PslAnswer.the-variants.{Accepted}
 use Rattle.psl.specs.Records.{pslSizes, pslQueries, pslTargets}
 use Rattle.psl.specs.Read.{pslRead}
 use Rattle.psl.specs.Rows.{rowsFit, countsFit}
 use Rattle.psl.specs.Rules.{placed}
-use Rattle.psl.specs.Tests.{countNumbersFit, fieldsFit, rowNumbersFit, spansFit}
+use Rattle.psl.specs.Tests.{countNumbersFit, fieldsFit, spansFit}
 use Rattle.psl.specs.Write.{wordsShow, writeCheck, pslWords, pslText}
 use Rattle.psl.proofs.BackLaws.{back-read, back-query, back-target, back-sizes, back-queries, back-targets}
 

@@ -26,7 +26,7 @@ use Rattle.kinds.specs.Kinds.{kindOf}
 use Rattle.kinds.proofs.SpellLaws.{part-stored}
 use Rattle.columns.specs.Columns.{tableOf}
 use Rattle.columns.specs.Lines.{lineText, fedLine}
-use Rattle.columns.specs.Names.{NamesPut, namesIn}
+use Rattle.columns.specs.Names.{NamesPut, namesIn, lengthFits, allGraphic}
 use Rattle.columns.specs.Ranges.{wordsFrom}
 use Rattle.columns.proofs.BackLaws.{line-joins}
 use Rattle.columns.proofs.NameLaws.{names-put}
@@ -34,8 +34,9 @@ use Rattle.columns.proofs.PlaceLaws.{sets-keep, sets-there}
 use Rattle.blocks.specs.Blocks.{countFits, rowsOf}
 use Rattle.psl.specs.declared.Psl.{Psl}
 use Rattle.psl.specs.Table.{pslColumns}
-use Rattle.psl.specs.Tests.{lengthFits, isTold}
-use Rattle.psl.specs.Write.{allGraphic, wordsShow, writeCheck, pslWords, pslText, pslValues, pslWrite, RowsThere, ListsPut, Writable, PslWrote}
+use Rattle.psl.specs.Tests.{isTold}
+use Rattle.psl.specs.Write.{wordsShow, writeCheck, pslWords, pslText, pslValues, pslWrite, RowsThere, ListsPut, Writable, PslWrote}
+use Rattle.columns.proofs.WordLaws.{letter-byte}
 
 -- the codes of the table in the code
 abbrev pslCodes : List ℕ
@@ -65,11 +66,6 @@ lists-put n ts qs zs l l₁ y l₂ z h e₁ ey e₂ ez =
       queries = rw f₃ (sets-keep l₂ (2 * blockLimit) (take n ts) blockLimit n (omega (arith, h .few)) ∙ rw f₂ (rw b at v));
       targets = rw f₃ (rw c at w);
     }
-
-letter-byte : (s : Strand) → strandLetter s % 256 ≡ strandLetter s
-letter-byte Plus = refl
-letter-byte Minus = refl
-letter-byte Dot = refl
 
 -- the line that the line writer makes of the values is the standard text
 module _ (r : Psl) (query target ts qs zs t l : List ℕ) (names : NamesPut query target t) (lists : ListsPut (r .blockCount) ts qs zs l) where

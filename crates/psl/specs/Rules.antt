@@ -18,10 +18,7 @@ use Rattle.psl.specs.declared.Psl.{Psl}
 use Rattle.psl.specs.Table.{pslColumns}
 use Rattle.psl.specs.Records.{pslSizes, pslQueries, pslTargets}
 use Rattle.psl.specs.Rows.{firstOn, lastOn}
-
--- the part of a text that a word stands in
-abbrev pub partOf : Extent → Part
-partOf w = record { start = w .start; length = w .end - w .start }
+use Rattle.columns.specs.Names.{partOf}
 
 -- a side of a record is what its columns, from number k on, spell: name, size, start, end
 pub record SideSays (s vs : List ℕ) (k : ℕ) (x : Side) : Type 0 where

@@ -7,15 +7,12 @@ use lib.Dec.{leb}
 use Rattle.ledger.specs.declared.Strand.{Strand}
 use Rattle.ledger.specs.declared.Strand.the-variants.{Plus, Minus, Dot}
 use Rattle.ledger.specs.Limits.{nameLimit, largestPosition}
-use Rattle.blocks.specs.Blocks.{allBetween, countFits, rowsOf}
+use Rattle.blocks.specs.Blocks.{allBetween, countFits, rowsOf, rowNumbersFit}
 use Rattle.psl.specs.declared.Counts.{Counts}
 use Rattle.psl.specs.declared.Side.{Side}
 use Rattle.psl.specs.declared.Psl.{Psl}
 use Rattle.psl.specs.Rows.{spanFits, rowsFit, countsFit}
-
--- a name's length
-abbrev pub lengthFits : ℕ → Bool
-lengthFits n = leb 1 n && leb n nameLimit
+use Rattle.columns.specs.Names.{lengthFits}
 
 -- a PSL strand is `+` or `-`
 abbrev pub isTold : Strand → Bool
@@ -36,9 +33,6 @@ countNumbersFit c =
 -- the numbers of the record, and those of the used rows
 unfoldable pub fieldsFit : Psl → Bool
 fieldsFit r = countNumbersFit (r .counts) && (sideFits (r .query) && sideFits (r .target))
-
-unfoldable pub rowNumbersFit : List ℕ → List ℕ → List ℕ → Bool
-rowNumbersFit ts qs zs = allBetween 0 largestPosition ts && (allBetween 0 largestPosition qs && allBetween 1 largestPosition zs)
 
 -- the spans of both sides
 unfoldable pub spansFit : Psl → Bool

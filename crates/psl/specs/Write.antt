@@ -19,18 +19,16 @@ use Rattle.writing.specs.Digits.{digits, listText}
 use Rattle.writing.specs.declared.Writing.{Writing}
 use Rattle.writing.specs.declared.Writing.the-variants as writing
 use Rattle.writing.specs.Answers.{roomAnswer, leftAfter}
-use Rattle.blocks.specs.Blocks.{countFits, rowsOf}
+use Rattle.blocks.specs.Blocks.{countFits, rowsOf, rowNumbersFit}
 use Rattle.psl.specs.declared.Psl.{Psl}
 use Rattle.psl.specs.Rows.{rowsFit, countsFit}
-use Rattle.psl.specs.Tests.{lengthFits, isTold, fieldsFit, rowNumbersFit, spansFit, pslValid}
+use Rattle.psl.specs.Tests.{isTold, fieldsFit, spansFit, pslValid}
+use Rattle.columns.specs.Names.{lengthFits, allGraphic}
+use Rattle.columns.specs.Lines.{thenWrite}
 
 -- THE RECORD CHECKER: any breach is 9, at place 0
 unfoldable pub recordCheck : Psl → List ℕ → List ℕ → List ℕ → Check
 recordCheck r ts qs zs = require (pslValid r ts qs zs) BlockRules 0 Holds
-
--- bytes that all show: 33 to 126
-abbrev pub allGraphic : List ℕ → Bool
-allGraphic w = leb (length w) (endOf Graphic w 0)
 
 -- the names that are handed in: their lengths, and that all their bytes show; and the strand
 unfoldable pub wordsShow : Psl → List ℕ → List ℕ → Bool
@@ -67,10 +65,6 @@ pslWords r qName tName ts qs zs =
 -- THE STANDARD TEXT: the words, a tab between them, and a line feed
 unfoldable pub pslText : Psl → List ℕ → List ℕ → List ℕ → List ℕ → List ℕ → List ℕ
 pslText r qName tName ts qs zs = joined 9 (pslWords r qName tName ts qs zs) ++ (10 ∷ [])
-
-abbrev pub thenWrite : Check → Writing → Writing
-thenWrite Holds rest = rest
-thenWrite (check.Refused x) rest = writing.Refused x
 
 -- THE WRITER: the checks, then the text's length (1), then the room (11)
 unfoldable pub pslWrite : Psl → List ℕ → List ℕ → List ℕ → List ℕ → List ℕ → ℕ → Writing

@@ -7,8 +7,8 @@ ghost use Rattle.writing.specs.Answers.{Wrote};
 ghost use Rattle.text.specs.Checks.{require};
 ghost use Rattle.psl.specs.Records.{countsOf, sideOf, pslRecord};
 ghost use Rattle.psl.specs.Rows.{spanFits, firstOn, lastOn, rowsFit, countsFit};
-ghost use Rattle.psl.specs.Tests.{lengthFits, isTold, sideFits, countNumbersFit, fieldsFit, rowNumbersFit, spansFit, headFits, pslValid};
-ghost use Rattle.psl.specs.Write.{allGraphic, wordsShow, numbersCheck, writeCheck, pslText, pslValues, RowsThere, ListsPut, Writable, PslWrote, recordCheck};
+ghost use Rattle.psl.specs.Tests.{isTold, sideFits, countNumbersFit, fieldsFit, spansFit, headFits, pslValid};
+ghost use Rattle.psl.specs.Write.{wordsShow, numbersCheck, writeCheck, pslText, pslValues, RowsThere, ListsPut, Writable, PslWrote, recordCheck};
 ghost use Rattle.psl.specs.Read.{spanCheck, rowCheck, afterSpans, afterLine, pslCheck, CountsRange, Listed, Ready, Staged, RowsStored, PslRead};
 use columns::Columns;
 use ledger::Part;
@@ -18,6 +18,8 @@ use ledger::Strand;
 use text::Check;
 use text::Class;
 use writing::Writing;
+ghost use Rattle.columns.specs.Names.{lengthFits, allGraphic};
+ghost use Rattle.blocks.specs.Blocks.{rowNumbersFit};
 
 // The eight counts of a PSL line.
 pub struct Counts {

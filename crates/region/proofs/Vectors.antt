@@ -6,11 +6,10 @@ use Rattle.ledger.specs.declared.Strand.the-variants.{Minus}
 use Rattle.ledger.specs.declared.Row.{Row}
 use Rattle.ledger.specs.declared.Reason.the-variants.{NumberOutOfRange, NoPair, OutsideTarget}
 use Rattle.ledger.specs.Limits.{tallyLimit}
-use Rattle.blocks.specs.Blocks.{orderFrom, blocksFill, allBetween}
+use Rattle.blocks.specs.Blocks.{orderFrom, blocksFill, allBetween, rowNumbersFit}
 use Rattle.blocks.specs.Rows.{rowAs}
 use Rattle.chain.specs.declared.Chain.{Chain}
-use Rattle.chain.specs.Records.{partAt}
-use Rattle.chain.specs.Tests.{namesFit, fieldsFit, rowNumbersFit, spansFit, rowsFit, chainValid}
+use Rattle.chain.specs.Tests.{namesFit, fieldsFit, spansFit, rowsFit, chainValid}
 use Rattle.lift.specs.Accepted.{accepted}
 use Rattle.lift.specs.Pairs.{blockPairs, pairsOf, pairs, partnerOf}
 use Rattle.region.specs.declared.RegionAnswer.{RegionAnswer}
@@ -18,6 +17,7 @@ use Rattle.region.specs.declared.RegionAnswer.the-variants.{Lifted}
 use Rattle.region.specs.declared.Tally.{Tally}
 use Rattle.region.specs.Regions.{countOf, kept, dropped, partnersIn, least, bound, notLifted, inside, carried, liftRegion}
 use Rattle.region.specs.Tallies.{goodTally, tallyStep, Sent, counts, counted, total, sums, zeroTally, sentThrough}
+use Rattle.ledger.specs.Parts.{partAt}
 
 abbrev pub chainA : Chain
 chainA = record {

@@ -17,7 +17,7 @@ use Rattle.text.specs.declared.Check.the-variants.{Holds}
 use Rattle.text.specs.declared.Check.the-variants as check
 use Rattle.text.specs.Checks.{require}
 use Rattle.writing.specs.declared.Writing.{Writing}
-use Rattle.blocks.specs.Blocks.{rowsOf}
+use Rattle.blocks.specs.Blocks.{rowsOf, rowNumbersFit}
 use Rattle.blocks.specs.Rows.{targetsOf, queriesOf, sizesOf}
 use Rattle.rows.specs.Staging.{allReach, Loaded, Columns, storedRows}
 use Rattle.rows.proofs.StagingLaws.{fronts-made, fronts-stored, none-stored, loaded-targets, loaded-queries, loaded-sizes, room-cut, cutRows, rows-cut, part-count}
@@ -27,10 +27,11 @@ use Rattle.bed.specs.declared.BedAnswer.{BedAnswer}
 use Rattle.bed.specs.declared.BedAnswer.the-variants.{Accepted, Refused}
 use Rattle.bed.specs.Records.{bedTargets, bedQueries, bedSizes}
 use Rattle.bed.specs.Read.{thenCheck, thenRoom, roomCheck, rowsAfter, bedCheck, bedRead, BedRead}
-use Rattle.bed.specs.Tests.{namesFit, strandFits, fieldsFit, rowNumbersFit, spansFit, rowsFit, bedValid}
-use Rattle.bed.specs.Write.{namesShow, writeCheck, bedWords, bedText, thenWrite, bedWrite, BedWrote, recordCheck}
+use Rattle.bed.specs.Tests.{namesFit, strandFits, fieldsFit, spansFit, rowsFit, bedValid}
+use Rattle.bed.specs.Write.{namesShow, writeCheck, bedWords, bedText, bedWrite, BedWrote, recordCheck}
 use Rattle.bed.proofs.ValidLaws.{accepted-rows}
 use Rattle.table_bed.specs.Rows.{tableAfter, RowsRead, rowsFilled, ColumnsRead}
+use Rattle.columns.specs.Lines.{thenWrite}
 
 -- an accepted line: its blocks are no more than the limit, and its lists have as many numbers
 pub record Counted (s : List ℕ) (r : Bed) : Type 0 where

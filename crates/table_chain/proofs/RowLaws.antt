@@ -18,7 +18,7 @@ use Rattle.text.specs.declared.Check.the-variants as check
 use Rattle.text.specs.Checks.{require}
 use Rattle.writing.specs.Digits.{digits}
 use Rattle.writing.specs.declared.Writing.{Writing}
-use Rattle.blocks.specs.Blocks.{rowsOf}
+use Rattle.blocks.specs.Blocks.{rowsOf, rowNumbersFit}
 use Rattle.blocks.specs.Rows.{targetsOf, queriesOf, sizesOf}
 use Rattle.rows.specs.Staging.{allReach, Loaded, Columns, storedRows}
 use Rattle.rows.proofs.StagingLaws.{fronts-made, fronts-stored, none-stored, loaded-targets, loaded-queries, loaded-sizes, room-cut, cutRows, rows-cut, part-count}
@@ -28,11 +28,12 @@ use Rattle.chain.specs.declared.ChainAnswer.{ChainAnswer}
 use Rattle.chain.specs.declared.ChainAnswer.the-variants.{Accepted, Refused}
 use Rattle.chain.specs.Records.{chainTargets, chainQueries, chainSizes}
 use Rattle.chain.specs.Read.{thenCheck, thenRoom, roomCheck, rowsAfter, chainCheck, chainRead, ChainRead}
-use Rattle.chain.specs.Tests.{namesFit, strandFits, fieldsFit, rowNumbersFit, spansFit, rowsFit, chainValid}
-use Rattle.chain.specs.Write.{namesShow, writeCheck, headWords, fedWords, gapTo, gapWords, blockText, chainText, thenWrite, chainWrite, ChainWrote, recordCheck}
+use Rattle.chain.specs.Tests.{namesFit, strandFits, fieldsFit, spansFit, rowsFit, chainValid}
+use Rattle.chain.specs.Write.{namesShow, writeCheck, headWords, fedWords, gapTo, gapWords, blockText, chainText, chainWrite, ChainWrote, recordCheck}
 use Rattle.chain.proofs.TextLaws.{text-of}
 use Rattle.chain.proofs.ValidLaws.{lines-target-count, lines-query-count}
 use Rattle.table_chain.specs.Rows.{tableAfter, RowsRead, rowsFilled, ColumnsRead}
+use Rattle.columns.specs.Lines.{thenWrite}
 
 -- an accepted chain: its blocks are no more than the limit, and its lists have as many numbers
 pub record Counted (s : List ℕ) (r : Chain) : Type 0 where

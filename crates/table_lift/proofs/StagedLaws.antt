@@ -13,10 +13,11 @@ use Rattle.blocks.proofs.TableLaws.{table-back}
 use Rattle.rows.specs.Staging.{allReach, Loaded, Columns}
 use Rattle.rows.proofs.StagingLaws.{first-fronts, loaded-targets, loaded-queries, loaded-sizes, cutRows, rows-cut}
 use Rattle.chain.specs.declared.Chain.{Chain}
-use Rattle.chain.specs.Tests.{namesFit, strandFits, fieldsFit, rowNumbersFit, spansFit, rowsFit, chainValid}
+use Rattle.chain.specs.Tests.{namesFit, strandFits, fieldsFit, spansFit, rowsFit, chainValid}
 use Rattle.lift.specs.Accepted.{used, accepted}
 use Rattle.lift.proofs.AcceptLaws.{accepted-rules}
 use Rattle.table_lift.specs.Lifts.{stagedRows}
+use Rattle.blocks.specs.Blocks.{rowNumbersFit}
 
 -- the chain rules, as they look at the rows in use
 abbrev rulesSeen : Chain → Bool → List ℕ → List ℕ → List ℕ → Bool

@@ -17,7 +17,7 @@ use Rattle.text.specs.declared.Check.the-variants.{Holds}
 use Rattle.text.specs.declared.Check.the-variants as check
 use Rattle.text.specs.Checks.{require}
 use Rattle.writing.specs.declared.Writing.{Writing}
-use Rattle.blocks.specs.Blocks.{rowsOf}
+use Rattle.blocks.specs.Blocks.{rowsOf, rowNumbersFit}
 use Rattle.blocks.specs.Rows.{targetsOf, queriesOf, sizesOf}
 use Rattle.rows.specs.Staging.{allReach, Loaded, Columns, storedRows}
 use Rattle.rows.proofs.StagingLaws.{fronts-made, fronts-stored, none-stored, loaded-targets, loaded-queries, loaded-sizes, room-cut, cutRows, rows-cut, part-count}
@@ -27,12 +27,14 @@ use Rattle.psl.specs.declared.PslAnswer.{PslAnswer}
 use Rattle.psl.specs.declared.PslAnswer.the-variants.{Accepted, Refused}
 use Rattle.psl.specs.Records.{pslTargets, pslQueries, pslSizes}
 use Rattle.psl.specs.Read.{thenCheck, thenRoom, roomCheck, rowsAfter, pslCheck, pslRead, PslRead}
-use Rattle.psl.specs.Tests.{lengthFits, isTold, fieldsFit, rowNumbersFit, spansFit, pslValid}
-use Rattle.psl.specs.Write.{wordsShow, writeCheck, pslWords, pslText, thenWrite, pslWrite, PslWrote, recordCheck}
+use Rattle.psl.specs.Tests.{isTold, fieldsFit, spansFit, pslValid}
+use Rattle.psl.specs.Write.{wordsShow, writeCheck, pslWords, pslText, pslWrite, PslWrote, recordCheck}
 use Rattle.psl.specs.Rows.{rowsFit, countsFit}
 use Rattle.psl.proofs.LineLaws.{accepted-targets, accepted-queries, accepted-sizes}
 use Rattle.psl.proofs.ValidLaws.{accepted-rules}
 use Rattle.table_psl.specs.Rows.{tableAfter, RowsRead, rowsFilled, ColumnsRead}
+use Rattle.columns.specs.Names.{lengthFits}
+use Rattle.columns.specs.Lines.{thenWrite}
 
 -- an accepted line: its blocks are no more than the limit, and its lists have as many numbers
 pub record Counted (s : List ℕ) (r : Psl) : Type 0 where

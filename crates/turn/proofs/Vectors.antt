@@ -8,15 +8,15 @@ use Rattle.ledger.specs.declared.Reason.the-variants.{BlockRules, NoRoom}
 use Rattle.ledger.specs.declared.Row.{Row}
 use Rattle.text.specs.Pieces.{joined}
 use Rattle.writing.specs.Digits.{digitsIn, digits}
-use Rattle.blocks.specs.Blocks.{orderFrom, blocksFill, allBetween}
+use Rattle.blocks.specs.Blocks.{orderFrom, blocksFill, allBetween, rowNumbersFit}
 use Rattle.blocks.specs.Rows.{rowAs, targetsOf, queriesOf, sizesOf}
 use Rattle.chain.specs.declared.Chain.{Chain}
-use Rattle.chain.specs.Records.{partAt}
-use Rattle.chain.specs.Tests.{namesFit, fieldsFit, rowNumbersFit, spansFit, rowsFit, chainValid}
+use Rattle.chain.specs.Tests.{namesFit, fieldsFit, spansFit, rowsFit, chainValid}
 use Rattle.chain.specs.Write.{headWords, gapWords, blockText, chainText}
 use Rattle.lift.specs.Accepted.{accepted}
 use Rattle.turn.specs.declared.TurnAnswer.the-variants.{Turned}
 use Rattle.turn.specs.Turns.{turnedRows, turned, notTurned, turn}
+use Rattle.ledger.specs.Parts.{partAt}
 
 abbrev chainA : Chain
 chainA = record {
