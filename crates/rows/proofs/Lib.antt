@@ -1,5 +1,6 @@
 pub mod Filled
 pub mod Walk
+pub mod Arrays
 pub mod Staged
 pub mod Loop
 pub mod StagingLaws
