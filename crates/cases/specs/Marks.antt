@@ -3,8 +3,12 @@ use Prim.Native.Nat.{ℕ}
 use mathlib.Core.Bool.{Bool, true, _&&_}
 use mathlib.Core.List.{List, [], _∷_}
 use lib.Dec.{eqb}
+use Rattle.ledger.specs.declared.Row.{Row}
 use Rattle.writing.specs.declared.Writing.{Writing}
 use Rattle.writing.specs.declared.Writing.the-variants.{Written, Refused}
+
+abbrev pub markedRow : Row
+markedRow = record { target = 7; query = 7; size = 7 }
 
 unfoldable pub allMarked : List ℕ → Bool
 allMarked [] = true

@@ -6,7 +6,7 @@ mod rooms;
 mod words;
 
 ghost use mathlib.Core.Path.{_≡_};
-ghost use Prim.Native.Nat.{_≤_, min};
+ghost use Prim.Native.Nat.{min};
 ghost use lib.ListN.{length, getD};
 ghost use Rattle.cases.specs.Lines.{isCase, caseLetter};
 pub use escape::unescape;
@@ -23,16 +23,19 @@ pub use puts::put_text;
 pub use rooms::bytes_kept;
 pub use rooms::length_of;
 pub use rooms::marked_bytes;
-pub use rooms::marked_pair;
-pub use rooms::marked_row;
 pub use rooms::marked_rows;
 pub use rooms::page;
+pub use rooms::row_mark;
 pub use rooms::row_numbers;
 pub use rooms::rows_kept;
+pub use rooms::table_rows;
 pub use words::name_at;
 pub use words::number_at;
 pub use words::row_numbers_at;
 pub use words::strand_at;
+
+// A table has room for so many rows, which are more than a record's blocks.
+pub const TABLE: usize = 600;
 
 pub fn least(a: usize, b: usize) -> usize
     ensures { λ r. ⌜ r ≡ min a b ⌝ }

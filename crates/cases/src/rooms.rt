@@ -1,32 +1,41 @@
 // Lent tables and buffers, with a mark in every place before a call, so that it shows where a call stored something.
 ghost use mathlib.Core.Path.{_≡_};
 ghost use mathlib.Core.Bool.{_&&_};
+ghost use Prim.Native.Nat.{min};
 ghost use lib.ListN.{length, drop};
-ghost use Rattle.cases.specs.Marks.{allMarked, wroteLength};
+ghost use Rattle.cases.specs.Marks.{markedRow, allMarked, wroteLength};
+use crate::TABLE;
+use crate::least;
+use ledger::Row;
 use writing::Writing;
 
 const MARK: u64 = 7;
 
 const MARK_BYTE: u8 = 7;
 
+// A row of a table before a call.
+pub fn row_mark() -> Row
+    ensures { λ r. ⌜ r ≡ markedRow ⌝ }
+{
+    Row {
+        target: MARK,
+        query: MARK,
+        size: MARK,
+    }
+}
+
+// How many rows of a table the numbers of a column fill.
+pub fn table_rows(column: &[u64]) -> usize
+    ensures { λ r. ⌜ r ≡ min (length (now (column .entry))) 600 ⌝ }
+{
+    least(column.len(), TABLE)
+}
+
 // The contracts of rooms tell only their lengths.
 pub fn marked_rows() -> [u64; 512]
     ensures { λ r. ⌜ 512 ≡ length r ⌝ }
 {
     [MARK; 512]
-}
-
-// Room for two blocks, and for one.
-pub fn marked_pair() -> [u64; 2]
-    ensures { λ r. ⌜ 2 ≡ length r ⌝ }
-{
-    [MARK; 2]
-}
-
-pub fn marked_row() -> [u64; 1]
-    ensures { λ r. ⌜ 1 ≡ length r ⌝ }
-{
-    [MARK; 1]
 }
 
 pub fn marked_bytes() -> [u8; 65536]

@@ -1,7 +1,7 @@
 -- What −1 − x is of a negative x: no longer negative, and in range.
 -- Assumes nothing.
 use mathlib.Core.Path.{_≡_, sym, _∙_, ap, subst}
-use mathlib.Core.Bool.{Bool, true, false}
+use mathlib.Core.Bool.{false}
 use Prim.Native.Nat.{ℕ, zero, suc, zero-le}
 use lib.Dec.{T, le→leb}
 use lib.IntN.{ℤ, pos, negsuc, predℤ, _-ℤ_, predℤ-+ℤ, +ℤ-idl}

@@ -1,6 +1,6 @@
 // The questions about a chain handed in, and their answers as bytes.
 use crate::drifts;
-use crate::entries;
+use crate::tables;
 use chain::Chain;
 use ledger::Part;
 use lift::PositionAnswer;
@@ -55,7 +55,7 @@ fn tally_case(
         kept: columns::value_at(tally, 1),
         dropped: columns::value_at(tally, 2),
     };
-    let done = entries::tally_region(before, c, targets, queries, sizes, start, end);
+    let done = tables::tally_region(before, c, targets, queries, sizes, start, end);
     let answer = done.answer;
     let after = done.tally;
     keep_tally(tally, after.asked, after.kept, after.dropped);
@@ -146,31 +146,7 @@ fn put_turn(
     }
 }
 
-// A turn into the first rows of marked tables.
-fn turn_into(
-    room: usize,
-    c: Chain,
-    targets: &[u64],
-    queries: &[u64],
-    sizes: &[u64],
-    newTargets: &mut [u64],
-    newQueries: &mut [u64],
-    newSizes: &mut [u64],
-) -> TurnAnswer {
-    let t = cases::least(room, newTargets.len());
-    let q = cases::least(room, newQueries.len());
-    let z = cases::least(room, newSizes.len());
-    entries::turn_chain(
-        c,
-        targets,
-        queries,
-        sizes,
-        &mut newTargets[0..t],
-        &mut newQueries[0..q],
-        &mut newSizes[0..z],
-    )
-}
-
+// A turn into a table of so many rows.
 fn turn_case(
     line: &[u8],
     c: Chain,
@@ -185,7 +161,7 @@ fn turn_case(
     let mut t = cases::marked_rows();
     let mut q = cases::marked_rows();
     let mut z = cases::marked_rows();
-    let answer = turn_into(room, c, targets, queries, sizes, &mut t, &mut q, &mut z);
+    let answer = tables::turn_chain(c, targets, queries, sizes, room, &mut t, &mut q, &mut z);
     put_turn(out, at, answer, page, &t, &q, &z)
 }
 
@@ -208,12 +184,12 @@ pub(crate) fn answer(
         b'p' => put_position(
             out,
             at,
-            entries::lift_position(c, targets, queries, sizes, first),
+            tables::lift_position(c, targets, queries, sizes, first),
         ),
         b'g' => put_region(
             out,
             at,
-            entries::lift_region(c, targets, queries, sizes, first, second),
+            tables::lift_region(c, targets, queries, sizes, first, second),
         ),
         b'u' => turn_case(line, c, page, targets, queries, sizes, out, at),
         b'm' => tally_case(first, second, c, targets, queries, sizes, tally, out, at),

@@ -6,7 +6,7 @@
 mod answers;
 mod chains;
 mod drifts;
-mod entries;
+mod tables;
 
 use chains::Given;
 

@@ -7,7 +7,7 @@ use lib.IntN.{ℤ, pos, natAbs}
 use lib.Dec.{lit<}
 use lib.Signed.{_≤ℤ_, yes-nonNeg, natAbs-le}
 use mir.Syntax.{w64}
-use mir.Val.{Fits, toZ, ofZ}
+use mir.Val.{Fits}
 use mir.ValLaws.{toZ-ofZ}
 use Rattle.samples_lift.proofs.drifts.natural.Statement.{statement}
 use Rattle.samples_lift.proofs.drifts.natural.Tie as tie
