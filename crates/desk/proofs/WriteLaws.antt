@@ -16,6 +16,7 @@ use Rattle.writing.specs.declared.Writing.the-variants as writing
 use Rattle.writing.specs.Answers.{roomAnswer, leftAfter}
 use Rattle.writing.proofs.PutLaws.{room-granted}
 use Rattle.bed.specs.declared.Bed.{Bed}
+use Rattle.columns.specs.Lines.{thenWrite}
 use Rattle.bed.specs.Write as bed-write
 use Rattle.psl.specs.declared.Psl.{Psl}
 use Rattle.psl.specs.Write as psl-write
@@ -56,7 +57,7 @@ module _ (s ts qs zs b b′ : List ℕ) (w : Writing) (code : ℕ) (is : (bytes 
   unfolding bedWritten bed-write.bedWrite
   bed-written r chrom name e f g =
       let t = bed-write.bedText r chrom name ts zs in
-      let k = writes bed-write.thenWrite (λ v. refl) (λ x v. refl) (bed-write.writeCheck r chrom name ts qs zs) (length s) t b b′ w code (g .is) (g .left) (is t) in
+      let k = writes thenWrite (λ v. refl) (λ x v. refl) (bed-write.writeCheck r chrom name ts qs zs) (length s) t b b′ w code (g .is) (g .left) (is t) in
       rw (← e, ← f, ← g .is) k
 
   pub psl-written : (r : Psl) (query target : List ℕ) → query ≡ nameBytes s (r .query .name) → target ≡ nameBytes s (r .target .name) → psl-write.PslWrote r query target ts qs zs b b′ w
@@ -64,7 +65,7 @@ module _ (s ts qs zs b b′ : List ℕ) (w : Writing) (code : ℕ) (is : (bytes 
   unfolding pslWritten psl-write.pslWrite
   psl-written r query target e f g =
       let t = psl-write.pslText r query target ts qs zs in
-      let k = writes psl-write.thenWrite (λ v. refl) (λ x v. refl) (psl-write.writeCheck r query target ts qs zs) (length s) t b b′ w code (g .is) (g .left) (is t) in
+      let k = writes thenWrite (λ v. refl) (λ x v. refl) (psl-write.writeCheck r query target ts qs zs) (length s) t b b′ w code (g .is) (g .left) (is t) in
       rw (← e, ← f, ← g .is) k
 
   pub chain-written : (r : Chain) (target query : List ℕ) → target ≡ nameBytes s (r .tName) → query ≡ nameBytes s (r .qName) → chain-write.ChainWrote r target query ts qs zs b b′ w
@@ -72,5 +73,5 @@ module _ (s ts qs zs b b′ : List ℕ) (w : Writing) (code : ℕ) (is : (bytes 
   unfolding chainWritten chain-write.chainWrite
   chain-written r target query e f g =
       let t = chain-write.chainText r target query ts qs zs in
-      let k = writes chain-write.thenWrite (λ v. refl) (λ x v. refl) (chain-write.writeCheck r target query ts qs zs) (length s) t b b′ w code (g .is) (g .left) (is t) in
+      let k = writes thenWrite (λ v. refl) (λ x v. refl) (chain-write.writeCheck r target query ts qs zs) (length s) t b b′ w code (g .is) (g .left) (is t) in
       rw (← e, ← f, ← g .is) k
