@@ -59,6 +59,10 @@ allBetween least most (v ∷ vs) = (leb least v && leb v most) && allBetween lea
 unfoldable pub rowNumbersFit : List ℕ → List ℕ → List ℕ → Bool
 rowNumbersFit ts qs zs = allBetween 0 largestPosition ts && (allBetween 0 largestPosition qs && allBetween 1 largestPosition zs)
 
+-- a span within its sequence: start < end ≤ size
+abbrev pub spanFits : ℕ → ℕ → ℕ → Bool
+spanFits start end size = ltb start end && leb end size
+
 -- numbers moved up by a, and down by a
 unfoldable pub shifted : ℕ → List ℕ → List ℕ
 shifted a [] = []

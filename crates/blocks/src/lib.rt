@@ -4,7 +4,7 @@ ghost use Prim.Native.Nat.{_+_, _-_, min};
 ghost use lib.ListN.{take};
 ghost use lib.Seq.{sets};
 ghost use Rattle.ledger.specs.Limits.{largestNumber};
-ghost use Rattle.blocks.specs.Blocks.{blocksFill, areSums, sumsWithin, shiftedWithin, subtracted, capped, sumOf, gapCount, gapBases, allBetween, countFits, rowsOf};
+ghost use Rattle.blocks.specs.Blocks.{blocksFill, areSums, sumsWithin, shiftedWithin, subtracted, capped, sumOf, gapCount, gapBases, allBetween, rowNumbersFit, spanFits, countFits, rowsOf};
 
 // How many of the first so many rows a slice of some length has.
 fn reach(len: usize, count: usize) -> usize
@@ -99,6 +99,23 @@ pub fn all_between(values: &[u64], count: usize, least: u64, most: u64) -> bool
     true
 }
 
+// Whether the numbers of the first so many rows are in their ranges: starts from 0, sizes from 1.
+pub fn row_numbers_fit(targets: &[u64], queries: &[u64], sizes: &[u64], count: usize) -> bool
+    ensures { λ r. ⌜ r ≡ rowNumbersFit (take count (now (targets .entry))) (take count (now (queries .entry)))
+        (take count (now (sizes .entry))) ⌝ }
+{
+    let most = ledger::Position::LARGEST;
+    all_between(targets, count, 0, most)
+        & (all_between(queries, count, 0, most) & all_between(sizes, count, 1, most))
+}
+
+// Whether a span lies within its sequence: start < end ≤ size.
+pub fn span_fits(start: u64, end: u64, size: u64) -> bool
+    ensures { λ r. ⌜ r ≡ spanFits start end size ⌝ }
+{
+    (start < end) & (end <= size)
+}
+
 // Copies the first so many numbers to the front of a table, as far as both reach.
 pub fn copy_numbers(from: &[u64], count: usize, to: &mut [u64])
     ensures { λ _. ⌜ now (to .exit) ≡ sets (now (to .entry)) 0 (take count (now (from .entry))) ⌝ }
@@ -147,7 +164,7 @@ pub fn put_shifted(from: &[u64], count: usize, by: u64, to: &mut [u64])
 }
 
 // The difference of two numbers, or 0.
-fn less(x: u64, by: u64) -> u64
+pub fn less(x: u64, by: u64) -> u64
     ensures { λ r. ⌜ r ≡ x - by ⌝ }
 {
     if x < by { 0 } else { x - by }
@@ -216,7 +233,7 @@ pub fn sum_of(values: &[u64], count: usize) -> u64
 }
 
 // The bases between the end of a block and the next start; 0 where they touch or overlap.
-fn gap_after(s: u64, z: u64, x: u64) -> u64
+pub fn gap_after(s: u64, z: u64, x: u64) -> u64
     ensures { λ r. ⌜ r ≡ x - (s + z) ⌝ }
 {
     if x < s {

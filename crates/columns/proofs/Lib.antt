@@ -6,3 +6,4 @@ pub mod PlaceLaws
 pub mod OneLineLaws
 pub mod NameLaws
 pub mod WordLaws
+pub mod TableLaws

@@ -15,10 +15,10 @@ use Rattle.text.specs.declared.Check.{Check}
 use Rattle.text.specs.declared.Check.the-variants.{Holds}
 use Rattle.text.specs.declared.Check.the-variants as check
 use Rattle.text.specs.declared.Extent.{Extent}
-use Rattle.text.specs.Checks.{pickCheck, textCheck, lastLineCheck}
+use Rattle.text.specs.Checks.{textCheck, lastLineCheck, wordsCheck}
 use Rattle.text.specs.Words.{lineEnd, wordAt, wordCount}
 use Rattle.text.specs.Pieces.{wordsOf, lineOf}
-use Rattle.text.proofs.CheckLaws.{require-holds, text-of, text-is, one-of, one-is, some-text}
+use Rattle.text.proofs.CheckLaws.{words-good, words-hold, text-of, text-is, one-of, one-is, some-text}
 use Rattle.kinds.specs.declared.Kind.{Kind}
 use Rattle.kinds.specs.Kinds.{kindOf}
 use Rattle.columns.specs.declared.Columns.{Columns}
@@ -29,18 +29,9 @@ use Rattle.columns.specs.OneLine.{countCheck, thenLine, thenLast, lineRe
 use Rattle.columns.proofs.SpellsLaws.{columns-spell, spells-read}
 
 -- the number of words
-module _ (s : List ℕ) (line n count : ℕ) (ec : count ≡ wordCount s line) where
-  pub count-many : (w : Extent) → n < count → w ≡ wordAt s line n → check.Refused (record { reason = WrongCount; place = w .start }) ≡ countCheck s line n
-  unfolding countCheck
-  count-many w h e = rw (← ec, lt-leb count n h, e)
-
-  pub count-few : (e : ℕ) → count ≤ n → count < n → e ≡ lineEnd s line → check.Refused (record { reason = WrongCount; place = e }) ≡ countCheck s line n
-  unfolding countCheck
-  count-few e h l q = rw (← ec, le-leb count n h, lt-leb n count l, q)
-
-  pub count-good : count ≤ n → n ≤ count → Holds ≡ countCheck s line n
-  unfolding countCheck
-  count-good h l = rw (← ec, le-leb count n h, le-leb n count l)
+pub count-checked : (s : List ℕ) (line n count : ℕ) (c : Check) → count ≡ wordCount s line → c ≡ wordsCheck s line count n (leb n count) → c ≡ countCheck s line n
+unfolding countCheck
+count-checked s line n count c e h = rw (← e) h
 
 -- the columns, then the surplus line
 module _ (cs : List Kind) (s : List ℕ) (x : Columns) (o o′ l l′ : List ℕ) (first : ColumnsRead cs s 0 o o′ l l′ x) where
@@ -98,12 +89,12 @@ last-then (Refused x) c e q = absurd (let z : _≡_ {A = ℕ} 0 1 = cc in omega 
 pub count-of : (s : List ℕ) (line n : ℕ) → countCheck s line n ≡ Holds → wordCount s line ≡ n
 unfolding countCheck
 count-of s line n e =
-    let a = require-holds (leb (wordCount s line) n) _ _ e in
-    let b = require-holds (leb n (wordCount s line)) _ _ (a .1) in
-    omega (arith, leb-true (wordCount s line) n (a .0), leb-true n (wordCount s line) (b .0))
+    let a = words-hold s line (wordCount s line) n (leb n (wordCount s line)) e in
+    omega (arith, a .0, leb-true n (wordCount s line) (a .1))
 
 pub count-is : (s : List ℕ) (line n : ℕ) → wordCount s line ≡ n → countCheck s line n ≡ Holds
-count-is s line n e = sym (count-good s line n (wordCount s line) refl (omega arith) (omega arith))
+unfolding countCheck
+count-is s line n e = sym (words-good s line (wordCount s line) n (leb n (wordCount s line)) (omega arith) (le-leb n (wordCount s line) (omega arith)))
 
 -- what a line that is read shows
 pub record Found (cs : List Kind) (s : List ℕ) (e : ℕ) : Type 0 where

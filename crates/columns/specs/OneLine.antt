@@ -5,16 +5,15 @@ use mathlib.Core.List.{List, [], _∷_}
 use lib.ListN.{length}
 use lib.Seq.{sets}
 use lib.Dec.{leb}
-use Rattle.ledger.specs.declared.Reason.the-variants.{WrongCount}
 use Rattle.ledger.specs.Limits.{textLimit}
 use Rattle.text.specs.declared.Class.the-variants.{Allowed}
 use Rattle.text.specs.declared.Check.{Check}
 use Rattle.text.specs.declared.Check.the-variants.{Holds}
 use Rattle.text.specs.declared.Check.the-variants as check
 use Rattle.text.specs.Scan.{run}
-use Rattle.text.specs.Checks.{require, textCheck, lastLineCheck}
+use Rattle.text.specs.Checks.{textCheck, lastLineCheck, wordsCheck}
 use Rattle.text.specs.Pieces.{linesOf, lineOf, wordsOf}
-use Rattle.text.specs.Words.{lineEnd, wordAt, wordCount}
+use Rattle.text.specs.Words.{wordCount}
 use Rattle.kinds.specs.declared.Kind.{Kind}
 use Rattle.columns.specs.declared.Columns.{Columns}
 use Rattle.columns.specs.declared.Columns.the-variants.{Next, Refused}
@@ -23,9 +22,7 @@ use Rattle.columns.specs.Spells.{Spells}
 
 -- the line that begins at a place has n words: more at the first surplus word, fewer at the line's end (2)
 unfoldable pub countCheck : List ℕ → ℕ → ℕ → Check
-countCheck s line n =
-    require (leb (wordCount s line) n) WrongCount (wordAt s line n .start)
-    (require (leb n (wordCount s line)) WrongCount (lineEnd s line) Holds)
+countCheck s line n = wordsCheck s line (wordCount s line) n (leb n (wordCount s line))
 
 abbrev pub thenLine : Check → Columns → Columns
 thenLine Holds rest = rest

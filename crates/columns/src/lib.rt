@@ -10,13 +10,14 @@ ghost use Rattle.writing.specs.Answers.{Wrote};
 ghost use Rattle.kinds.specs.Kinds.{kindOf, spelt, itemsIn, baseAfter, Spelled};
 ghost use Rattle.columns.specs.Columns.{columnLimit, tableOf, FieldRead, ColumnsWalked, ColumnsRead};
 ghost use Rattle.columns.specs.OneLine.{countCheck, CountedRead, LineRead};
-ghost use Rattle.columns.specs.Names.{namesIn};
+ghost use Rattle.columns.specs.Names.{namesIn, lengthFits, allGraphic};
 ghost use Rattle.columns.specs.Lines.{gapOf, lineFrom, lineText, fedLine};
 use kinds::Kind;
 use ledger::Reason;
 use ledger::Refusal;
 use numbers::Spelt;
 use text::Check;
+use text::Class;
 use text::Extent;
 use writing::Writing;
 
@@ -244,21 +245,7 @@ pub fn check_count(text: &[u8], line: usize, n: usize) -> Check
     ensures { λ r. ⌜ r ≡ countCheck (now (text .entry)) line n ⌝ }
 {
     let count = text::count_words(text, line);
-    if n < count {
-        let w = text::word_at(text, line, n);
-        return Check::Refused(Refusal {
-            reason: Reason::WrongCount,
-            place: w.start,
-        });
-    }
-    if count < n {
-        let e = text::line_end(text, line);
-        return Check::Refused(Refusal {
-            reason: Reason::WrongCount,
-            place: e,
-        });
-    }
-    Check::Holds
+    text::check_words(text, line, count, n, n <= count)
 }
 
 // After the number of words: the words from the left, then a surplus line; the columns are stored once both are good.
@@ -297,4 +284,18 @@ pub fn put_names(first: &[u8], second: &[u8], names: &mut [u8])
 {
     writing::put_bytes(names, 0, first);
     writing::put_bytes(names, ledger::NAME_LIMIT, second);
+}
+
+// Whether a name may have so many bytes.
+pub fn length_fits(n: usize) -> bool
+    ensures { λ r. ⌜ r ≡ lengthFits n ⌝ }
+{
+    (1 <= n) & (n <= ledger::NAME_LIMIT)
+}
+
+// Whether all bytes of a name show.
+pub fn all_graphic(name: &[u8]) -> bool
+    ensures { λ r. ⌜ r ≡ allGraphic (now (name .entry)) ⌝ }
+{
+    name.len() <= text::scan(name, 0, Class::Graphic)
 }

@@ -29,3 +29,9 @@ strandOf b = pickLettered (eqb b (strandLetter Plus)) (Is Plus) (pickLettered (e
 abbrev pub strandIs : Lettered → Strand
 strandIs (Is s) = s
 strandIs NoStrand = Dot
+
+-- whether a strand is told: `+` or `-`
+abbrev pub isTold : Strand → Bool
+isTold Plus = true
+isTold Minus = true
+isTold Dot = false

@@ -1,7 +1,7 @@
 // What every layer shares: the reasons of a refusal with their numbers, strands, positions, rows, parts of a text, and the limits by name.
 ghost use mathlib.Core.Path.{_≡_};
 ghost use Rattle.ledger.specs.Reasons.{reasonNumber};
-ghost use Rattle.ledger.specs.Strands.{strandOpposite, strandLetter, strandOf, strandIs};
+ghost use Rattle.ledger.specs.Strands.{strandOpposite, strandLetter, strandOf, strandIs, isTold};
 ghost use Rattle.ledger.specs.Parts.{partAt};
 ghost use Rattle.ledger.specs.Limits.{inCoordinates};
 
@@ -120,6 +120,17 @@ impl Strand {
             Strand::Plus => Strand::Minus,
             Strand::Minus => Strand::Plus,
             Strand::Dot => Strand::Dot,
+        }
+    }
+
+    // Whether it is `+` or `-`, as a PSL line and a chain ask.
+    pub fn is_told(self) -> bool
+        ensures { λ r. ⌜ r ≡ isTold self ⌝ }
+    {
+        match self {
+            Strand::Plus => true,
+            Strand::Minus => true,
+            Strand::Dot => false,
         }
     }
 

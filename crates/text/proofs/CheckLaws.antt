@@ -6,18 +6,20 @@ use Prim.Native.Nat.{ℕ, suc, _+_, _-_, _≤_, _<_}
 use native.Mathlib.Omega.{arith}
 use lib.ListN.{length, take, drop, drop-of-length-le}
 use lib.Dec.{leb, eqb}
-use borrow.Author.Tests.{leb-true, eqb-true}
+use borrow.Author.Tests.{le-leb, lt-leb, leb-true, eqb-true}
 use Rattle.ledger.specs.Limits.{textLimit}
+use Rattle.ledger.specs.declared.Reason.the-variants.{WrongCount}
 use Rattle.ledger.specs.declared.Refusal.{Refusal}
 use Rattle.text.specs.declared.Class.{Class}
 use Rattle.text.specs.declared.Class.the-variants.{Blank, Line, Allowed}
 use Rattle.text.specs.declared.Check.{Check}
 use Rattle.text.specs.declared.Check.the-variants.{Holds}
 use Rattle.text.specs.declared.Check.the-variants as check
+use Rattle.text.specs.declared.Extent.{Extent}
 use Rattle.text.specs.Scan.{isIn, oneMore, run, endOf}
-use Rattle.text.specs.Checks.{pickCheck, textCheck, lastLineCheck}
+use Rattle.text.specs.Checks.{pickCheck, textCheck, lastLineCheck, wordsCheck}
 use Rattle.text.specs.Pieces.{piecesOf, nonEmpty, linesOf, lineOf, wordsOf, joined}
-use Rattle.text.specs.Words.{lineEnd, nextLine, wordCount}
+use Rattle.text.specs.Words.{lineEnd, nextLine, wordAt, wordCount}
 use Rattle.text.proofs.Laws.{either, text-good, line-last}
 use Rattle.text.proofs.TextLaws.{All, all-append, in-allowed}
 use Rattle.text.proofs.PieceLaws.{lines-none, lines-step, pieces-join, Worded, worded-none, worded-more, joined-in-line, line-joined}
@@ -108,3 +110,23 @@ module _ (sep : ℕ) (blank : isIn Blank sep ≡ true) where
   pub fed-line : (ws : List (List ℕ)) → Worded ws → linesOf (joined sep ws ++ (10 ∷ [])) ≡ lineOf (joined sep ws ++ (10 ∷ [])) ∷ []
   unfolding linesOf
   fed-line ws k = rw (line-joined sep ws [] blank k) (pieces-join Line (joined sep ws) 10 [] (joined-in-line sep ws blank k) refl ∙ ap (λ (x : List (List ℕ)). joined sep ws ∷ x) lines-none)
+
+-- the number of words
+module _ (s : List ℕ) (line n most : ℕ) (good : Bool) where
+  pub words-many : (w : Extent) → most < n → w ≡ wordAt s line most → check.Refused (record { reason = WrongCount; place = w .start }) ≡ wordsCheck s line n most good
+  unfolding wordsCheck
+  words-many w h e = rw (lt-leb n most h, e)
+
+  pub words-good : n ≤ most → good ≡ true → Holds ≡ wordsCheck s line n most good
+  unfolding wordsCheck
+  words-good h g = rw (le-leb n most h, g)
+
+  pub words-bad : (e : ℕ) → n ≤ most → good ≡ false → e ≡ lineEnd s line → check.Refused (record { reason = WrongCount; place = e }) ≡ wordsCheck s line n most good
+  unfolding wordsCheck
+  words-bad e h g q = rw (le-leb n most h, g, q)
+
+  pub words-hold : wordsCheck s line n most good ≡ Holds → (n ≤ most) × (good ≡ true)
+  unfolding wordsCheck
+  words-hold e =
+      let a = require-holds (leb n most) _ _ e in
+      (leb-true n most (a .0), require-holds good _ _ (a .1) .0)

@@ -11,7 +11,7 @@ use Rattle.text.specs.declared.Class.the-variants.{Allowed}
 use Rattle.text.specs.declared.Check.{Check}
 use Rattle.text.specs.declared.Check.the-variants.{Holds, Refused}
 use Rattle.text.specs.Scan.{endOf}
-use Rattle.text.specs.Words.{nextLine, nextWord}
+use Rattle.text.specs.Words.{lineEnd, nextLine, nextWord, wordAt}
 
 abbrev pub pickCheck : Bool → Check → Check → Check
 pickCheck true a b = a
@@ -28,3 +28,9 @@ textCheck s = require (leb (length s) textLimit) TextTooLong 0 (require (leb (le
 -- a text of one line: the first line after the line that begins at a place is surplus, at its first word, or at its end if it is blank (2)
 unfoldable pub lastLineCheck : List ℕ → ℕ → Check
 lastLineCheck s line = require (leb (length s) (nextLine s line)) WrongCount (nextWord s (nextLine s line) .start) Holds
+
+-- the n words of the line that begins at a place: over the most at the first surplus word, any other number that is not good at the line's end (2)
+unfoldable pub wordsCheck : List ℕ → ℕ → ℕ → ℕ → Bool → Check
+wordsCheck s line n most good =
+    require (leb n most) WrongCount (wordAt s line most .start)
+    (require good WrongCount (lineEnd s line) Holds)

@@ -4,7 +4,7 @@ ghost use Prim.Native.Nat.{min};
 ghost use Rattle.text.specs.Scan.{isIn, Scanned};
 ghost use Rattle.text.specs.Words.{nextLine, nextWord, wordAt, wordCount, LineEnd, Found};
 ghost use Rattle.text.specs.Parts.{partIn, partBytes, PartIn};
-ghost use Rattle.text.specs.Checks.{textCheck, lastLineCheck};
+ghost use Rattle.text.specs.Checks.{require, textCheck, lastLineCheck, wordsCheck};
 use ledger::Part;
 use ledger::Reason;
 use ledger::Refusal;
@@ -74,6 +74,16 @@ pub fn check_text(text: &[u8]) -> Check
     Check::Holds
 }
 
+// A check: where the test holds, the rest; else a refusal with its reason and place.
+pub fn require(test: bool, reason: Reason, place: usize, rest: Check) -> Check
+    ensures { λ r. ⌜ r ≡ require test reason place rest ⌝ }
+{
+    if test {
+        return rest;
+    }
+    Check::Refused(Refusal { reason, place })
+}
+
 // The end of the line that begins at a place: its line feed, or the text's length.
 pub fn line_end(text: &[u8], line: usize) -> usize
     ensures { λ r. ⌜ LineEnd (now (text .entry)) line r ⌝ }
@@ -132,6 +142,27 @@ pub fn count_words(text: &[u8], line: usize) -> usize
         n += 1;
     }
     n
+}
+
+// The number of words n of the line that begins at a place (2): at most so many, and a good one.
+pub fn check_words(text: &[u8], line: usize, n: usize, most: usize, good: bool) -> Check
+    ensures { λ r. ⌜ r ≡ wordsCheck (now (text .entry)) line n most good ⌝ }
+{
+    if most < n {
+        let w = word_at(text, line, most);
+        return Check::Refused(Refusal {
+            reason: Reason::WrongCount,
+            place: w.start,
+        });
+    }
+    if good {
+        return Check::Holds;
+    }
+    let e = line_end(text, line);
+    Check::Refused(Refusal {
+        reason: Reason::WrongCount,
+        place: e,
+    })
 }
 
 // Whether the line that begins at a place is the text's last: else the line after it is surplus (2).

@@ -1,0 +1,15 @@
+-- The test decides. Assumes nothing.
+use borrow.Author.Needs.{needs}
+use Rattle.text.proofs.require.Statement.{statement}
+use Rattle.text.proofs.require.Tie as tie
+use Rattle.text.proofs.require.Reads as reads
+use Rattle.text.proofs.require.Lts as lts
+
+returns : tie.Need-returns
+returns c = rw (c .if1 .taken)
+
+returns-2 : tie.Need-returns-2
+returns-2 c = rw (c .if1 .left)
+
+pub require-spec : {M : Type 1} → statement M
+require-spec = tie.close (tie.spec returns returns-2)
