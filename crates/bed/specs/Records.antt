@@ -8,11 +8,13 @@ use lib.Dec.{leb, ltb, eqb}
 use Rattle.ledger.specs.declared.Part.{Part}
 use Rattle.ledger.specs.declared.Strand.{Strand}
 use Rattle.ledger.specs.declared.Strand.the-variants.{Dot}
+use Rattle.ledger.specs.declared.Row.{Row}
 use Rattle.ledger.specs.Strands.{strandOf, strandIs, strandLetter}
 use Rattle.ledger.specs.Parts.{partAt}
 use Rattle.text.specs.Words.{wordAt, bytesOf}
 use Rattle.numbers.specs.Lists.{valuesOf}
 use Rattle.blocks.specs.Blocks.{shifted, sumsFrom}
+use Rattle.blocks.specs.Rows.{tableOf}
 use Rattle.bed.specs.declared.Bed.{Bed}
 
 -- a BED line has 3 to 9 words, or 12
@@ -64,3 +66,7 @@ bedTargets s r = shifted (r .chromStart) (bedStarts s r)
 
 unfoldable pub bedQueries : List ℕ → Bed → List ℕ
 bedQueries s r = sumsFrom 0 (bedSizes s r)
+
+-- the same as a table
+abbrev pub bedRows : List ℕ → Bed → List Row
+bedRows s r = tableOf (bedTargets s r) (bedQueries s r) (bedSizes s r)

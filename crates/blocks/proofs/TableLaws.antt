@@ -84,3 +84,12 @@ pub take-map : (g : Row → ℕ) (n : ℕ) (rows : List Row) → take n (map g r
 take-map g zero rows = refl
 take-map g (suc n) [] = refl
 take-map g (suc n) (b ∷ rows) = ap (λ (l : List ℕ). g b ∷ l) (take-map g n rows)
+
+-- the first rows of three flat lists are the table of their fronts
+pub table-take : (n : ℕ) (ts qs zs : List ℕ) → take n (tableOf ts qs zs) ≡ tableOf (take n ts) (take n qs) (take n zs)
+unfolding tableOf
+table-take zero ts qs zs = refl
+table-take (suc n) [] qs zs = refl
+table-take (suc n) (t ∷ ts) [] zs = refl
+table-take (suc n) (t ∷ ts) (q ∷ qs) [] = refl
+table-take (suc n) (t ∷ ts) (q ∷ qs) (z ∷ zs) = ap (λ (l : List Row). rowAs t q z ∷ l) (table-take n ts qs zs)

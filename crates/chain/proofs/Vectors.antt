@@ -5,6 +5,7 @@ use Prim.Native.Nat.{ℕ, _≤_}
 use native.Mathlib.Omega.{arith}
 use lib.ListN.{length}
 use Rattle.ledger.specs.declared.Strand.the-variants.{Minus}
+use Rattle.ledger.specs.declared.Row.{Row}
 use Rattle.ledger.specs.Limits.{textLimit}
 use Rattle.text.specs.declared.Check.the-variants.{Holds}
 use Rattle.text.specs.Scan.{run, endOf}
@@ -12,6 +13,7 @@ use Rattle.text.specs.Parts.{partBytes}
 use Rattle.text.specs.Pieces.{joined}
 use Rattle.writing.specs.Digits.{digitsIn, digits}
 use Rattle.blocks.specs.Blocks.{orderFrom, blocksFill, allBetween, rowNumbersFit}
+use Rattle.blocks.specs.Rows.{rowAs, targetsOf, queriesOf, sizesOf}
 use Rattle.chain.specs.declared.Chain.{Chain}
 use Rattle.chain.specs.declared.ChainAnswer.the-variants.{Accepted}
 use Rattle.chain.specs.Records.{chainTargets, chainQueries, chainSizes}
@@ -22,14 +24,15 @@ use Rattle.chain.specs.Write.{namesShow, writeCheck, headWords, gapWords
 use Rattle.chain.proofs.BackLaws.{back-read, back-target-name, back-targets, back-queries, back-sizes}
 use Rattle.ledger.specs.Parts.{partAt}
 
-abbrev chainA : Chain
+-- its record, as it is read, and its rows; worked examples elsewhere cite these
+abbrev pub chainA : Chain
 chainA = record {
   score = 100;
-  tName = partAt 0 2;
+  tName = partAt 10 2;
   tSize = 100;
   tStart = 10;
   tEnd = 40;
-  qName = partAt 2 2;
+  qName = partAt 25 2;
   qSize = 80;
   qStrand = Minus;
   qStart = 5;
@@ -45,14 +48,17 @@ tA = 116 ∷ 65 ∷ []
 abbrev qB : List ℕ
 qB = 113 ∷ 66 ∷ []
 
+abbrev pub rowsA : List Row
+rowsA = rowAs 10 5 10 ∷ rowAs 23 15 8 ∷ rowAs 31 24 9 ∷ []
+
 abbrev targets : List ℕ
-targets = 10 ∷ 23 ∷ 31 ∷ []
+targets = targetsOf rowsA
 
 abbrev queries : List ℕ
-queries = 5 ∷ 15 ∷ 24 ∷ []
+queries = queriesOf rowsA
 
 abbrev sizes : List ℕ
-sizes = 10 ∷ 8 ∷ 9 ∷ []
+sizes = sizesOf rowsA
 
 -- chain 100 tA 100 + 10 40 qB 80 - 5 33 7, then 10 3 0, 8 0 1 and 9, each with a line feed
 abbrev sample : List ℕ

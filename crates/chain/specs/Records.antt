@@ -9,12 +9,14 @@ use Rattle.ledger.specs.declared.Strand.{Strand}
 use Rattle.ledger.specs.declared.Strand.the-variants.{Dot}
 use Rattle.ledger.specs.declared.Lettered.{Lettered}
 use Rattle.ledger.specs.declared.Lettered.the-variants.{Is, NoStrand}
+use Rattle.ledger.specs.declared.Row.{Row}
 use Rattle.ledger.specs.Strands.{strandOf, strandIs}
 use Rattle.text.specs.Words.{nextLine, wordCount}
 use Rattle.columns.specs.Columns.{valuesFrom}
 use Rattle.chain.specs.declared.Chain.{Chain}
 use Rattle.chain.specs.Table.{blockColumns}
 use Rattle.ledger.specs.Parts.{partAt}
+use Rattle.blocks.specs.Rows.{tableOf}
 
 -- the record of a header whose columns hold vs, two numbers a column, its value and where its word starts, with n blocks
 unfoldable pub chainRecord : List ℕ → ℕ → Chain
@@ -73,3 +75,7 @@ chainQueries s r = queriesFrom (r .blockCount) s (nextLine s 0) (r .qStart)
 
 unfoldable pub chainSizes : List ℕ → Chain → List ℕ
 chainSizes s r = sizesFrom (r .blockCount) s (nextLine s 0)
+
+-- the same as a table
+abbrev pub chainRows : List ℕ → Chain → List Row
+chainRows s r = tableOf (chainTargets s r) (chainQueries s r) (chainSizes s r)

@@ -29,7 +29,7 @@ use Rattle.blocks.specs.Rows.{tableOf, targetsOf, queriesOf, sizesOf}
 use Rattle.bed.specs.declared.Bed.{Bed}
 use Rattle.bed.specs.declared.BedAnswer.{BedAnswer}
 use Rattle.bed.specs.declared.BedAnswer.the-variants.{Accepted, Refused}
-use Rattle.bed.specs.Records.{bedTargets, bedQueries, bedSizes}
+use Rattle.bed.specs.Records.{bedTargets, bedQueries, bedSizes, bedRows}
 use Rattle.bed.specs.Read.{bedCheck, bedRead, roomCheck, thenCheck, thenRoom}
 use Rattle.bed.specs.Table.{bedColumns}
 use Rattle.bed.specs.Rules.{BedLine, BedRules, placed}
@@ -41,7 +41,6 @@ use Rattle.bed.proofs.RuleLaws.{rules-of, rules-is}
 use Rattle.bed.proofs.BackLaws.{back-chrom, back-name, back-targets, back-queries, back-sizes, back-read}
 use Rattle.demands.specs.Formats.{Names, Format}
 use Rattle.demands.specs.Demand2.{ReadsBack, Demand2}
-use Rattle.table_bed.specs.Rows.{bedRows}
 use Rattle.demands.specs.Bed.{BedSpells, bedNames, named, BedValid, SameBed, bed}
 use Rattle.demands.proofs.NameLaws.{word-shows}
 use Rattle.demands.proofs.RowLaws.{Flat, flat, rows-taken}

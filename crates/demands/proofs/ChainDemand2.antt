@@ -29,7 +29,7 @@ use Rattle.blocks.specs.Rows.{tableOf, targetsOf, queriesOf, sizesOf}
 use Rattle.chain.specs.declared.Chain.{Chain}
 use Rattle.chain.specs.declared.ChainAnswer.{ChainAnswer}
 use Rattle.chain.specs.declared.ChainAnswer.the-variants.{Accepted, Refused}
-use Rattle.chain.specs.Records.{chainTargets, chainQueries, chainSizes}
+use Rattle.chain.specs.Records.{chainTargets, chainQueries, chainSizes, chainRows}
 use Rattle.chain.specs.Read.{chainCheck, chainRead, roomCheck, thenCheck, thenRoom}
 use Rattle.chain.specs.Table.{chainColumns}
 use Rattle.chain.specs.Rules.{ChainText, ChainRules, placed}
@@ -41,7 +41,6 @@ use Rattle.chain.proofs.RuleLaws.{rules-of, rules-is}
 use Rattle.chain.proofs.BackLaws.{back-target-name, back-query-name, back-targets, back-queries, back-sizes, back-read}
 use Rattle.demands.specs.Formats.{Names, Format}
 use Rattle.demands.specs.Demand2.{ReadsBack, Demand2}
-use Rattle.table_chain.specs.Rows.{chainRows}
 use Rattle.demands.specs.Chain.{ChainSpells, chainNames, named, ChainValid, SameChain, chain}
 use Rattle.demands.proofs.NameLaws.{word-shows}
 use Rattle.demands.proofs.RowLaws.{Flat, flat, rows-taken}

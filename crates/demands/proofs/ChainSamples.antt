@@ -1,11 +1,7 @@
 -- The samples marked P, on chain A, from its bytes. Assumes nothing.
 use mathlib.Core.Path.{_≡_, refl}
-use mathlib.Core.List.{List, [], _∷_}
 use Prim.Native.Nat.{ℕ}
 use lib.IntN.{pos}
-use Rattle.ledger.specs.declared.Strand.the-variants.{Minus}
-use Rattle.ledger.specs.declared.Row.{Row}
-use Rattle.ledger.specs.Parts.{partAt}
 use Rattle.ledger.specs.Limits.{blockLimit}
 use Rattle.text.specs.Scan.{run, endOf}
 use Rattle.text.specs.Pieces.{piecesOf, linesOf, nonEmpty, wordsOf, lineOf}
@@ -18,42 +14,21 @@ use Rattle.columns.specs.Columns.{fieldFrom, columnsFrom, valuesFrom}
 use Rattle.blocks.specs.Blocks.{orderFrom, blocksFill, allBetween, rowNumbersFit}
 use Rattle.blocks.specs.Rows.{tableOf}
 use Rattle.chain.specs.Table.{chainColumns, blockColumns}
-use Rattle.chain.specs.Records.{chainRecord, lineValues, sizeAt, targetGap, queryGap, targetsFrom, queriesFrom, sizesFrom, chainTargets, chainQueries, chainSizes}
+use Rattle.chain.specs.Records.{chainRecord, lineValues, sizeAt, targetGap, queryGap, targetsFrom, queriesFrom, sizesFrom, chainTargets, chainQueries, chainSizes, chainRows}
 use Rattle.chain.specs.Read.{headCheck, spanCheck, blockWords, blockNumbers, blockLine, linesFrom, fillCheck, roomCheck, afterLast, afterLines, afterSpans, afterColumns, afterWords, afterText, chainCheck, chainRead}
+use Rattle.chain.proofs.Vectors.{chainA as recordA, rowsA}
 use Rattle.chain.specs.Tests.{namesFit, fieldsFit, spansFit, rowsFit, chainValid}
 use Rattle.chain.specs.Write.{headWords, gapWords, blockText, chainText}
 use Rattle.text.specs.Pieces.{joined}
 use Rattle.writing.specs.Digits.{digitsIn, digits}
-use Rattle.blocks.specs.Rows.{rowAs}
-use Rattle.chain.specs.declared.Chain.{Chain}
 use Rattle.chain.specs.declared.ChainAnswer.the-variants as chain
 use Rattle.lift.specs.Accepted.{accepted}
 use Rattle.lift.specs.Pairs.{blockPairs, pairsOf, pairs, partnerOf}
 use Rattle.lift.specs.Positions.{liftPosition}
 use Rattle.region.specs.Regions.{countOf, kept, dropped, partnersIn, least, bound, inside, carried, liftRegion}
 use Rattle.turn.specs.Turns.{turnedRows, turned, turn}
-use Rattle.table_chain.specs.Rows.{chainRows}
 use Rattle.demands.specs.Samples.{Asked, position-of, region-of, turned-text, read-chain, Outcome, lifted, lifted-region, bytes, refused, answerTo, ofChain, chainA, chainTurned, chainLong}
 use Rattle.demands.specs.Samples as samples
-
-abbrev recordA : Chain
-recordA = record {
-  score = 100;
-  tName = partAt 10 2;
-  tSize = 100;
-  tStart = 10;
-  tEnd = 40;
-  qName = partAt 25 2;
-  qSize = 80;
-  qStrand = Minus;
-  qStart = 5;
-  qEnd = 33;
-  id = 7;
-  blockCount = 3;
-}
-
-abbrev rowsA : List Row
-rowsA = rowAs 10 5 10 ∷ rowAs 23 15 8 ∷ rowAs 31 24 9 ∷ []
 
 -- what the reader makes of chain A
 read-a : chainRead chainA blockLimit ≡ chain.Accepted recordA

@@ -32,7 +32,7 @@ use Rattle.blocks.specs.Rows.{tableOf, targetsOf, queriesOf, sizesOf}
 use Rattle.psl.specs.declared.Psl.{Psl}
 use Rattle.psl.specs.declared.PslAnswer.{PslAnswer}
 use Rattle.psl.specs.declared.PslAnswer.the-variants.{Accepted, Refused}
-use Rattle.psl.specs.Records.{pslTargets, pslQueries, pslSizes}
+use Rattle.psl.specs.Records.{pslTargets, pslQueries, pslSizes, pslRows}
 use Rattle.psl.specs.Read.{pslCheck, pslRead, roomCheck, thenCheck, thenRoom}
 use Rattle.psl.specs.Table.{pslColumns}
 use Rattle.psl.specs.Rules.{PslLine, PslRules, placed}
@@ -46,7 +46,6 @@ use Rattle.psl.proofs.RuleLaws.{rules-of, rules-is}
 use Rattle.psl.proofs.BackLaws.{back-query, back-target, back-targets, back-queries, back-sizes, back-read}
 use Rattle.demands.specs.Formats.{Names, Format}
 use Rattle.demands.specs.Demand2.{ReadsBack, Demand2}
-use Rattle.table_psl.specs.Rows.{pslRows}
 use Rattle.demands.specs.Psl.{PslSpells, pslNames, renamed, named, PslValid, SamePsl, psl}
 use Rattle.demands.proofs.NameLaws.{word-shows}
 use Rattle.demands.proofs.RowLaws.{Flat, flat, rows-taken}

@@ -15,7 +15,7 @@ use Rattle.bed.specs.declared.BedAnswer.the-variants.{Accepted}
 use Rattle.bed.specs.Read.{bedRead}
 use Rattle.bed.specs.Rules.{BedLine, BedRules}
 use Rattle.bed.specs.Write.{bedText, bedWrite}
-use Rattle.table_bed.specs.Rows.{bedRows}
+use Rattle.bed.specs.Records.{bedRows}
 use Rattle.demands.specs.Formats.{Names, Format}
 
 -- the text is a BED line (bed, specs/Rules.antt), its words spell some values, and record and rows are what they say

@@ -15,7 +15,7 @@ use Rattle.chain.specs.declared.ChainAnswer.the-variants.{Accepted}
 use Rattle.chain.specs.Read.{chainRead}
 use Rattle.chain.specs.Rules.{ChainText, ChainRules}
 use Rattle.chain.specs.Write.{chainText, chainWrite}
-use Rattle.table_chain.specs.Rows.{chainRows}
+use Rattle.chain.specs.Records.{chainRows}
 use Rattle.demands.specs.Formats.{Names, Format}
 
 -- the text is a chain (chain, specs/Rules.antt): the words of its header spell some values, its block lines say three lists, and record and rows are what they say

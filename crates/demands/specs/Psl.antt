@@ -17,7 +17,7 @@ use Rattle.psl.specs.declared.PslAnswer.the-variants.{Accepted}
 use Rattle.psl.specs.Read.{pslRead}
 use Rattle.psl.specs.Rules.{PslLine, PslRules}
 use Rattle.psl.specs.Write.{pslText, pslWrite}
-use Rattle.table_psl.specs.Rows.{pslRows}
+use Rattle.psl.specs.Records.{pslRows}
 use Rattle.demands.specs.Formats.{Names, Format}
 
 -- the text is a PSL line (psl, specs/Rules.antt), its words spell some values, and record and rows are what they say

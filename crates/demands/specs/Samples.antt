@@ -29,7 +29,7 @@ use Rattle.region.specs.Regions.{liftRegion}
 use Rattle.turn.specs.declared.TurnAnswer.{TurnAnswer}
 use Rattle.turn.specs.declared.TurnAnswer.the-variants as turn
 use Rattle.turn.specs.Turns.{turnedRows, turn}
-use Rattle.table_chain.specs.Rows.{chainRows}
+use Rattle.chain.specs.Records.{chainRows}
 
 -- what a sample says: nothing refused and these numbers, these bytes, or a refusal's number and place
 pub data Outcome : Type 0 where

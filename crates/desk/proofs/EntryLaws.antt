@@ -7,6 +7,7 @@ use lib.ListN.{length, take}
 use Rattle.ledger.specs.declared.Refusal.{Refusal}
 use Rattle.ledger.specs.declared.Row.{Row}
 use Rattle.blocks.specs.Rows.{tableOf}
+use Rattle.blocks.proofs.TableLaws.{table-take}
 use Rattle.bed.specs.declared.Bed.{Bed}
 use Rattle.bed.specs.declared.BedAnswer.{BedAnswer}
 use Rattle.bed.specs.declared.BedAnswer.the-variants as bed
@@ -18,29 +19,24 @@ use Rattle.psl.specs.Read.{pslCheck}
 use Rattle.chain.specs.declared.Chain.{Chain}
 use Rattle.chain.specs.declared.ChainAnswer.{ChainAnswer}
 use Rattle.chain.specs.declared.ChainAnswer.the-variants as chain
+use Rattle.chain.specs.Records.{chainRows}
 use Rattle.chain.specs.Read.{chainCheck}
 use Rattle.lift.specs.declared.Span.{Span}
 use Rattle.lift.specs.declared.SpanAnswer.{SpanAnswer}
 use Rattle.lift.specs.declared.SpanAnswer.the-variants as span
 use Rattle.lift.specs.Accepted.{Wide}
 use Rattle.lift.specs.Conversion.{converted}
-use Rattle.desk.specs.Answers.{told, refusalCode, Outcome, Answered, numbered}
-use Rattle.desk.specs.Records.{bedNumbers, pslNumbers, chainNumbers, bedRows, pslRows, chainRows, Held, Answerable, BedStaged, PslStaged, ChainStaged}
-use Rattle.desk.specs.Entries.{ofBed, ofPsl, ofChain, checkedBed, checkedPsl, checkedChain, recorded, parsedBed, parsedPsl, parsedChain, convertedNumbers, bedWritten, pslWritten, chainWritten, formattedBed, formattedPsl, formattedChain}
-use Rattle.desk.proofs.AnswerLaws.{refused-is}
+use Rattle.answers.specs.Answers.{told, refusalCode, Outcome, Answered, numbered, recorded}
+use Rattle.desk.specs.Records.{bedNumbers, pslNumbers, chainNumbers, Held, BedStaged, PslStaged, ChainStaged}
+use Rattle.desk.specs.Entries.{ofBed, ofPsl, ofChain, checkedBed, checkedPsl, checkedChain, parsedBed, parsedPsl, parsedChain, convertedNumbers, bedWritten, pslWritten, chainWritten, formattedBed, formattedPsl, formattedChain}
+use Rattle.answers.proofs.AnswerLaws.{refused-is}
 
 -- the rows of the room are those of the text
 held-rows : (n : ℕ) (ts qs zs ts′ qs′ zs′ : List ℕ) → Held n ts qs zs ts′ qs′ zs′ → tableOf (take n ts′) (take n qs′) (take n zs′) ≡ tableOf ts qs zs
 held-rows n ts qs zs ts′ qs′ zs′ h = rw (h .targets, h .queries, h .sizes)
 
-answerable : (n : ℕ) (fields ts qs zs ts′ qs′ zs′ : List ℕ) → length fields ≤ 20 → Held n ts qs zs ts′ qs′ zs′ → Answerable n fields ts′ qs′ zs′
-answerable n fields ts qs zs ts′ qs′ zs′ l h = record {
-  few = l;
-  blocks = h .few;
-  targets = omega (arith, h .few, h .stage .targets);
-  queries = omega (arith, h .few, h .stage .queries);
-  sizes = omega (arith, h .few, h .stage .sizes);
-}
+first-rows : (n : ℕ) (ts qs zs ts′ qs′ zs′ : List ℕ) → Held n ts qs zs ts′ qs′ zs′ → take n (tableOf ts′ qs′ zs′) ≡ tableOf ts qs zs
+first-rows n ts qs zs ts′ qs′ zs′ h = table-take n ts′ qs′ zs′ ∙ held-rows n ts qs zs ts′ qs′ zs′ h
 
 pub wide : (n : ℕ) (ts qs zs ts′ qs′ zs′ : List ℕ) → Held n ts qs zs ts′ qs′ zs′ → Wide n ts′ qs′ zs′
 wide n ts qs zs ts′ qs′ zs′ h = record {
@@ -72,14 +68,10 @@ module _ (s ts qs zs b : List ℕ) (x : BedAnswer) (f : BedStaged s ts qs zs x) 
   format-bed-accepted a b′ r e g = rw (sym (f .is) ∙ e, ← f .held a e .targets, ← f .held a e .queries, ← f .held a e .sizes) g
 
   module _ (a : Bed) (e : x ≡ bed.Accepted a) (fields : List ℕ) (k : fields ≡ bedNumbers a) where
-    pub parse-bed-ready : Answerable (a .blockCount) fields ts qs zs
-    unfolding bedNumbers
-    parse-bed-ready = answerable (a .blockCount) fields _ _ _ ts qs zs (rw k (omega arith)) (f .held a e)
-
-    pub parse-bed-accepted : (b′ : List ℕ) (r : ℕ) → Answered (recorded (length s) (length b) fields (tableOf (take (a .blockCount) ts) (take (a .blockCount) qs) (take (a .blockCount) zs))) b b′ r
+    pub parse-bed-accepted : (b′ : List ℕ) (r : ℕ) → Answered (recorded (length s) (length b) fields (take (a .blockCount) (tableOf ts qs zs))) b b′ r
         → Answered (parsedBed s (length b)) b b′ r
-    unfolding parsedBed bedRows
-    parse-bed-accepted b′ r g = rw (sym (f .is) ∙ e, ← k, ← held-rows _ _ _ _ ts qs zs (f .held a e)) g
+    unfolding parsedBed
+    parse-bed-accepted b′ r g = rw (sym (f .is) ∙ e, ← k, ← first-rows _ _ _ _ ts qs zs (f .held a e)) g
 
 -- PSL, the same
 module _ (s : List ℕ) (x : PslAnswer) (r : ℕ) where
@@ -104,14 +96,10 @@ module _ (s ts qs zs b : List ℕ) (x : PslAnswer) (f : PslStaged s ts qs zs x) 
   format-psl-accepted a b′ r e g = rw (sym (f .is) ∙ e, ← f .held a e .targets, ← f .held a e .queries, ← f .held a e .sizes) g
 
   module _ (a : Psl) (e : x ≡ psl.Accepted a) (fields : List ℕ) (k : fields ≡ pslNumbers a) where
-    pub parse-psl-ready : Answerable (a .blockCount) fields ts qs zs
-    unfolding pslNumbers
-    parse-psl-ready = answerable (a .blockCount) fields _ _ _ ts qs zs (rw k (omega arith)) (f .held a e)
-
-    pub parse-psl-accepted : (b′ : List ℕ) (r : ℕ) → Answered (recorded (length s) (length b) fields (tableOf (take (a .blockCount) ts) (take (a .blockCount) qs) (take (a .blockCount) zs))) b b′ r
+    pub parse-psl-accepted : (b′ : List ℕ) (r : ℕ) → Answered (recorded (length s) (length b) fields (take (a .blockCount) (tableOf ts qs zs))) b b′ r
         → Answered (parsedPsl s (length b)) b b′ r
-    unfolding parsedPsl pslRows
-    parse-psl-accepted b′ r g = rw (sym (f .is) ∙ e, ← k, ← held-rows _ _ _ _ ts qs zs (f .held a e)) g
+    unfolding parsedPsl
+    parse-psl-accepted b′ r g = rw (sym (f .is) ∙ e, ← k, ← first-rows _ _ _ _ ts qs zs (f .held a e)) g
 
 -- and chains
 module _ (s : List ℕ) (x : ChainAnswer) (r : ℕ) where
@@ -136,19 +124,14 @@ module _ (s ts qs zs b : List ℕ) (x : ChainAnswer) (f : ChainStaged s ts qs zs
   format-chain-accepted a b′ r e g = rw (sym (f .is) ∙ e, ← f .held a e .targets, ← f .held a e .queries, ← f .held a e .sizes) g
 
   module _ (a : Chain) (e : x ≡ chain.Accepted a) (fields : List ℕ) (k : fields ≡ chainNumbers a) where
-    pub parse-chain-ready : Answerable (a .blockCount) fields ts qs zs
-    unfolding chainNumbers
-    parse-chain-ready = answerable (a .blockCount) fields _ _ _ ts qs zs (rw k (omega arith)) (f .held a e)
-
-    pub parse-chain-accepted : (b′ : List ℕ) (r : ℕ) → Answered (recorded (length s) (length b) fields (tableOf (take (a .blockCount) ts) (take (a .blockCount) qs) (take (a .blockCount) zs))) b b′ r
+    pub parse-chain-accepted : (b′ : List ℕ) (r : ℕ) → Answered (recorded (length s) (length b) fields (take (a .blockCount) (tableOf ts qs zs))) b b′ r
         → Answered (parsedChain s (length b)) b b′ r
-    unfolding parsedChain chainRows
-    parse-chain-accepted b′ r g = rw (sym (f .is) ∙ e, ← k, ← held-rows _ _ _ _ ts qs zs (f .held a e)) g
+    unfolding parsedChain
+    parse-chain-accepted b′ r g = rw (sym (f .is) ∙ e, ← k, ← first-rows _ _ _ _ ts qs zs (f .held a e)) g
 
   -- what follows a chain's text with its rows
   pub chain-accepted : (of : Chain → List Row → Outcome) (a : Chain) (b′ : List ℕ) (r : ℕ) → x ≡ chain.Accepted a
       → Answered (of a (tableOf (take (a .blockCount) ts) (take (a .blockCount) qs) (take (a .blockCount) zs))) b b′ r → Answered (ofChain (chainCheck s) (λ c. of c (chainRows s c))) b b′ r
-  unfolding chainRows
   chain-accepted of a b′ r e g = rw (sym (f .is) ∙ e, ← held-rows _ _ _ _ ts qs zs (f .held a e)) g
 
 -- conversion

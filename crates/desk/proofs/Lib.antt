@@ -1,4 +1,4 @@
-pub mod AnswerLaws
+pub mod KindLaws
 pub mod StageLaws
 pub mod EntryLaws
 pub mod WriteLaws

@@ -27,10 +27,10 @@ use Rattle.region.specs.declared.Region.{Region}
 use Rattle.region.specs.declared.RegionAnswer.{RegionAnswer}
 use Rattle.region.specs.declared.RegionAnswer.the-variants as region
 use Rattle.region.specs.Regions.{liftRegion}
-use Rattle.desk.specs.Answers.{refusalCode, Answered, numbered}
+use Rattle.answers.specs.Answers.{refusalCode, Answered, numbered}
 use Rattle.desk.specs.Records.{ChainStaged}
 use Rattle.desk.specs.Entries.{inWord, ofPosition, positionLifted, ofRegion, regionLifted}
-use Rattle.desk.proofs.AnswerLaws.{refused-is}
+use Rattle.answers.proofs.AnswerLaws.{refused-is}
 use Rattle.desk.proofs.EntryLaws.{chain-accepted}
 
 -- partner minus position in a word

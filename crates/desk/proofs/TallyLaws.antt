@@ -27,10 +27,10 @@ use Rattle.region.specs.Tallies.{goodTally, ifTallied, tallyStep}
 use Rattle.writing.specs.Puts.{Put}
 use Rattle.binary.specs.Bytes.{wordSize, lowAt}
 use Rattle.binary.proofs.BackLaws.{words-length}
-use Rattle.desk.specs.Answers.{told, refusalCode, Answered}
+use Rattle.answers.specs.Answers.{told, refusalCode, Answered}
 use Rattle.desk.specs.Records.{ChainStaged}
 use Rattle.desk.specs.Entries.{badTally, tallyIn, tallyBytes, ofTallied, tallyOutcome, TallyRoom, tallied}
-use Rattle.desk.proofs.AnswerLaws.{refused-is, put-front}
+use Rattle.answers.proofs.AnswerLaws.{refused-is, put-front}
 use Rattle.desk.proofs.EntryLaws.{chain-accepted}
 
 -- reading it

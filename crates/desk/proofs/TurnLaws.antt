@@ -18,10 +18,10 @@ use Rattle.turn.specs.declared.TurnAnswer.the-variants as turn
 use Rattle.turn.specs.Turns as turns
 use Rattle.turn.proofs.RowLaws.{turned-length}
 use Rattle.turn.proofs.TurnLaws.{Turnable, turnable}
-use Rattle.desk.specs.Answers.{refusalCode, Answered}
+use Rattle.answers.specs.Answers.{refusalCode, Answered}
 use Rattle.desk.specs.Records.{Staging, Held, ChainStaged, TurnStaged}
 use Rattle.desk.specs.Entries.{chainWritten, turnWritten, turnedText}
-use Rattle.desk.proofs.AnswerLaws.{refused-is}
+use Rattle.answers.proofs.AnswerLaws.{refused-is}
 use Rattle.desk.proofs.StageLaws.{room-is, held-front}
 use Rattle.desk.proofs.EntryLaws.{wide, chain-accepted}
 

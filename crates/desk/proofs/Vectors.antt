@@ -5,7 +5,7 @@ use Prim.Native.Nat.{_+_, _*_}
 use Rattle.ledger.specs.declared.Reason.the-variants.{BlockRules, NoRoom, SpanDisagrees}
 use Rattle.lift.specs.Conversion.{converted}
 use Rattle.binary.specs.Bytes.{lowBytes, wordsBytes}
-use Rattle.desk.specs.Answers.{told, gives, refusesBy, roomed, numbered}
+use Rattle.answers.specs.Answers.{told, gives, refusesBy, roomed, numbered}
 use Rattle.desk.specs.Entries.{convertedNumbers}
 
 -- three blocks; 9 at byte 55

@@ -22,7 +22,7 @@ use Rattle.psl.specs.declared.Psl.{Psl}
 use Rattle.psl.specs.Write as psl-write
 use Rattle.chain.specs.declared.Chain.{Chain}
 use Rattle.chain.specs.Write as chain-write
-use Rattle.desk.specs.Answers.{told, refusalCode, Answered}
+use Rattle.answers.specs.Answers.{told, refusalCode, Answered}
 use Rattle.desk.specs.Entries.{atEnd, written, nameBytes, bedWritten, pslWritten, chainWritten}
 
 -- the place of a writer's refusal

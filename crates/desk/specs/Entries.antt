@@ -7,7 +7,7 @@ use lib.Dec.{leb, eqb}
 use lib.ListN.{length}
 use lib.IntN.{ℤ, pos, negsuc}
 use Rattle.ledger.specs.declared.Part.{Part}
-use Rattle.ledger.specs.declared.Reason.the-variants.{NoRoom, NoPair}
+use Rattle.ledger.specs.declared.Reason.the-variants.{BadWord, NoRoom, NoPair}
 use Rattle.ledger.specs.declared.Refusal.{Refusal}
 use Rattle.ledger.specs.declared.Row.{Row}
 use Rattle.ledger.specs.Limits.{blockLimit, largestNumber}
@@ -19,19 +19,19 @@ use Rattle.writing.specs.declared.Writing.the-variants as writing
 use Rattle.bed.specs.declared.Bed.{Bed}
 use Rattle.bed.specs.declared.BedAnswer.{BedAnswer}
 use Rattle.bed.specs.declared.BedAnswer.the-variants as bed
-use Rattle.bed.specs.Records.{bedTargets, bedQueries, bedSizes}
+use Rattle.bed.specs.Records.{bedTargets, bedQueries, bedSizes, bedRows}
 use Rattle.bed.specs.Read.{bedCheck}
 use Rattle.bed.specs.Write.{bedWrite, bedText}
 use Rattle.psl.specs.declared.Psl.{Psl}
 use Rattle.psl.specs.declared.PslAnswer.{PslAnswer}
 use Rattle.psl.specs.declared.PslAnswer.the-variants as psl
-use Rattle.psl.specs.Records.{pslTargets, pslQueries, pslSizes}
+use Rattle.psl.specs.Records.{pslTargets, pslQueries, pslSizes, pslRows}
 use Rattle.psl.specs.Read.{pslCheck}
 use Rattle.psl.specs.Write.{pslWrite, pslText}
 use Rattle.chain.specs.declared.Chain.{Chain}
 use Rattle.chain.specs.declared.ChainAnswer.{ChainAnswer}
 use Rattle.chain.specs.declared.ChainAnswer.the-variants as chain
-use Rattle.chain.specs.Records.{chainTargets, chainQueries, chainSizes}
+use Rattle.chain.specs.Records.{chainTargets, chainQueries, chainSizes, chainRows}
 use Rattle.chain.specs.Read.{chainCheck}
 use Rattle.chain.specs.Write.{chainWrite, chainText}
 use Rattle.lift.specs.declared.Span.{Span}
@@ -51,9 +51,13 @@ use Rattle.region.specs.Tallies.{tallyStep}
 use Rattle.turn.specs.declared.TurnAnswer.{TurnAnswer}
 use Rattle.turn.specs.declared.TurnAnswer.the-variants as turn
 use Rattle.turn.specs.Turns as turns
-use Rattle.binary.specs.Bytes.{wordSize, wordsBytes, lowAt, rowsNumbers}
-use Rattle.desk.specs.Answers.{refusalCode, Outcome, gives, refuses, pickOutcome, numbered, byKind}
-use Rattle.desk.specs.Records.{bedNumbers, pslNumbers, chainNumbers, bedRows, pslRows, chainRows}
+use Rattle.binary.specs.Bytes.{wordSize, wordsBytes, lowAt}
+use Rattle.answers.specs.Answers.{refusalCode, Outcome, gives, refuses, refusesBy, pickOutcome, numbered, recorded}
+use Rattle.desk.specs.Records.{bedNumbers, pslNumbers, chainNumbers}
+
+-- by the kind of text: 1 BED, 2 PSL, 3 chain; any other is 6 at place 0
+unfoldable pub byKind : ℕ → Outcome → Outcome → Outcome → Outcome
+byKind kind bed psl chain = pickOutcome (eqb kind 1) bed (pickOutcome (eqb kind 2) psl (pickOutcome (eqb kind 3) chain (refusesBy BadWord 0)))
 
 -- an accepted text goes on with its record, any other is refused as its checker says
 abbrev pub ofBed : BedAnswer → (Bed → Outcome) → Outcome
@@ -81,16 +85,12 @@ checkedChain s = ofChain (chainCheck s) (λ r. gives (r .blockCount) [])
 unfoldable pub checked : ℕ → List ℕ → Outcome
 checked kind s = byKind kind (checkedBed s) (checkedPsl s) (checkedChain s)
 
--- a record's numbers, then its rows, into so much room
-unfoldable pub recorded : ℕ → ℕ → List ℕ → List Row → Outcome
-recorded end room fields rows = numbered end room (fields ++ rowsNumbers rows)
-
 -- PARSE
 unfoldable pub parsedBed : List ℕ → ℕ → Outcome
 parsedBed s room = ofBed (bedCheck s) (λ r. recorded (length s) room (bedNumbers r) (bedRows s r))
 
 unfoldable pub parsedPsl : List ℕ → ℕ → Outcome
-parsedPsl s room = ofPsl (pslCheck s) (λ r. recorded (length s) room (pslNumbers r) (pslRows s r))
+parsedPsl s room = ofPsl (pslCheck s) (λ r. recorded (length s) room (pslNumbers r) (pslRows s))
 
 unfoldable pub parsedChain : List ℕ → ℕ → Outcome
 parsedChain s room = ofChain (chainCheck s) (λ r. recorded (length s) room (chainNumbers r) (chainRows s r))

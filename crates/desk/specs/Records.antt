@@ -6,7 +6,7 @@ use lib.ListN.{length, take}
 use Rattle.ledger.specs.declared.Row.{Row}
 use Rattle.ledger.specs.Limits.{blockLimit}
 use Rattle.ledger.specs.Strands.{strandLetter}
-use Rattle.blocks.specs.Rows.{tableOf, targetsOf, queriesOf, sizesOf}
+use Rattle.blocks.specs.Rows.{targetsOf, queriesOf, sizesOf}
 use Rattle.bed.specs.declared.Bed.{Bed}
 use Rattle.bed.specs.declared.BedAnswer.{BedAnswer}
 use Rattle.bed.specs.declared.BedAnswer.the-variants as bed
@@ -44,16 +44,6 @@ chainNumbers r =
     r .score ∷ r .tName .start ∷ r .tName .length ∷ r .tSize ∷ r .tStart ∷ r .tEnd ∷ r .qName .start ∷ r .qName .length ∷ r .qSize
     ∷ strandLetter (r .qStrand) ∷ r .qStart ∷ r .qEnd ∷ r .id ∷ r .blockCount ∷ []
 
--- the rows that an accepted text says
-unfoldable pub bedRows : List ℕ → Bed → List Row
-bedRows s r = tableOf (bedTargets s r) (bedQueries s r) (bedSizes s r)
-
-unfoldable pub pslRows : List ℕ → Psl → List Row
-pslRows s r = tableOf (pslTargets s) (pslQueries s) (pslSizes s)
-
-unfoldable pub chainRows : List ℕ → Chain → List Row
-chainRows s r = tableOf (chainTargets s r) (chainQueries s r) (chainSizes s r)
-
 -- three slices with room for a record's blocks
 pub record Staging (ts qs zs : List ℕ) : Type 0 where
   pub targets : length ts ≡ blockLimit
@@ -67,14 +57,6 @@ pub record Held (n : ℕ) (ts qs zs ts′ qs′ zs′ : List ℕ) : Type 0 where
   pub targets : take n ts′ ≡ ts
   pub queries : take n qs′ ≡ qs
   pub sizes : take n zs′ ≡ zs
-
--- a record's numbers and its first n rows, before they are written
-pub record Answerable (n : ℕ) (fields ts qs zs : List ℕ) : Type 0 where
-  pub few : length fields ≤ 20
-  pub blocks : n ≤ blockLimit
-  pub targets : n ≤ length ts
-  pub queries : n ≤ length qs
-  pub sizes : n ≤ length zs
 
 -- what reading a text into them promises
 pub record BedStaged (s ts′ qs′ zs′ : List ℕ) (x : BedAnswer) : Type 0 where

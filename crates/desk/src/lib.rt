@@ -11,9 +11,9 @@ ghost use Rattle.lift.specs.Positions.{liftPosition};
 ghost use Rattle.region.specs.Regions.{liftRegion};
 ghost use Rattle.region.specs.Tallies.{tallyStep};
 ghost use Rattle.writing.specs.Puts.{Put};
-ghost use Rattle.desk.specs.Answers.{told, refusalCode, Answered, numbered};
-ghost use Rattle.desk.specs.Records.{bedNumbers, pslNumbers, chainNumbers, Staging, Answerable, BedStaged, PslStaged, ChainStaged, TurnStaged};
-ghost use Rattle.desk.specs.Entries.{checkedBed, checkedPsl, checkedChain, checked, recorded, parsedBed, parsedPsl, parsedChain, parsed, convertedNumbers, atEnd, written, bedWritten, pslWritten, chainWritten, formattedBed, formattedPsl, formattedChain, formatted, inWord, ofPosition, positionLifted, ofRegion, regionLifted, tallyIn, tallyBytes, ofTallied, tallyOutcome, TallyRoom, tallied, turnWritten, turnedText};
+ghost use Rattle.answers.specs.Answers.{refusalCode, Answered};
+ghost use Rattle.desk.specs.Records.{bedNumbers, pslNumbers, chainNumbers, Staging, BedStaged, PslStaged, ChainStaged, TurnStaged};
+ghost use Rattle.desk.specs.Entries.{checkedBed, checkedPsl, checkedChain, checked, parsedBed, parsedPsl, parsedChain, parsed, convertedNumbers, atEnd, written, bedWritten, pslWritten, chainWritten, formattedBed, formattedPsl, formattedChain, formatted, inWord, ofPosition, positionLifted, ofRegion, regionLifted, tallyIn, tallyBytes, ofTallied, tallyOutcome, TallyRoom, tallied, turnWritten, turnedText};
 use bed::Bed;
 use bed::BedAnswer;
 use chain::Chain;
@@ -29,33 +29,6 @@ use region::Tally;
 use turn::TurnAnswer;
 use writing::Writing;
 
-// Places and counts over this are told as this.
-const MOST_TOLD: u64 = 1152921504606846975;
-
-// 16 × value.
-fn told_as(value: u64) -> u64
-    ensures { λ r. ⌜ r ≡ told value ⌝ }
-{
-    if MOST_TOLD < value {
-        return 16 * MOST_TOLD;
-    }
-    16 * value
-}
-
-// A refusal's place and reason.
-fn refusal_code(x: Refusal) -> u64
-    ensures { λ r. ⌜ r ≡ refusalCode x ⌝ }
-{
-    let reason = x.reason;
-    told_as(x.place as u64) + reason.number()
-}
-
-fn refused_by(reason: Reason, place: usize) -> u64
-    ensures { λ r. ⌜ r ≡ refusalCode (record { reason = reason; place = place }) ⌝ }
-{
-    refusal_code(Refusal { reason, place })
-}
-
 // Room for one number of each of a record's blocks.
 const ROWS: usize = ledger::BLOCK_LIMIT as usize;
 
@@ -63,42 +36,6 @@ fn row_room() -> [u64; ROWS]
     ensures { λ r. ⌜ length r ≡ blockLimit ⌝ }
 {
     [0; ROWS]
-}
-
-// Numbers to the front of the lent bytes, or 11 at a place.
-fn answer_numbers(end: usize, vs: &[u64], out: &mut [u8]) -> u64
-    requires { ⌜ length (now vs) ≤ 8 ⌝ }
-    ensures { λ r. ⌜ Answered (numbered end (length (now (out .entry))) (now (vs .entry)))
-        (now (out .entry)) (now (out .exit)) r ⌝ }
-{
-    if out.len() < binary::WORD_SIZE * vs.len() {
-        return refused_by(Reason::NoRoom, end);
-    }
-    binary::put_words(out, 0, vs);
-    told_as(vs.len() as u64)
-}
-
-// A record's numbers and its first so many rows to the front of the lent bytes, or 11 at the text's end.
-fn answer_record(
-    end: usize,
-    fields: &[u64],
-    targets: &[u64],
-    queries: &[u64],
-    sizes: &[u64],
-    n: usize,
-    out: &mut [u8],
-) -> u64
-    requires { ⌜ Answerable n (now fields) (now targets) (now queries) (now sizes) ⌝ }
-    ensures { λ r. ⌜ Answered (recorded end (length (now (out .entry))) (now (fields .entry)) (tableOf (take n (now (targets .entry)))
-        (take n (now (queries .entry))) (take n (now (sizes .entry))))) (now (out .entry)) (now (out .exit)) r ⌝ }
-{
-    let count = fields.len() + 3 * n;
-    if out.len() < binary::WORD_SIZE * count {
-        return refused_by(Reason::NoRoom, end);
-    }
-    let p = binary::put_words(out, 0, fields);
-    binary::put_rows(out, p, &targets[..n], &queries[..n], &sizes[..n]);
-    told_as(count as u64)
 }
 
 // The readers into room for any record's blocks.
@@ -208,8 +145,8 @@ fn check_bed(text: &[u8]) -> u64
     ensures { λ r. ⌜ r ≡ checkedBed (now (text .entry)) .answer ⌝ }
 {
     match bed::check_bed_text(text) {
-        BedAnswer::Refused(x) => refusal_code(x),
-        BedAnswer::Accepted(r) => told_as(r.blockCount),
+        BedAnswer::Refused(x) => answers::refusal_code(x),
+        BedAnswer::Accepted(r) => answers::told_as(r.blockCount),
     }
 }
 
@@ -217,8 +154,8 @@ fn check_psl(text: &[u8]) -> u64
     ensures { λ r. ⌜ r ≡ checkedPsl (now (text .entry)) .answer ⌝ }
 {
     match psl::check_psl_text(text) {
-        PslAnswer::Refused(x) => refusal_code(x),
-        PslAnswer::Accepted(r) => told_as(r.blockCount),
+        PslAnswer::Refused(x) => answers::refusal_code(x),
+        PslAnswer::Accepted(r) => answers::told_as(r.blockCount),
     }
 }
 
@@ -226,8 +163,8 @@ fn check_chain(text: &[u8]) -> u64
     ensures { λ r. ⌜ r ≡ checkedChain (now (text .entry)) .answer ⌝ }
 {
     match chain::check_chain_text(text) {
-        ChainAnswer::Refused(x) => refusal_code(x),
-        ChainAnswer::Accepted(r) => told_as(r.blockCount),
+        ChainAnswer::Refused(x) => answers::refusal_code(x),
+        ChainAnswer::Accepted(r) => answers::told_as(r.blockCount),
     }
 }
 
@@ -240,7 +177,7 @@ pub extern "C" fn tenderchock_check(kind: u64, text: &[u8]) -> u64
         1 => check_bed(text),
         2 => check_psl(text),
         3 => check_chain(text),
-        _ => refused_by(Reason::BadWord, 0),
+        _ => answers::refused_by(Reason::BadWord, 0),
     }
 }
 
@@ -251,10 +188,10 @@ pub extern "C" fn tenderchock_convert(start: u64, end: u64, size: u64, out: &mut
         (now (out .entry)) (now (out .exit)) r ⌝ }
 {
     match lift::convert(start, end, size) {
-        SpanAnswer::Refused(x) => refusal_code(x),
+        SpanAnswer::Refused(x) => answers::refusal_code(x),
         SpanAnswer::Converted(x) => {
             let numbers = [x.start, x.end];
-            answer_numbers(0, &numbers, out)
+            answers::answer_numbers(0, &numbers, out)
         }
     }
 }
@@ -268,11 +205,11 @@ fn parse_bed(text: &[u8], out: &mut [u8]) -> u64
     let mut queries = row_room();
     let mut sizes = row_room();
     match stage_bed(text, &mut targets, &mut queries, &mut sizes) {
-        BedAnswer::Refused(x) => refusal_code(x),
+        BedAnswer::Refused(x) => answers::refusal_code(x),
         BedAnswer::Accepted(r) => {
             let fields = bed_fields(r);
             let n = r.blockCount as usize;
-            answer_record(text.len(), &fields, &targets, &queries, &sizes, n, out)
+            answers::answer_record(text.len(), &fields, &targets, &queries, &sizes, n, out)
         }
     }
 }
@@ -285,11 +222,11 @@ fn parse_psl(text: &[u8], out: &mut [u8]) -> u64
     let mut queries = row_room();
     let mut sizes = row_room();
     match stage_psl(text, &mut targets, &mut queries, &mut sizes) {
-        PslAnswer::Refused(x) => refusal_code(x),
+        PslAnswer::Refused(x) => answers::refusal_code(x),
         PslAnswer::Accepted(r) => {
             let fields = psl_fields(r);
             let n = r.blockCount as usize;
-            answer_record(text.len(), &fields, &targets, &queries, &sizes, n, out)
+            answers::answer_record(text.len(), &fields, &targets, &queries, &sizes, n, out)
         }
     }
 }
@@ -302,11 +239,11 @@ fn parse_chain(text: &[u8], out: &mut [u8]) -> u64
     let mut queries = row_room();
     let mut sizes = row_room();
     match stage_chain(text, &mut targets, &mut queries, &mut sizes) {
-        ChainAnswer::Refused(x) => refusal_code(x),
+        ChainAnswer::Refused(x) => answers::refusal_code(x),
         ChainAnswer::Accepted(r) => {
             let fields = chain_fields(r);
             let n = r.blockCount as usize;
-            answer_record(text.len(), &fields, &targets, &queries, &sizes, n, out)
+            answers::answer_record(text.len(), &fields, &targets, &queries, &sizes, n, out)
         }
     }
 }
@@ -321,7 +258,7 @@ pub extern "C" fn tenderchock_parse(kind: u64, text: &[u8], out: &mut [u8]) -> u
         1 => parse_bed(text, out),
         2 => parse_psl(text, out),
         3 => parse_chain(text, out),
-        _ => refused_by(Reason::BadWord, 0),
+        _ => answers::refused_by(Reason::BadWord, 0),
     }
 }
 
@@ -332,9 +269,9 @@ fn refused_at_end(end: usize, x: Refusal) -> u64
     let reason = x.reason;
     let room = Reason::NoRoom;
     if reason.number() == room.number() {
-        return refused_by(reason, end);
+        return answers::refused_by(reason, end);
     }
-    refusal_code(x)
+    answers::refusal_code(x)
 }
 
 // A writer's answer: its want of room stands at the text's end.
@@ -342,7 +279,7 @@ fn written_code(end: usize, answer: Writing) -> u64
     ensures { λ r. ⌜ ((bytes : List ℕ) → r ≡ written end answer bytes .answer) ⌝ }
 {
     match answer {
-        Writing::Written(n) => told_as(n as u64),
+        Writing::Written(n) => answers::told_as(n as u64),
         Writing::Refused(x) => refused_at_end(end, x),
     }
 }
@@ -385,7 +322,7 @@ fn format_bed(text: &[u8], out: &mut [u8]) -> u64
     let mut queries = row_room();
     let mut sizes = row_room();
     match stage_bed(text, &mut targets, &mut queries, &mut sizes) {
-        BedAnswer::Refused(x) => refusal_code(x),
+        BedAnswer::Refused(x) => answers::refusal_code(x),
         BedAnswer::Accepted(r) => write_bed(text, r, &targets, &queries, &sizes, out),
     }
 }
@@ -426,7 +363,7 @@ fn format_psl(text: &[u8], out: &mut [u8]) -> u64
     let mut queries = row_room();
     let mut sizes = row_room();
     match stage_psl(text, &mut targets, &mut queries, &mut sizes) {
-        PslAnswer::Refused(x) => refusal_code(x),
+        PslAnswer::Refused(x) => answers::refusal_code(x),
         PslAnswer::Accepted(r) => write_psl(text, r, &targets, &queries, &sizes, out),
     }
 }
@@ -467,7 +404,7 @@ fn format_chain(text: &[u8], out: &mut [u8]) -> u64
     let mut queries = row_room();
     let mut sizes = row_room();
     match stage_chain(text, &mut targets, &mut queries, &mut sizes) {
-        ChainAnswer::Refused(x) => refusal_code(x),
+        ChainAnswer::Refused(x) => answers::refusal_code(x),
         ChainAnswer::Accepted(r) => write_chain(text, r, &targets, &queries, &sizes, out),
     }
 }
@@ -482,7 +419,7 @@ pub extern "C" fn tenderchock_format(kind: u64, text: &[u8], out: &mut [u8]) -> 
         1 => format_bed(text, out),
         2 => format_psl(text, out),
         3 => format_chain(text, out),
-        _ => refused_by(Reason::BadWord, 0),
+        _ => answers::refused_by(Reason::BadWord, 0),
     }
 }
 
@@ -513,10 +450,10 @@ fn answer_position(
 {
     let n = c.blockCount as usize;
     match lift::lift_position(c, &targets[..n], &queries[..n], &sizes[..n], position) {
-        PositionAnswer::Refused(x) => refusal_code(x),
+        PositionAnswer::Refused(x) => answers::refusal_code(x),
         PositionAnswer::Lifted(partner, _) => {
             let numbers = [partner, drift_word(position, partner)];
-            answer_numbers(end, &numbers, out)
+            answers::answer_numbers(end, &numbers, out)
         }
     }
 }
@@ -531,7 +468,7 @@ pub extern "C" fn tenderchock_lift_position(text: &[u8], position: u64, out: &mu
     let mut queries = row_room();
     let mut sizes = row_room();
     match stage_chain(text, &mut targets, &mut queries, &mut sizes) {
-        ChainAnswer::Refused(x) => refusal_code(x),
+        ChainAnswer::Refused(x) => answers::refusal_code(x),
         ChainAnswer::Accepted(c) => {
             answer_position(text.len(), c, &targets, &queries, &sizes, position, out)
         }
@@ -556,10 +493,10 @@ fn answer_region(
 {
     let n = c.blockCount as usize;
     match region::lift_region(c, &targets[..n], &queries[..n], &sizes[..n], start, end) {
-        RegionAnswer::Refused(x) => refusal_code(x),
+        RegionAnswer::Refused(x) => answers::refusal_code(x),
         RegionAnswer::Lifted(x) => {
             let numbers = [x.kept, x.dropped, x.start, x.end];
-            answer_numbers(place, &numbers, out)
+            answers::answer_numbers(place, &numbers, out)
         }
     }
 }
@@ -574,7 +511,7 @@ pub extern "C" fn tenderchock_lift_region(text: &[u8], start: u64, end: u64, out
     let mut queries = row_room();
     let mut sizes = row_room();
     match stage_chain(text, &mut targets, &mut queries, &mut sizes) {
-        ChainAnswer::Refused(x) => refusal_code(x),
+        ChainAnswer::Refused(x) => answers::refusal_code(x),
         ChainAnswer::Accepted(c) => {
             answer_region(text.len(), c, &targets, &queries, &sizes, start, end, out)
         }
@@ -618,16 +555,16 @@ fn answer_tallied(answer: RegionAnswer, t: Tally, lent: &mut [u8]) -> u64
     match answer {
         RegionAnswer::Lifted(x) => {
             put_tally(lent, t);
-            told_as(x.kept)
+            answers::told_as(x.kept)
         }
         RegionAnswer::Refused(x) => {
             let reason = x.reason;
             let alone = Reason::NoPair;
             if reason.number() == alone.number() {
                 put_tally(lent, t);
-                return refusal_code(x);
+                return answers::refusal_code(x);
             }
-            refusal_code(x)
+            answers::refusal_code(x)
         }
     }
 }
@@ -674,7 +611,7 @@ pub extern "C" fn tenderchock_tally(text: &[u8], start: u64, end: u64, tally: &m
     let mut queries = row_room();
     let mut sizes = row_room();
     match stage_chain(text, &mut targets, &mut queries, &mut sizes) {
-        ChainAnswer::Refused(x) => refusal_code(x),
+        ChainAnswer::Refused(x) => answers::refusal_code(x),
         ChainAnswer::Accepted(c) => answer_tally(c, &targets, &queries, &sizes, start, end, tally),
     }
 }
@@ -731,7 +668,7 @@ fn write_turned(
         &mut newQueries,
         &mut newSizes,
     ) {
-        TurnAnswer::Refused(x) => refusal_code(x),
+        TurnAnswer::Refused(x) => answers::refusal_code(x),
         TurnAnswer::Turned(d) => write_chain(text, d, &newTargets, &newQueries, &newSizes, out),
     }
 }
@@ -746,7 +683,7 @@ pub extern "C" fn tenderchock_turn(text: &[u8], out: &mut [u8]) -> u64
     let mut queries = row_room();
     let mut sizes = row_room();
     match stage_chain(text, &mut targets, &mut queries, &mut sizes) {
-        ChainAnswer::Refused(x) => refusal_code(x),
+        ChainAnswer::Refused(x) => answers::refusal_code(x),
         ChainAnswer::Accepted(c) => write_turned(text, c, &targets, &queries, &sizes, out),
     }
 }

@@ -5,3 +5,4 @@ pub mod FindLaws
 pub mod PositionLaws
 pub mod ConversionLaws
 pub mod Vectors
+pub mod CutLaws

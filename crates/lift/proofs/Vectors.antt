@@ -4,13 +4,11 @@ use mathlib.Core.Bool.{true}
 use mathlib.Core.List.{List, [], _∷_}
 use Prim.Native.Nat.{ℕ}
 use lib.IntN.{pos, negsuc}
-use Rattle.ledger.specs.declared.Strand.the-variants.{Minus}
 use Rattle.ledger.specs.declared.Row.{Row}
 use Rattle.ledger.specs.declared.Reason.the-variants.{NumberOutOfRange, SpanDisagrees, BlockRules, NoPair, OutsideTarget}
-use Rattle.ledger.specs.Parts.{partAt}
 use Rattle.blocks.specs.Blocks.{blocksFill, orderFrom, allBetween, rowNumbersFit}
 use Rattle.blocks.specs.Rows.{rowAs}
-use Rattle.chain.specs.declared.Chain.{Chain}
+use Rattle.chain.proofs.Vectors.{chainA, rowsA}
 use Rattle.chain.specs.Tests.{namesFit, fieldsFit, spansFit, rowsFit, chainValid}
 use Rattle.lift.specs.declared.PositionAnswer.{PositionAnswer}
 use Rattle.lift.specs.declared.PositionAnswer.the-variants.{Lifted}
@@ -19,25 +17,6 @@ use Rattle.lift.specs.Accepted.{accepted}
 use Rattle.lift.specs.Conversion.{notConverted, converted}
 use Rattle.lift.specs.Pairs.{blockPairs, pairsOf, pairs, partnerOf}
 use Rattle.lift.specs.Positions.{notLifted, liftPosition}
-
-abbrev pub chainA : Chain
-chainA = record {
-  score = 100;
-  tName = partAt 10 2;
-  tSize = 100;
-  tStart = 10;
-  tEnd = 40;
-  qName = partAt 25 2;
-  qSize = 80;
-  qStrand = Minus;
-  qStart = 5;
-  qEnd = 33;
-  id = 7;
-  blockCount = 3;
-}
-
-abbrev pub rowsA : List Row
-rowsA = rowAs 10 5 10 ∷ rowAs 23 15 8 ∷ rowAs 31 24 9 ∷ []
 
 -- each position and its answer
 abbrev AllLift : List Row → List (ℕ × PositionAnswer) → Type 0

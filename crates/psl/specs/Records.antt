@@ -2,10 +2,12 @@
 use Prim.Native.Nat.{ℕ, _+_, _*_}
 use mathlib.Core.List.{List}
 use lib.ListN.{getD}
+use Rattle.ledger.specs.declared.Row.{Row}
 use Rattle.ledger.specs.Strands.{strandOf, strandIs}
 use Rattle.ledger.specs.Parts.{partAt}
 use Rattle.text.specs.Words.{wordAt, bytesOf}
 use Rattle.numbers.specs.Lists.{valuesOf}
+use Rattle.blocks.specs.Rows.{tableOf}
 use Rattle.psl.specs.declared.Counts.{Counts}
 use Rattle.psl.specs.declared.Side.{Side}
 use Rattle.psl.specs.declared.Psl.{Psl}
@@ -51,3 +53,7 @@ pslQueries s = valuesOf (bytesOf s (wordAt s 0 19))
 
 unfoldable pub pslTargets : List ℕ → List ℕ
 pslTargets s = valuesOf (bytesOf s (wordAt s 0 20))
+
+-- the same as a table
+abbrev pub pslRows : List ℕ → List Row
+pslRows s = tableOf (pslTargets s) (pslQueries s) (pslSizes s)

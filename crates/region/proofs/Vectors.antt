@@ -2,13 +2,10 @@
 use mathlib.Core.Path.{_≡_, refl}
 use mathlib.Core.List.{List, [], _∷_}
 use Prim.Native.Nat.{ℕ, _-_}
-use Rattle.ledger.specs.declared.Strand.the-variants.{Minus}
-use Rattle.ledger.specs.declared.Row.{Row}
 use Rattle.ledger.specs.declared.Reason.the-variants.{NumberOutOfRange, NoPair, OutsideTarget}
 use Rattle.ledger.specs.Limits.{tallyLimit}
 use Rattle.blocks.specs.Blocks.{orderFrom, blocksFill, allBetween, rowNumbersFit}
-use Rattle.blocks.specs.Rows.{rowAs}
-use Rattle.chain.specs.declared.Chain.{Chain}
+use Rattle.chain.proofs.Vectors.{chainA, rowsA}
 use Rattle.chain.specs.Tests.{namesFit, fieldsFit, spansFit, rowsFit, chainValid}
 use Rattle.lift.specs.Accepted.{accepted}
 use Rattle.lift.specs.Pairs.{blockPairs, pairsOf, pairs, partnerOf}
@@ -17,26 +14,6 @@ use Rattle.region.specs.declared.RegionAnswer.the-variants.{Lifted}
 use Rattle.region.specs.declared.Tally.{Tally}
 use Rattle.region.specs.Regions.{countOf, kept, dropped, partnersIn, least, bound, notLifted, inside, carried, liftRegion}
 use Rattle.region.specs.Tallies.{goodTally, tallyStep, Sent, counts, counted, total, sums, zeroTally, sentThrough}
-use Rattle.ledger.specs.Parts.{partAt}
-
-abbrev pub chainA : Chain
-chainA = record {
-  score = 100;
-  tName = partAt 10 2;
-  tSize = 100;
-  tStart = 10;
-  tEnd = 40;
-  qName = partAt 25 2;
-  qSize = 80;
-  qStrand = Minus;
-  qStart = 5;
-  qEnd = 33;
-  id = 7;
-  blockCount = 3;
-}
-
-abbrev pub rowsA : List Row
-rowsA = rowAs 10 5 10 ∷ rowAs 23 15 8 ∷ rowAs 31 24 9 ∷ []
 
 -- a region of chain A and its answer
 pub record Sample : Type 0 where

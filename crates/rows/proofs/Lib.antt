@@ -5,3 +5,4 @@ pub mod Staged
 pub mod Loop
 pub mod StagingLaws
 pub mod WriterLaws
+pub mod ReaderLaws

@@ -15,23 +15,14 @@ use Rattle.ledger.specs.declared.Row.{Row}
 use Rattle.text.proofs.Laws.{either}
 use Rattle.blocks.specs.Blocks.{rowsOf, countFits}
 use Rattle.blocks.specs.Rows.{tableOf, targetsOf, queriesOf, sizesOf}
-use Rattle.blocks.proofs.TableLaws.{table-length, column-taken, table-back}
-use Rattle.rows.specs.Staging.{allReach, Loaded, firstRows, frontStored, storedRows, Columns, Fronts}
-
--- the first rows of three columns are the table of the columns' fronts
-pub first-fronts : (n : ℕ) (ts qs zs : List ℕ) → firstRows n ts qs zs ≡ tableOf (take n ts) (take n qs) (take n zs)
-unfolding tableOf
-first-fronts zero ts qs zs = refl
-first-fronts (suc n) [] qs zs = refl
-first-fronts (suc n) (t ∷ ts) [] zs = refl
-first-fronts (suc n) (t ∷ ts) (q ∷ qs) [] = refl
-first-fronts (suc n) (t ∷ ts) (q ∷ qs) (z ∷ zs) = ap (λ (l : List Row). record { target = t; query = q; size = z } ∷ l) (first-fronts n ts qs zs)
+use Rattle.blocks.proofs.TableLaws.{table-length, table-take, column-taken, table-back}
+use Rattle.rows.specs.Staging.{allReach, Loaded, firstRows, stagedRows, frontStored, storedRows, Columns, Fronts}
 
 -- A TABLE AFTER A CALL: the rows of the columns' fronts, and past them what it held
 pub fronts-stored : (n : ℕ) (xs ys ws ts qs zs : List ℕ) (rows : List Row) → Fronts n (length rows) xs ys ws ts qs zs → storedRows n ts qs zs rows ≡ tableOf xs ys ws ++ drop n rows
 fronts-stored n xs ys ws ts qs zs rows h =
     let m : min n (allReach (length rows) ts qs zs) ≡ n = omega (arith, h .fits, h .reach) in
-    ap (λ (k : ℕ). frontStored k ts qs zs rows) m ∙ rw (first-fronts n ts qs zs, h .targets, h .queries, h .sizes)
+    ap (λ (k : ℕ). frontStored k ts qs zs rows) m ∙ rw (table-take n ts qs zs, h .targets, h .queries, h .sizes)
 
 pub none-stored : (ts qs zs : List ℕ) (rows : List Row) → storedRows 0 ts qs zs rows ≡ rows
 none-stored ts qs zs rows = let m : min 0 (allReach (length rows) ts qs zs) ≡ 0 = omega arith in ap (λ (k : ℕ). frontStored k ts qs zs rows) m
@@ -111,6 +102,17 @@ field-cut f n rows h =
 abbrev pub cutRows : List Row → List Row
 cutRows rows = take (min (length rows) blockLimit) rows
 
+-- the rows of the parts of three columns that a table of so many rows fills
+pub staged-parts : (rows n : ℕ) (ts qs zs : List ℕ) → n ≡ min rows blockLimit → tableOf (take n ts) (take n qs) (take n zs) ≡ stagedRows rows ts qs zs
+staged-parts rows n ts qs zs e = rw (e, table-take (min rows blockLimit) ts qs zs)
+
+-- three columns that a table was loaded into hold its first rows
+pub staged-loaded : (rows : List Row) (ts ts′ qs qs′ zs zs′ : List ℕ) → Columns ts qs zs → Loaded (allReach (length rows) ts qs zs) rows ts ts′ qs qs′ zs zs′
+    → stagedRows (length rows) ts′ qs′ zs′ ≡ cutRows rows
+staged-loaded rows ts ts′ qs qs′ zs zs′ room h =
+    table-take (min (length rows) blockLimit) ts′ qs′ zs′
+    ∙ rw (loaded-targets rows ts ts′ qs qs′ zs zs′ room h, loaded-queries rows ts ts′ qs qs′ zs zs′ room h, loaded-sizes rows ts ts′ qs qs′ zs zs′ room h) (table-back (cutRows rows))
+
 -- the flat lists of a table have as many numbers as it has rows
 table-rows : (l : List Row) → rowsOf (targetsOf l) (queriesOf l) (sizesOf l) ≡ length l
 table-rows l = omega (arith, length-map l (λ (b : Row). b .target), length-map l (λ (b : Row). b .query), length-map l (λ (b : Row). b .size))
@@ -140,7 +142,7 @@ columns-of ts qs zs a b c = record { targets = a; queries = b; sizes = c }
 
 -- the first n rows of a table, from its flat lists
 pub table-front : (n : ℕ) (rows : List Row) → tableOf (take n (targetsOf rows)) (take n (queriesOf rows)) (take n (sizesOf rows)) ≡ take n rows
-table-front n rows = sym (first-fronts n (targetsOf rows) (queriesOf rows) (sizesOf rows)) ∙ ap (take n) (table-back rows)
+table-front n rows = sym (table-take n (targetsOf rows) (queriesOf rows) (sizesOf rows)) ∙ ap (take n) (table-back rows)
 
 map-append : (f : Row → ℕ) (bs cs : List Row) → map f (bs ++ cs) ≡ map f bs ++ map f cs
 map-append f [] cs = refl

@@ -22,6 +22,10 @@ pub record Loaded (n : ℕ) (rows : List Row) (ts ts′ qs qs′ zs zs′ : List
 abbrev pub firstRows : ℕ → List ℕ → List ℕ → List ℕ → List Row
 firstRows n ts qs zs = take n (tableOf ts qs zs)
 
+-- the rows that stand in three columns, for a table of so many rows
+abbrev pub stagedRows : ℕ → List ℕ → List ℕ → List ℕ → List Row
+stagedRows rows ts qs zs = firstRows (min rows blockLimit) ts qs zs
+
 -- a table once its first n rows are those of three columns; the rows past them are as they were
 abbrev pub frontStored : ℕ → List ℕ → List ℕ → List ℕ → List Row → List Row
 frontStored n ts qs zs rows = firstRows n ts qs zs ++ drop n rows

@@ -10,18 +10,19 @@ use Rattle.ledger.specs.declared.Refusal.{Refusal}
 use Rattle.text.specs.declared.Check.the-variants.{Holds}
 use Rattle.blocks.specs.Rows.{targetsOf, queriesOf, sizesOf}
 use Rattle.rows.proofs.StagingLaws.{table-front, put-same}
+use Rattle.rows.proofs.ReaderLaws.{Reads, read-of}
 use Rattle.bed.specs.declared.Bed.{Bed}
 use Rattle.bed.specs.declared.BedAnswer.{BedAnswer}
 use Rattle.bed.specs.declared.BedAnswer.the-variants.{Accepted, Refused}
-use Rattle.bed.specs.Records.{bedTargets, bedQueries, bedSizes}
+use Rattle.bed.specs.Records.{bedTargets, bedQueries, bedSizes, bedRows}
 use Rattle.bed.specs.Read.{roomCheck, bedCheck, bedRead}
 use Rattle.bed.specs.Tests.{bedValid}
 use Rattle.bed.specs.Write.{writeCheck, bedText, recordCheck}
 use Rattle.bed.specs.Rules.{placed}
 use Rattle.bed.proofs.ValidLaws.{accepted-valid}
 use Rattle.bed.proofs.BackLaws.{back-read, back-targets, back-queries, back-sizes}
-use Rattle.table_bed.specs.Rows.{bedRows, tableAfter, RowsRead}
-use Rattle.table_bed.proofs.RowLaws.{counted, read-of, checkSeen}
+use Rattle.table_bed.specs.Rows.{tableAfter, RowsRead}
+use Rattle.table_bed.proofs.RowLaws.{bed-reads, checkSeen}
 
 -- A TEXT THAT IS ACCEPTED, and rows enough: the record is the text's, its rows stand at the table's front, and the others are as they were
 pub read-rows : (s : List ℕ) (r : Bed) (before after : List Row) (x : BedAnswer) → bedCheck s ≡ Accepted r → r .blockCount ≤ length before → RowsRead s before after x
@@ -39,11 +40,11 @@ refused-rows s y before after h = h .rows
 pub left-valid : (s : List ℕ) (r : Bed) (before after : List Row) → RowsRead s before after (Accepted r) → recordCheck r (targetsOf after) (queriesOf after) (sizesOf after) ≡ Holds
 unfolding recordCheck bedValid
 left-valid s r before after h =
-    let o = read-of s (length before) r (sym (h .is)) in
-    let l = counted s r (o .checked) in
+    let l = bed-reads s in
+    let o = read-of l (length before) r (sym (h .is)) in
     ap (λ (t : List Row). recordCheck r (targetsOf t) (queriesOf t) (sizesOf t)) (h .rows)
-    ∙ put-same (r .blockCount) (bedTargets s r) (bedQueries s r) (bedSizes s r) before (l .targets) (l .queries) (l .sizes) (checkSeen r) (o .fits)
-    ∙ rw (accepted-valid s r (o .checked))
+    ∙ put-same (r .blockCount) (bedTargets s r) (bedQueries s r) (bedSizes s r) before (l .targets r (o .0)) (l .queries r (o .0)) (l .sizes r (o .0)) (checkSeen r) (o .1)
+    ∙ rw (accepted-valid s r (o .0))
 
 -- THE ROUND TRIP: the standard text of a record with the rows of a table is read as the same record, and those rows go to the front of any table that has rows
 -- enough

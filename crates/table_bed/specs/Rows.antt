@@ -4,17 +4,12 @@ use mathlib.Core.Path.{_≡_}
 use mathlib.Core.List.{List, _++_}
 use lib.ListN.{length, drop}
 use Rattle.ledger.specs.declared.Row.{Row}
-use Rattle.blocks.specs.Rows.{tableOf}
 use Rattle.rows.specs.Staging.{Fronts}
 use Rattle.bed.specs.declared.Bed.{Bed}
 use Rattle.bed.specs.declared.BedAnswer.{BedAnswer}
 use Rattle.bed.specs.declared.BedAnswer.the-variants.{Accepted, Refused}
-use Rattle.bed.specs.Records.{bedTargets, bedQueries, bedSizes}
+use Rattle.bed.specs.Records.{bedTargets, bedQueries, bedSizes, bedRows}
 use Rattle.bed.specs.Read.{bedRead}
-
--- the rows that a line spells
-abbrev pub bedRows : List ℕ → Bed → List Row
-bedRows s r = tableOf (bedTargets s r) (bedQueries s r) (bedSizes s r)
 
 -- what a lent table holds after an answer: the rows of an accepted line at its front, the others as they were; or all as they were
 abbrev pub tableAfter : BedAnswer → List ℕ → List Row → List Row

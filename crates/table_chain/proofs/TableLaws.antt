@@ -10,18 +10,19 @@ use Rattle.ledger.specs.declared.Refusal.{Refusal}
 use Rattle.text.specs.declared.Check.the-variants.{Holds}
 use Rattle.blocks.specs.Rows.{targetsOf, queriesOf, sizesOf}
 use Rattle.rows.proofs.StagingLaws.{table-front, put-same}
+use Rattle.rows.proofs.ReaderLaws.{Reads, read-of}
 use Rattle.chain.specs.declared.Chain.{Chain}
 use Rattle.chain.specs.declared.ChainAnswer.{ChainAnswer}
 use Rattle.chain.specs.declared.ChainAnswer.the-variants.{Accepted, Refused}
-use Rattle.chain.specs.Records.{chainTargets, chainQueries, chainSizes}
+use Rattle.chain.specs.Records.{chainTargets, chainQueries, chainSizes, chainRows}
 use Rattle.chain.specs.Read.{roomCheck, chainCheck, chainRead}
 use Rattle.chain.specs.Tests.{chainValid}
 use Rattle.chain.specs.Write.{writeCheck, chainText, recordCheck}
 use Rattle.chain.specs.Rules.{placed}
 use Rattle.chain.proofs.ValidLaws.{accepted-valid}
 use Rattle.chain.proofs.BackLaws.{back-read, back-targets, back-queries, back-sizes}
-use Rattle.table_chain.specs.Rows.{chainRows, tableAfter, RowsRead}
-use Rattle.table_chain.proofs.RowLaws.{counted, read-of, checkSeen}
+use Rattle.table_chain.specs.Rows.{tableAfter, RowsRead}
+use Rattle.table_chain.proofs.RowLaws.{chain-reads, checkSeen}
 
 -- A TEXT THAT IS ACCEPTED, and rows enough: the record is the text's, its rows stand at the table's front, and the others are as they were
 pub read-rows : (s : List ℕ) (r : Chain) (before after : List Row) (x : ChainAnswer) → chainCheck s ≡ Accepted r → r .blockCount ≤ length before → RowsRead s before after x
@@ -39,11 +40,11 @@ refused-rows s y before after h = h .rows
 pub left-valid : (s : List ℕ) (r : Chain) (before after : List Row) → RowsRead s before after (Accepted r) → recordCheck r (targetsOf after) (queriesOf after) (sizesOf after) ≡ Holds
 unfolding recordCheck chainValid
 left-valid s r before after h =
-    let o = read-of s (length before) r (sym (h .is)) in
-    let l = counted s r (o .checked) in
+    let l = chain-reads s in
+    let o = read-of l (length before) r (sym (h .is)) in
     ap (λ (t : List Row). recordCheck r (targetsOf t) (queriesOf t) (sizesOf t)) (h .rows)
-    ∙ put-same (r .blockCount) (chainTargets s r) (chainQueries s r) (chainSizes s r) before (l .targets) (l .queries) (l .sizes) (checkSeen r) (o .fits)
-    ∙ rw (accepted-valid s r (o .checked))
+    ∙ put-same (r .blockCount) (chainTargets s r) (chainQueries s r) (chainSizes s r) before (l .targets r (o .0)) (l .queries r (o .0)) (l .sizes r (o .0)) (checkSeen r) (o .1)
+    ∙ rw (accepted-valid s r (o .0))
 
 -- THE ROUND TRIP: the standard text of a record with the rows of a table is read as the same record, and those rows go to the front of any table that has rows
 -- enough

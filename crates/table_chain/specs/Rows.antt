@@ -4,17 +4,12 @@ use mathlib.Core.Path.{_≡_}
 use mathlib.Core.List.{List, _++_}
 use lib.ListN.{length, drop}
 use Rattle.ledger.specs.declared.Row.{Row}
-use Rattle.blocks.specs.Rows.{tableOf}
 use Rattle.rows.specs.Staging.{Fronts}
 use Rattle.chain.specs.declared.Chain.{Chain}
 use Rattle.chain.specs.declared.ChainAnswer.{ChainAnswer}
 use Rattle.chain.specs.declared.ChainAnswer.the-variants.{Accepted, Refused}
-use Rattle.chain.specs.Records.{chainTargets, chainQueries, chainSizes}
+use Rattle.chain.specs.Records.{chainTargets, chainQueries, chainSizes, chainRows}
 use Rattle.chain.specs.Read.{chainRead}
-
--- the rows that a chain's text spells
-abbrev pub chainRows : List ℕ → Chain → List Row
-chainRows s r = tableOf (chainTargets s r) (chainQueries s r) (chainSizes s r)
 
 -- what a lent table holds after an answer: the rows of an accepted chain at its front, the others as they were; or all as they were
 abbrev pub tableAfter : ChainAnswer → List ℕ → List Row → List Row

@@ -1,3 +1,2 @@
-pub mod StagedLaws
 pub mod LiftLaws
 pub mod TableLaws

@@ -9,19 +9,19 @@ use Rattle.ledger.specs.Limits.{blockLimit, tallyLimit}
 use Rattle.ledger.specs.declared.Row.{Row}
 use Rattle.ledger.specs.declared.Reason.the-variants.{NumberOutOfRange, BlockRules, CountsDisagree, OutsideTarget}
 use Rattle.blocks.specs.Rows.{tableOf}
-use Rattle.rows.specs.Staging.{allReach, Loaded, Columns}
-use Rattle.rows.proofs.StagingLaws.{cutRows}
+use Rattle.rows.specs.Staging.{stagedRows, allReach, Loaded, Columns}
+use Rattle.rows.proofs.StagingLaws.{cutRows, staged-parts, staged-loaded}
 use Rattle.chain.specs.declared.Chain.{Chain}
 use Rattle.lift.specs.declared.PositionAnswer.{PositionAnswer}
 use Rattle.lift.specs.Pairs.{Pair, forward, pairsOf, pairs, partnerOf}
+use Rattle.lift.proofs.CutLaws.{seen-cut}
 use Rattle.lift.specs.Positions.{ifLifted, atPartner, liftPosition}
 use Rattle.region.specs.declared.RegionAnswer.{RegionAnswer}
 use Rattle.region.specs.declared.Tally.{Tally}
 use Rattle.region.specs.declared.Tallied.{Tallied}
 use Rattle.region.specs.Regions.{kept, dropped, ifLifted as ifRegion, inside, carried, liftRegion}
 use Rattle.region.specs.Tallies.{goodTally, grown, ifTallied, tallyStep}
-use Rattle.table_lift.specs.Lifts.{stagedRows, RegionTallied}
-use Rattle.table_lift.proofs.StagedLaws.{seen-cut, staged-parts, staged-loaded}
+use Rattle.table_lift.specs.Lifts.{RegionTallied}
 
 -- on the rows that are staged, each is what it is on the table
 position-cut : (c : Chain) (rows : List Row) (p : ℕ) → liftPosition c (cutRows rows) p ≡ liftPosition c rows p

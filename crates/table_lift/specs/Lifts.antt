@@ -1,18 +1,12 @@
 -- Lifts and tallies over a lent table of rows. The definitions of `lift` and `region` are cited on the table as it stands.
-use Prim.Native.Nat.{ℕ, min}
+use Prim.Native.Nat.{ℕ}
 use mathlib.Core.Path.{_≡_}
 use mathlib.Core.List.{List, [], _∷_}
 use Rattle.ledger.specs.declared.Row.{Row}
-use Rattle.ledger.specs.Limits.{blockLimit}
-use Rattle.rows.specs.Staging.{firstRows}
 use Rattle.chain.specs.declared.Chain.{Chain}
 use Rattle.region.specs.declared.RegionAnswer.{RegionAnswer}
 use Rattle.region.specs.declared.Tally.{Tally}
 use Rattle.region.specs.Tallies.{tallyStep, Sent}
-
--- the rows that stand in three columns, for a table of so many rows
-abbrev pub stagedRows : ℕ → List ℕ → List ℕ → List ℕ → List Row
-stagedRows rows ts qs zs = firstRows (min rows blockLimit) ts qs zs
 
 -- THE TALLY'S PROMISE: the answer, and the lent tally afterwards, are those of the step
 pub record RegionTallied (before : Tally) (c : Chain) (rows : List Row) (start end : ℕ) (after : Tally) (x : RegionAnswer) : Type 0 where

@@ -1,11 +1,11 @@
 // Lifts through a chain whose blocks stand in a lent table of row structs, and the tally lent for a batch of regions. Each stages
 // the rows in three columns and calls the function of `lift` or `region` over flat slices.
 ghost use mathlib.Core.Path.{_≡_};
-ghost use Rattle.rows.specs.Staging.{Columns};
+ghost use Rattle.rows.specs.Staging.{Columns, stagedRows};
 ghost use Rattle.lift.specs.Positions.{liftPosition};
 ghost use Rattle.region.specs.Regions.{liftRegion};
 ghost use Rattle.region.specs.Tallies.{tallyStep};
-ghost use Rattle.table_lift.specs.Lifts.{stagedRows, RegionTallied};
+ghost use Rattle.table_lift.specs.Lifts.{RegionTallied};
 use chain::Chain;
 use ledger::Row;
 use lift::PositionAnswer;

@@ -6,27 +6,27 @@ use Prim.Native.Nat.{ℕ, _≤_, min}
 use native.Mathlib.Omega.{arith}
 use lib.ListN.{length, take}
 use lib.Seq.{take-take}
-use lib.Dec.{leb}
-use borrow.Author.Tests.{leb-true}
+use borrow.Author.Tests.{le-leb, lt-leb}
 use borrow.Rule.Slice.PartMut.{putMid}
 use Rattle.ledger.specs.Limits.{blockLimit}
 use Rattle.ledger.specs.declared.Row.{Row}
-use Rattle.ledger.specs.declared.Reason.the-variants.{NumberOutOfRange, BadWord, SpanDisagrees, BlockRules, CountsDisagree}
+use Rattle.ledger.specs.declared.Refusal.{Refusal}
+use Rattle.ledger.specs.declared.Reason.the-variants.{NumberOutOfRange, BadWord, SpanDisagrees, BlockRules, CountsDisagree, NoRoom}
 use Rattle.text.specs.declared.Check.{Check}
 use Rattle.text.specs.declared.Check.the-variants.{Holds}
-use Rattle.text.specs.declared.Check.the-variants as check
 use Rattle.text.specs.Checks.{require}
 use Rattle.writing.specs.declared.Writing.{Writing}
-use Rattle.blocks.specs.Blocks.{rowsOf, rowNumbersFit}
+use Rattle.blocks.specs.Blocks.{rowNumbersFit}
 use Rattle.blocks.specs.Rows.{targetsOf, queriesOf, sizesOf}
 use Rattle.rows.specs.Staging.{allReach, Loaded, Columns, storedRows}
-use Rattle.rows.proofs.StagingLaws.{fronts-made, fronts-stored, none-stored, loaded-targets, loaded-queries, loaded-sizes, room-cut, cutRows, rows-cut, part-count}
+use Rattle.rows.proofs.StagingLaws.{loaded-targets, loaded-queries, loaded-sizes, cutRows, rows-cut}
+use Rattle.rows.proofs.ReaderLaws.{Reads, columns-is, columns-held, rows-accepted, rows-refused}
 use Rattle.rows.proofs.WriterLaws.{written-cut, kept-cut}
 use Rattle.psl.specs.declared.Psl.{Psl}
 use Rattle.psl.specs.declared.PslAnswer.{PslAnswer}
 use Rattle.psl.specs.declared.PslAnswer.the-variants.{Accepted, Refused}
 use Rattle.psl.specs.Records.{pslTargets, pslQueries, pslSizes}
-use Rattle.psl.specs.Read.{thenCheck, thenRoom, roomCheck, rowsAfter, pslCheck, pslRead, PslRead}
+use Rattle.psl.specs.Read.{roomCheck, rowsAfter, pslCheck, pslRead, PslRead}
 use Rattle.psl.specs.Tests.{isTold, fieldsFit, spansFit, pslValid}
 use Rattle.psl.specs.Write.{wordsShow, writeCheck, pslWords, pslText, pslWrite, PslWrote, recordCheck}
 use Rattle.psl.specs.Rows.{rowsFit, countsFit}
@@ -36,80 +36,47 @@ use Rattle.table_psl.specs.Rows.{tableAfter, RowsRead, rowsFilled, Colum
 use Rattle.columns.specs.Names.{lengthFits}
 use Rattle.columns.specs.Lines.{thenWrite}
 
--- an accepted line: its blocks are no more than the limit, and its lists have as many numbers
-pub record Counted (s : List ℕ) (r : Psl) : Type 0 where
-  pub few : r .blockCount ≤ blockLimit
-  pub targets : length (pslTargets s) ≡ r .blockCount
-  pub queries : length (pslQueries s) ≡ r .blockCount
-  pub sizes : length (pslSizes s) ≡ r .blockCount
+-- the reader as one of any format
+pub by-answer : (a : PslAnswer) (P : Type 0) → ((r : Psl) → a ≡ Accepted r → P) → ((x : Refusal) → a ≡ Refused x → P) → P
+by-answer (Accepted r) P f g = f r refl
+by-answer (Refused x) P f g = g x refl
 
-pub counted : (s : List ℕ) (r : Psl) → pslCheck s ≡ Accepted r → Counted s r
-counted s r ok = record { few = accepted-rules s r ok .fewBlocks; targets = accepted-targets s r ok; queries = accepted-queries s r ok; sizes = accepted-sizes s r ok }
-
--- what a reader accepts, its text checker accepts, and there is room
-check-then : (c : Check) (q r : Psl) → thenCheck c (Accepted q) ≡ Accepted r → (c ≡ Holds) × (q ≡ r)
-check-then Holds q r e = (refl, cc e)
-check-then (check.Refused x) q r e = absurd (let z : _≡_ {A = ℕ} 0 1 = cc in omega arith)
-
-room-then : (s : List ℕ) (q : Psl) (room : ℕ) → roomCheck s q room ≡ Holds → q .blockCount ≤ room
-unfolding roomCheck
-room-then s q room e = go (leb (q .blockCount) room) refl e
-  where
-    go : (t : Bool) → leb (q .blockCount) room ≡ t → roomCheck s q room ≡ Holds → q .blockCount ≤ room
-    go true k h = leb-true (q .blockCount) room k
-    go false k h = absurd (let p : roomCheck s q room ≡ Holds = h in let z : _≡_ {A = ℕ} 0 1 = cc in omega arith)
-
-pub record ReadOf (s : List ℕ) (r : Psl) (room : ℕ) : Type 0 where
-  pub checked : pslCheck s ≡ Accepted r
-  pub fits : r .blockCount ≤ room
-
-pub read-of : (s : List ℕ) (room : ℕ) (r : Psl) → pslRead s room ≡ Accepted r → ReadOf s r room
-unfolding pslRead
-read-of s room r e = go (pslCheck s) refl e
-  where
-    go : (a : PslAnswer) → pslCheck s ≡ a → thenRoom a s room ≡ Accepted r → ReadOf s r room
-    go (Accepted q) k h =
-        let c = check-then (roomCheck s q room) q r h in
-        record { checked = k ∙ ap Accepted (c .1); fits = rw (c .1) at (room-then s q room (c .0)) }
-    go (Refused x) k h = absurd (let z : _≡_ {A = ℕ} 0 1 = cc in omega arith)
-
--- the rows that are staged are room enough exactly where the table is
-read-cut : (s : List ℕ) (rows : ℕ) → pslRead s (min rows blockLimit) ≡ pslRead s rows
+pub psl-reads : (s : List ℕ) → Reads Accepted Refused (λ (r : Psl). r .blockCount) rowsFilled (pslCheck s) (pslRead s) (record { reason = NoRoom; place = length s }) (λ r. pslTargets s) (λ r. pslQueries s) (λ r. pslSizes s)
 unfolding pslRead roomCheck
-read-cut s rows = go (pslCheck s) refl
-  where
-    go : (a : PslAnswer) → pslCheck s ≡ a → thenRoom a s (min rows blockLimit) ≡ thenRoom a s rows
-    go (Accepted q) k = rw (room-cut (q .blockCount) rows (counted s q k .few))
-    go (Refused x) k = refl
+psl-reads s = record {
+  cases = by-answer;
+  apart = λ r x e. absurd (let z : _≡_ {A = ℕ} 0 1 = cc in omega arith);
+  filledBy = λ r. refl;
+  filledNone = λ x. refl;
+  roomy = λ r room k h. rw (k, le-leb (r .blockCount) room h);
+  short = λ r room k h. rw (k, lt-leb (r .blockCount) room h);
+  refused = λ x room k. rw k;
+  few = λ r ok. accepted-rules s r ok .fewBlocks;
+  targets = λ r ok. accepted-targets s r ok;
+  queries = λ r ok. accepted-queries s r ok;
+  sizes = λ r ok. accepted-sizes s r ok;
+}
 
 -- reading into three columns
 pub columns-read : (s ts qs zs t q z : List ℕ) (rows n : ℕ) (x : PslAnswer) → Columns ts qs zs → n ≡ min rows blockLimit
     → PslRead s (take n ts) t (take n qs) q (take n zs) z x → ColumnsRead s rows (putMid 0 n ts t) (putMid 0 n qs q) (putMid 0 n zs z) x
-columns-read s ts qs zs t q z rows n x room e h =
-    let a = part-count n rows ts e (room .targets) in
-    let b = part-count n rows qs e (room .queries) in
-    let c = part-count n rows zs e (room .sizes) in
-    let m : rowsOf (take n ts) (take n qs) (take n zs) ≡ min rows blockLimit = omega (arith, a, b, c) in
-    let is : x ≡ pslRead s (min rows blockLimit) = h .is ∙ ap (pslRead s) m in
-    record {
-      is = is ∙ read-cut s rows;
-      held = λ r k.
-          let o = read-of s (min rows blockLimit) r (sym is ∙ k) in
-          let l = counted s r (o .checked) in
-          fronts-made (r .blockCount) rows n (pslTargets s) (pslQueries s) (pslSizes s) ts qs zs t q z room e (omega (arith, o .fits)) (l .targets) (l .queries) (l .sizes)
-          (h .targets ∙ ap (λ (y : PslAnswer). rowsAfter y (pslTargets s) (take n ts)) k)
-          (h .queries ∙ ap (λ (y : PslAnswer). rowsAfter y (pslQueries s) (take n qs)) k)
-          (h .sizes ∙ ap (λ (y : PslAnswer). rowsAfter y (pslSizes s) (take n zs)) k);
-    }
+columns-read s ts qs zs t q z rows n x room e h = record {
+  is = columns-is (psl-reads s) ts qs zs t q z rows n x room e (h .is);
+  held = λ r k. columns-held (psl-reads s) ts qs zs t q z rows n x room e (h .is) r k
+      (h .targets ∙ ap (λ (y : PslAnswer). rowsAfter y (pslTargets s) (take n ts)) k)
+      (h .queries ∙ ap (λ (y : PslAnswer). rowsAfter y (pslQueries s) (take n qs)) k)
+      (h .sizes ∙ ap (λ (y : PslAnswer). rowsAfter y (pslSizes s) (take n zs)) k);
+}
 
 -- the table after the rows of an answer were stored
 pub rows-read : (s ts qs zs : List ℕ) (before after : List Row) (n : ℕ) (x : PslAnswer) → ColumnsRead s (length before) ts qs zs x → n ≡ rowsFilled x
     → after ≡ storedRows n ts qs zs before → RowsRead s before after x
-rows-read s ts qs zs before after n x h e k = record { is = h .is; rows = k ∙ ap (λ (m : ℕ). storedRows m ts qs zs before) e ∙ go x refl }
-  where
-    go : (y : PslAnswer) → x ≡ y → storedRows (rowsFilled y) ts qs zs before ≡ tableAfter y s before
-    go (Accepted r) l = fronts-stored (r .blockCount) _ _ _ ts qs zs before (h .held r l)
-    go (Refused w) l = none-stored ts qs zs before
+rows-read s ts qs zs before after n x h e k = record {
+  is = h .is;
+  rows = by-answer x _
+      (λ r l. rows-accepted (psl-reads s) ts qs zs before after n x (h .held) e k r l ∙ ap (λ (y : PslAnswer). tableAfter y s before) (sym l))
+      (λ w l. rows-refused (psl-reads s) ts qs zs before after n x (h .held) e k w l ∙ ap (λ (y : PslAnswer). tableAfter y s before) (sym l));
+}
 
 pub filled-accepted : (a : PslAnswer) (r : Psl) → a ≡ Accepted r → r .blockCount ≡ rowsFilled a
 filled-accepted a r e = rw e

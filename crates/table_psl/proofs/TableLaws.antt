@@ -10,18 +10,19 @@ use Rattle.ledger.specs.declared.Refusal.{Refusal}
 use Rattle.text.specs.declared.Check.the-variants.{Holds}
 use Rattle.blocks.specs.Rows.{targetsOf, queriesOf, sizesOf}
 use Rattle.rows.proofs.StagingLaws.{table-front, put-same}
+use Rattle.rows.proofs.ReaderLaws.{Reads, read-of}
 use Rattle.psl.specs.declared.Psl.{Psl}
 use Rattle.psl.specs.declared.PslAnswer.{PslAnswer}
 use Rattle.psl.specs.declared.PslAnswer.the-variants.{Accepted, Refused}
-use Rattle.psl.specs.Records.{pslTargets, pslQueries, pslSizes}
+use Rattle.psl.specs.Records.{pslTargets, pslQueries, pslSizes, pslRows}
 use Rattle.psl.specs.Read.{roomCheck, pslCheck, pslRead}
 use Rattle.psl.specs.Tests.{pslValid}
 use Rattle.psl.specs.Write.{writeCheck, pslText, recordCheck}
 use Rattle.psl.specs.Rules.{placed}
 use Rattle.psl.proofs.ValidLaws.{accepted-valid}
 use Rattle.psl.proofs.BackLaws.{back-read, back-targets, back-queries, back-sizes}
-use Rattle.table_psl.specs.Rows.{pslRows, tableAfter, RowsRead}
-use Rattle.table_psl.proofs.RowLaws.{counted, read-of, checkSeen}
+use Rattle.table_psl.specs.Rows.{tableAfter, RowsRead}
+use Rattle.table_psl.proofs.RowLaws.{psl-reads, checkSeen}
 
 -- A TEXT THAT IS ACCEPTED, and rows enough: the record is the text's, its rows stand at the table's front, and the others are as they were
 pub read-rows : (s : List ℕ) (r : Psl) (before after : List Row) (x : PslAnswer) → pslCheck s ≡ Accepted r → r .blockCount ≤ length before → RowsRead s before after x
@@ -39,11 +40,11 @@ refused-rows s y before after h = h .rows
 pub left-valid : (s : List ℕ) (r : Psl) (before after : List Row) → RowsRead s before after (Accepted r) → recordCheck r (targetsOf after) (queriesOf after) (sizesOf after) ≡ Holds
 unfolding recordCheck pslValid
 left-valid s r before after h =
-    let o = read-of s (length before) r (sym (h .is)) in
-    let l = counted s r (o .checked) in
+    let l = psl-reads s in
+    let o = read-of l (length before) r (sym (h .is)) in
     ap (λ (t : List Row). recordCheck r (targetsOf t) (queriesOf t) (sizesOf t)) (h .rows)
-    ∙ put-same (r .blockCount) (pslTargets s) (pslQueries s) (pslSizes s) before (l .targets) (l .queries) (l .sizes) (checkSeen r) (o .fits)
-    ∙ rw (accepted-valid s r (o .checked))
+    ∙ put-same (r .blockCount) (pslTargets s) (pslQueries s) (pslSizes s) before (l .targets r (o .0)) (l .queries r (o .0)) (l .sizes r (o .0)) (checkSeen r) (o .1)
+    ∙ rw (accepted-valid s r (o .0))
 
 -- THE ROUND TRIP: the standard text of a record with the rows of a table is read as the same record, and those rows go to the front of any table that has rows
 -- enough

@@ -4,17 +4,12 @@ use mathlib.Core.Path.{_≡_}
 use mathlib.Core.List.{List, _++_}
 use lib.ListN.{length, drop}
 use Rattle.ledger.specs.declared.Row.{Row}
-use Rattle.blocks.specs.Rows.{tableOf}
 use Rattle.rows.specs.Staging.{Fronts}
 use Rattle.psl.specs.declared.Psl.{Psl}
 use Rattle.psl.specs.declared.PslAnswer.{PslAnswer}
 use Rattle.psl.specs.declared.PslAnswer.the-variants.{Accepted, Refused}
-use Rattle.psl.specs.Records.{pslTargets, pslQueries, pslSizes}
+use Rattle.psl.specs.Records.{pslTargets, pslQueries, pslSizes, pslRows}
 use Rattle.psl.specs.Read.{pslRead}
-
--- the rows that a line spells
-abbrev pub pslRows : List ℕ → List Row
-pslRows s = tableOf (pslTargets s) (pslQueries s) (pslSizes s)
 
 -- what a lent table holds after an answer: the rows of an accepted line at its front, the others as they were; or all as they were
 abbrev pub tableAfter : PslAnswer → List ℕ → List Row → List Row

@@ -13,17 +13,16 @@ use Rattle.ledger.specs.declared.Reason.the-variants.{BlockRules, NoRoom}
 use Rattle.blocks.specs.Blocks.{rowsOf}
 use Rattle.blocks.specs.Rows.{tableOf, targetsOf, queriesOf, sizesOf}
 use Rattle.blocks.proofs.TableLaws.{table-back}
-use Rattle.rows.specs.Staging.{allReach, Loaded, Columns, storedRows}
-use Rattle.rows.proofs.StagingLaws.{fronts-made, fronts-stored, none-stored, room-cut, cutRows, part-count}
+use Rattle.rows.specs.Staging.{stagedRows, allReach, Loaded, Columns, storedRows}
+use Rattle.rows.proofs.StagingLaws.{fronts-made, fronts-stored, none-stored, room-cut, cutRows, staged-parts, staged-loaded, part-count}
 use Rattle.chain.specs.declared.Chain.{Chain}
 use Rattle.lift.specs.Accepted.{accepted}
 use Rattle.lift.proofs.AcceptLaws.{accepted-rules}
+use Rattle.lift.proofs.CutLaws.{used-cut, seen-cut}
 use Rattle.turn.specs.declared.TurnAnswer.{TurnAnswer}
 use Rattle.turn.specs.declared.TurnAnswer.the-variants.{Turned, Refused}
 use Rattle.turn.specs.Turns.{turnedRowsOn, turnedRows, turned, ifTurned, turn, columnAfter, TurnedInto}
 use Rattle.turn.proofs.TurnLaws.{counted, turnable}
-use Rattle.table_lift.specs.Lifts.{stagedRows}
-use Rattle.table_lift.proofs.StagedLaws.{used-cut, seen-cut, staged-parts, staged-loaded}
 use Rattle.table_turn.specs.Turns.{tableAfter, RowsTurned, rowsFilled, ColumnsTurned}
 
 -- on the rows that are staged, the answer and the turned rows are those of the table

@@ -1,8 +1,7 @@
 // The turn of a chain whose blocks stand in a lent table of row structs, into another lent table. It stages both tables in three
 // columns each and calls the function of `turn` over flat slices.
 ghost use mathlib.Core.Path.{_≡_};
-ghost use Rattle.rows.specs.Staging.{Columns};
-ghost use Rattle.table_lift.specs.Lifts.{stagedRows};
+ghost use Rattle.rows.specs.Staging.{Columns, stagedRows};
 ghost use Rattle.table_turn.specs.Turns.{RowsTurned, rowsFilled, ColumnsTurned};
 use chain::Chain;
 use ledger::Row;

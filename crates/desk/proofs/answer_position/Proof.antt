@@ -1,5 +1,5 @@
 -- Refused, or lifted. Assumes nothing.
-use Rattle.desk.proofs.AnswerLaws.{part-count}
+use Rattle.answers.proofs.AnswerLaws.{part-count}
 use Rattle.desk.proofs.LiftLaws.{position-refused, position-lifted}
 use borrow.Author.Needs.{needs}
 use Rattle.desk.proofs.answer_position.Statement.{statement}

@@ -1,5 +1,5 @@
 -- The tally's step. Assumes nothing.
-use Rattle.desk.proofs.AnswerLaws.{part-count}
+use Rattle.answers.proofs.AnswerLaws.{part-count}
 use Rattle.desk.proofs.TallyLaws.{tally-room, tally-step}
 use borrow.Author.Needs.{needs}
 use Rattle.desk.proofs.answer_tally.Statement.{statement}

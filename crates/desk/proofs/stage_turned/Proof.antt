@@ -1,5 +1,5 @@
 -- The turn with room for any record's blocks. Assumes nothing.
-use Rattle.desk.proofs.AnswerLaws.{part-count}
+use Rattle.answers.proofs.AnswerLaws.{part-count}
 use Rattle.desk.proofs.TurnLaws.{turned-staged}
 use borrow.Author.Needs.{needs}
 use Rattle.desk.proofs.stage_turned.Statement.{statement}

@@ -1,6 +1,6 @@
 -- By kind. Assumes nothing.
 use Rattle.desk.specs.Entries.{checked}
-use Rattle.desk.proofs.AnswerLaws.{code-bed, code-psl, code-chain, code-other}
+use Rattle.desk.proofs.KindLaws.{code-bed, code-psl, code-chain, code-other}
 use borrow.Author.Needs.{needs}
 use Rattle.desk.proofs.tenderchock_check.Statement.{statement}
 use Rattle.desk.proofs.tenderchock_check.Tie as tie

@@ -38,9 +38,8 @@ use denote.Triple.Table.{entered, cited}
 use denote.Triple.Walked.{says, Stays, stay-none, stay-none-slice, walkOf, AllGo, goes-none, goes-none-slice, Walks, ends-at, walked, walk-meets}
 use denote.Exit.{yes}
 use Rattle.ledger.specs.Limits.{blockLimit}
-use Rattle.rows.specs.Staging.{allReach, Loaded}
+use Rattle.rows.specs.Staging.{stagedRows, allReach, Loaded}
 use Rattle.rows.proofs.StagingLaws.{columns-of}
-use Rattle.table_lift.specs.Lifts.{stagedRows}
 use Rattle.region.specs.Regions.{liftRegion}
 use Rattle.table_lift.proofs.LiftLaws.{region-lifted}
 use Rattle.rows.proofs.Staged.{zeros, has-room, stage, unstage, lend-mut, back-mut, lend-shr, back-shr}

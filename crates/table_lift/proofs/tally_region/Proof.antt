@@ -40,9 +40,8 @@ use denote.Triple.Table.{entered, cited}
 use denote.Triple.Walked.{says, Stays, stay-none, stay-ref, stay-none-slice, walkOf, AllGo, goes-none, goes-ref, goes-none-slice, Walks, ends-at, walked, walk-meets}
 use denote.Exit.{yes}
 use Rattle.ledger.specs.Limits.{blockLimit}
-use Rattle.rows.specs.Staging.{allReach, Loaded}
+use Rattle.rows.specs.Staging.{stagedRows, allReach, Loaded}
 use Rattle.rows.proofs.StagingLaws.{columns-of}
-use Rattle.table_lift.specs.Lifts.{stagedRows}
 use Rattle.region.specs.Tallies.{tallyStep}
 use Rattle.table_lift.proofs.LiftLaws.{region-tallied}
 use Rattle.rows.proofs.Staged.{zeros, has-room, stage, unstage, lend-mut, back-mut, lend-shr, back-shr}

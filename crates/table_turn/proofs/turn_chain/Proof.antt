@@ -36,9 +36,8 @@ use denote.Triple.Table.{entered, cited}
 use denote.Triple.Walked.{says, Stays, stay-none, stay-none-slice, gave-slice, walkOf, AllGo, goes-none, goes-none-slice, goes-gave-slice, Walks, ends-at, walked, walk-meets}
 use denote.Exit.{yes}
 use Rattle.ledger.specs.Limits.{blockLimit}
-use Rattle.rows.specs.Staging.{allReach, Loaded, storedRows}
+use Rattle.rows.specs.Staging.{stagedRows, allReach, Loaded, storedRows}
 use Rattle.rows.proofs.StagingLaws.{columns-of}
-use Rattle.table_lift.specs.Lifts.{stagedRows}
 use Rattle.table_turn.specs.Turns.{rowsFilled, ColumnsTurned}
 use Rattle.table_turn.proofs.RowLaws.{rows-turned}
 use Rattle.rows.proofs.Staged.{zeros, has-room, stage, unstage, lend-mut, back-mut, lend-shr, back-shr}

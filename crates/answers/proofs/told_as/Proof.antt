@@ -1,8 +1,8 @@
 -- Over the most that is told, or not. Assumes nothing.
 use borrow.Author.Needs.{needs}
-use Rattle.desk.proofs.AnswerLaws.{told-most, told-itself}
-use Rattle.desk.proofs.told_as.Statement.{statement}
-use Rattle.desk.proofs.told_as.Tie as tie
+use Rattle.answers.proofs.AnswerLaws.{told-most, told-itself}
+use Rattle.answers.proofs.told_as.Statement.{statement}
+use Rattle.answers.proofs.told_as.Tie as tie
 
 mul-result : tie.Need-mul-result
 mul-result c = search needs

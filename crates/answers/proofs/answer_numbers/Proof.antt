@@ -1,11 +1,13 @@
 -- Too little room, or all of it written. Assumes nothing.
-use Rattle.desk.proofs.AnswerLaws.{numbers-short, numbers-put}
+use Rattle.answers.proofs.AnswerLaws.{numbers-short, numbers-put}
 use borrow.Author.Needs.{needs}
-use Rattle.desk.proofs.answer_numbers.Statement.{statement}
-use Rattle.desk.proofs.answer_numbers.Tie as tie
-
-mul-if1 : tie.Need-mul-if1
-mul-if1 c = search needs
+use Rattle.answers.proofs.answer_numbers.Statement.{statement}
+use Rattle.answers.proofs.answer_numbers.Tie as tie
+use Rattle.answers.proofs.answer_numbers.Reads as reads
+use Rattle.answers.proofs.answer_numbers.Lts as lts
+use Rattle.answers.proofs.refused_by.Reads as refused-by-reads
+use Rattle.answers.proofs.told_as.Reads as told-as-reads
+use Rattle.binary.proofs.put_words.Reads as put-words-reads
 
 refused-by-requires : tie.Need-refused-by-requires
 refused-by-requires c κs = search needs
@@ -29,7 +31,6 @@ pub answer-numbers-spec : {M : Type 1} → statement M
 answer-numbers-spec =
     tie.close
     (tie.spec
-    mul-if1
     refused-by-requires
     returns
     put-words-requires

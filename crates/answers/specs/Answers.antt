@@ -1,15 +1,16 @@
--- What an entry answers (docs/DESK.md, "Answers"), and what the lent bytes hold then.
+-- What an entry for another language answers (docs/DESK.md, "Answers"), and what the lent bytes hold then.
 use Prim.Native.Nat.{ℕ, _+_, _*_, min}
 use mathlib.Core.Path.{_≡_}
 use mathlib.Core.Bool.{Bool, true, false}
 use mathlib.Core.List.{List, [], _++_}
 use lib.ListN.{length, drop}
-use lib.Dec.{leb, eqb}
+use lib.Dec.{leb}
 use Rattle.ledger.specs.declared.Reason.{Reason}
-use Rattle.ledger.specs.declared.Reason.the-variants.{BadWord, NoRoom}
+use Rattle.ledger.specs.declared.Reason.the-variants.{NoRoom}
 use Rattle.ledger.specs.declared.Refusal.{Refusal}
 use Rattle.ledger.specs.Reasons.{reasonNumber}
-use Rattle.binary.specs.Bytes.{wordsBytes}
+use Rattle.ledger.specs.declared.Row.{Row}
+use Rattle.binary.specs.Bytes.{wordsBytes, rowsNumbers}
 
 -- places and counts over this are told as this: 2^60 − 1
 abbrev pub mostTold : ℕ
@@ -55,6 +56,12 @@ roomed end room count bytes = pickOutcome (leb (length bytes) room) (gives count
 unfoldable pub numbered : ℕ → ℕ → List ℕ → Outcome
 numbered end room vs = roomed end room (length vs) (wordsBytes vs)
 
--- by the kind of text: 1 BED, 2 PSL, 3 chain; any other is 6 at place 0
-unfoldable pub byKind : ℕ → Outcome → Outcome → Outcome → Outcome
-byKind kind bed psl chain = pickOutcome (eqb kind 1) bed (pickOutcome (eqb kind 2) psl (pickOutcome (eqb kind 3) chain (refusesBy BadWord 0)))
+-- a record's numbers, then those of its rows
+abbrev pub recordNumbers : List ℕ → List Row → List ℕ
+recordNumbers fields rows = fields ++ rowsNumbers rows
+
+abbrev pub recordBytes : List ℕ → List Row → List ℕ
+recordBytes fields rows = wordsBytes (recordNumbers fields rows)
+
+unfoldable pub recorded : ℕ → ℕ → List ℕ → List Row → Outcome
+recorded end room fields rows = numbered end room (recordNumbers fields rows)

@@ -1,4 +1,4 @@
--- Chains over a table of rows: the rows that are staged are seen as the table is. Assumes nothing.
+-- An accepted chain is seen by as many first rows of its table as a record may have blocks. Assumes nothing.
 use mathlib.Core.Path.{_≡_, refl, ap, _∙_}
 use mathlib.Core.Bool.{Bool, true, false, _&&_}
 use mathlib.Core.List.{List}
@@ -8,15 +8,11 @@ use lib.ListN.{length, take}
 use lib.Seq.{take-take}
 use Rattle.ledger.specs.Limits.{blockLimit}
 use Rattle.ledger.specs.declared.Row.{Row}
-use Rattle.blocks.specs.Rows.{tableOf}
-use Rattle.blocks.proofs.TableLaws.{table-back}
-use Rattle.rows.specs.Staging.{allReach, Loaded, Columns}
-use Rattle.rows.proofs.StagingLaws.{first-fronts, loaded-targets, loaded-queries, loaded-sizes, cutRows, rows-cut}
+use Rattle.rows.proofs.StagingLaws.{cutRows, rows-cut}
 use Rattle.chain.specs.declared.Chain.{Chain}
 use Rattle.chain.specs.Tests.{namesFit, strandFits, fieldsFit, spansFit, rowsFit, chainValid}
 use Rattle.lift.specs.Accepted.{used, accepted}
 use Rattle.lift.proofs.AcceptLaws.{accepted-rules}
-use Rattle.table_lift.specs.Lifts.{stagedRows}
 use Rattle.blocks.specs.Blocks.{rowNumbersFit}
 
 -- the chain rules, as they look at the rows in use
@@ -44,14 +40,3 @@ seen-cut {X} g blind c rows = rw (accepted-cut c rows) (go (accepted c rows) ref
     go : (t : Bool) → accepted c rows ≡ t → g t (used c (cutRows rows)) ≡ g t (used c rows)
     go true e = ap (g true) (used-cut c rows e)
     go false e = blind _ _
-
--- the rows of the parts of three columns that a table of so many rows fills
-pub staged-parts : (rows n : ℕ) (ts qs zs : List ℕ) → n ≡ min rows blockLimit → tableOf (take n ts) (take n qs) (take n zs) ≡ stagedRows rows ts qs zs
-staged-parts rows n ts qs zs e = rw (e, first-fronts (min rows blockLimit) ts qs zs)
-
--- three columns that a table was loaded into hold its first rows
-pub staged-loaded : (rows : List Row) (ts ts′ qs qs′ zs zs′ : List ℕ) → Columns ts qs zs → Loaded (allReach (length rows) ts qs zs) rows ts ts′ qs qs′ zs zs′
-    → stagedRows (length rows) ts′ qs′ zs′ ≡ cutRows rows
-staged-loaded rows ts ts′ qs qs′ zs zs′ room h =
-    first-fronts (min (length rows) blockLimit) ts′ qs′ zs′
-    ∙ rw (loaded-targets rows ts ts′ qs qs′ zs zs′ room h, loaded-queries rows ts ts′ qs qs′ zs zs′ room h, loaded-sizes rows ts ts′ qs qs′ zs zs′ room h) (table-back (cutRows rows))

@@ -1,8 +1,8 @@
 -- The reason's number fits below the place. Assumes nothing.
-use Rattle.desk.proofs.AnswerLaws.{code-fits}
+use Rattle.answers.proofs.AnswerLaws.{code-fits}
 use borrow.Author.Needs.{needs}
-use Rattle.desk.proofs.refusal_code.Statement.{statement}
-use Rattle.desk.proofs.refusal_code.Tie as tie
+use Rattle.answers.proofs.refusal_code.Statement.{statement}
+use Rattle.answers.proofs.refusal_code.Tie as tie
 
 told-as-requires : tie.Need-told-as-requires
 told-as-requires c κs = search needs
