@@ -1,23 +1,21 @@
 -- Storing the rows of an accepted BED line. Assumes nothing.
-use mathlib.Core.Path.{_≡_, refl, sym, ap, _∙_}
-use mathlib.Core.Bool.{Bool, true, false}
-use mathlib.Core.List.{List, [], _∷_}
-use Prim.Native.Nat.{ℕ, _+_, _-_, _*_, _≤_, _<_}
+use mathlib.Core.Path.{_≡_, refl, sym, _∙_}
+use mathlib.Core.List.{List}
+use Prim.Native.Nat.{ℕ, _-_, _≤_, _<_}
 use native.Mathlib.Omega.{arith}
 use lib.ListN.{length, take, drop, length-drop}
 use lib.Seq.{sets, take-all}
-use lib.Dec.{leb}
 use borrow.Author.Tests.{le-leb, lt-leb}
 use Rattle.ledger.specs.Limits.{blockLimit, largestNumber}
 use Rattle.ledger.specs.declared.Reason.the-variants.{NoRoom}
 use Rattle.ledger.specs.declared.Refusal.{Refusal}
-use Rattle.blocks.specs.Blocks.{shifted, shiftedWithin, sumsFrom, sumsWithin, rowsOf, blocksFill, allBetween, sumOf}
+use Rattle.blocks.specs.Blocks.{shiftedWithin, sumsWithin, rowsOf}
 use Rattle.blocks.proofs.RuleLaws.{shifted-within, sums-within, total-fits, fill-low}
 use Rattle.bed.specs.declared.Bed.{Bed}
 use Rattle.bed.specs.declared.BedAnswer.{BedAnswer}
 use Rattle.bed.specs.declared.BedAnswer.the-variants.{Accepted, Refused}
 use Rattle.bed.specs.Records.{bedSizes, bedStarts, bedTargets, bedQueries}
-use Rattle.bed.specs.Read.{thenCheck, roomCheck, rowsAfter, bedCheck, bedRead, Blocked, Staged, Stored, RowsStored, BedRead}
+use Rattle.bed.specs.Read.{roomCheck, bedCheck, bedRead, Staged, Stored, RowsStored, BedRead}
 use Rattle.bed.proofs.AcceptLaws.{accepted-fills, accepted-span}
 use Rattle.bed.proofs.ValidLaws.{accepted-fields}
 

@@ -6,13 +6,12 @@ use Prim.Native.Nat.{ℕ, suc, _+_, _-_, _*_, _≤_, _<_}
 use native.Mathlib.Omega.{arith}
 use lib.ListN.{length, getD, take}
 use lib.Seq.{take-all}
-use lib.Dec.{leb, eqb}
-use borrow.Author.Tests.{lt-ltb, le-ltb, le-leb, leb-true, eq-eqb, ne-eqb}
+use lib.Dec.{eqb}
+use borrow.Author.Tests.{lt-ltb, le-ltb, le-leb, eq-eqb, ne-eqb}
 use Rattle.ledger.specs.declared.Part.{Part}
 use Rattle.ledger.specs.Limits.{nameLimit, blockLimit, largestPosition, bedScoreLimit, colourLimit}
 use Rattle.text.specs.Words.{wordAt, wordCount, bytesOf}
 use Rattle.text.proofs.Laws.{either}
-use Rattle.text.proofs.TextLaws.{both}
 use Rattle.numbers.specs.declared.Spelt.the-variants.{Means}
 use Rattle.numbers.specs.Lists.{valuesOf}
 use Rattle.kinds.specs.declared.Range.{Range}
@@ -30,11 +29,11 @@ use Rattle.bed.specs.declared.BedAnswer.the-variants.{Accepted}
 use Rattle.bed.specs.Table.{bedColumns}
 use Rattle.bed.specs.Records.{bedSizes, bedStarts, bedTargets, bedQueries}
 use Rattle.bed.specs.Read.{bedCheck}
-use Rattle.bed.specs.Rules.{WordNumber, three-to-nine, twelve, BedLine}
+use Rattle.bed.specs.Rules.{WordNumber, BedLine}
 use Rattle.bed.specs.Tests.{ifThere, namesFit, isDot, strandFits, fieldsFit, spansFit, rowsFit, bedValid}
-use Rattle.bed.proofs.ColumnLaws.{block-sizes}
-use Rattle.bed.proofs.AcceptLaws.{lineValues, accepts-of, number-is, thick-of, read-all, accepted-number, accepted-span, accepted-fills, accepted-count, accepted-starts}
-use Rattle.bed.proofs.LineLaws.{least-words, value-spelt, line-of}
+use Rattle.bed.proofs.ColumnLaws.{number-is, least-words, by-number, block-sizes}
+use Rattle.bed.proofs.AcceptLaws.{lineValues, accepts-of, thick-of, read-all, accepted-number, accepted-span, accepted-fills, accepted-count, accepted-starts}
+use Rattle.bed.proofs.LineLaws.{value-spelt, line-of}
 use Rattle.columns.specs.Names.{partOf, lengthFits}
 use Rattle.columns.proofs.WordLaws.{word-length}
 
@@ -149,17 +148,15 @@ module _ (s : List ℕ) (r : Bed) (ok : bedCheck s ≡ Accepted r) where
 
   sizes-in : allBetween 1 largestPosition (bedSizes s r) ≡ true
   unfolding bedSizes allBetween
-  sizes-in = go (wordCount s 0) refl (accepted-number s r ok)
-    where
-      go : (n : ℕ) → wordCount s 0 ≡ n → WordNumber n → allBetween 1 largestPosition (bedSizes s r) ≡ true
-      go n q (three-to-nine x y) =
-          let w = line .words in
-          let a = accepted-span s r ok in
-          let b = accepted-fields .endRange in
-          rw (ne-eqb (r .words) 12 (λ z. omega arith), le-leb 1 (r .chromEnd - r .chromStart) (omega arith), le-leb (r .chromEnd - r .chromStart) largestPosition (omega arith))
-      go n q twelve =
-          let a = accepts-of s r ok in
-          rw (eq-eqb (r .words) 12 (line .words ∙ q)) (between-is 1 largestPosition (valuesOf (bytesOf s (wordAt s 0 10))) (block-sizes s (a .end) (read-all s (a .end) (a .read) 0 q) q .1))
+  sizes-in =
+      by-number (accepted-number s r ok) _ (λ x y.
+      let w = line .words in
+      let a = accepted-span s r ok in
+      let b = accepted-fields .endRange in
+      rw (ne-eqb (r .words) 12 (λ z. omega arith), le-leb 1 (r .chromEnd - r .chromStart) (omega arith), le-leb (r .chromEnd - r .chromStart) largestPosition (omega arith)))
+      (λ q.
+      let a = accepts-of s r ok in
+      rw (eq-eqb (r .words) 12 (line .words ∙ q)) (between-is 1 largestPosition (valuesOf (bytesOf s (wordAt s 0 10))) (block-sizes s (a .end) (read-all s (a .end) (a .read) 0 q) q .1)))
 
   pub accepted-rows : RowsObey r (bedTargets s r) (bedQueries s r) (bedSizes s r)
   unfolding bedTargets bedQueries

@@ -6,11 +6,15 @@ use Rattle.bed.proofs.after_text.Tie as tie
 use Rattle.bed.proofs.after_text.Reads as reads
 use Rattle.bed.proofs.after_text.Lts as lts
 use Rattle.bed.proofs.after_words.Reads as after-words-reads
-use Rattle.bed.proofs.check_words.Reads as check-words-reads
+use Rattle.bed.proofs.is_word_count.Reads as is-word-count-reads
+use Rattle.text.proofs.check_words.Reads as check-words-reads
 use Rattle.text.proofs.count_words.Reads as count-words-reads
 
 count-words-requires : tie.Need-count-words-requires
 count-words-requires c κs = search needs
+
+is-word-count-requires : tie.Need-is-word-count-requires
+is-word-count-requires c κs = search needs
 
 check-words-requires : tie.Need-check-words-requires
 check-words-requires c κs = search needs
@@ -38,6 +42,7 @@ after-text-spec =
     tie.close
     (tie.spec
     count-words-requires
+    is-word-count-requires
     check-words-requires
     enum-known-x
     enum-told
