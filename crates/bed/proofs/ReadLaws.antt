@@ -58,14 +58,15 @@ module _ (r : Bed) (l : List ℕ) where
   pub block-default : (v : ℕ) (l₁ l₂ : List ℕ) → (r .words ≡ 12 → ⊥) → v ≡ r .chromEnd - r .chromStart → l₁ ≡ set l 0 v → l₂ ≡ set l₁ blockLimit 0 → l₂ ≡ withDefault r l
   block-default v l₁ l₂ h e e₁ e₂ = rw (ne-eqb (r .words) 12 h, e₂, e₁, e)
 
+-- a part of the working room from a place on is what stands there
+pub part-all : (l : List ℕ) (b : ℕ) → take (length l - b) (drop b l) ≡ drop b l
+part-all l b = take-all (length l - b) (drop b l) (rw length-drop (omega arith))
+
 -- the blocks, tested in the working room
 module _ (s : List ℕ) (r : Bed) (l : List ℕ) (held : Blocked s r l) (t : Bool) (v : ℕ) (ev : v ≡ r .chromEnd - r .chromStart)
     (et : t ≡ blocksFill 0 v (take (r .blockCount) (take (length l - blockLimit) (drop blockLimit l))) (take (r .blockCount) l)) where
-  rest-all : take (length l - blockLimit) (drop blockLimit l) ≡ drop blockLimit l
-  rest-all = take-all (length l - blockLimit) (drop blockLimit l) (rw length-drop (omega arith))
-
   tested : t ≡ blocksFill 0 (r .chromEnd - r .chromStart) (bedStarts s r) (bedSizes s r)
-  tested = rw (← ev, ← (held .starts), ← (held .sizes)) (rw rest-all at et)
+  tested = rw (← ev, ← (held .starts), ← (held .sizes)) (rw (part-all l blockLimit) at et)
 
   pub blocks-checked : (c : Check) → c ≡ require t BlockRules (length s) Holds → c ≡ blockCheck s r
   unfolding blockCheck
