@@ -24,7 +24,7 @@ use Rattle.bed.specs.declared.BedAnswer.{BedAnswer}
 use Rattle.bed.specs.declared.BedAnswer.the-variants.{Accepted, Refused}
 use Rattle.bed.specs.Table.{bedColumns}
 use Rattle.bed.specs.Records.{isWordCount, bedRecord, bedSizes, bedStarts}
-use Rattle.bed.specs.Read.{thenCheck, thenRead, bedWordsCheck, thickFits, spanCheck, blockCheck, afterSpans, afterLines, afterColumns, afterWords, afterText, bedCheck}
+use Rattle.bed.specs.Read.{thenCheck, thenRead, bedWordsCheck, thickFits, spanCheck, blockCheck, afterSpans, afterColumns, afterWords, bedCheck}
 use Rattle.bed.specs.Rules.{WordNumber}
 use Rattle.bed.proofs.ColumnLaws.{number-of, by-number, all-columns, block-sizes, block-starts}
 
@@ -59,21 +59,21 @@ read-then (columns.Refused x) rest r e = absurd (let z : _≡_ {A = ℕ} 0 1 = c
 
 module _ (s : List ℕ) (r : Bed) where
   pub accepts-of : bedCheck s ≡ Accepted r → Accepts s r
-  unfolding bedCheck afterText afterWords afterColumns afterLines afterSpans
+  unfolding bedCheck afterWords afterColumns afterSpans
   accepts-of e =
       let n = wordCount s 0 in
       let q = bedRecord n (length s) (lineValues s) in
-      let a = check-then (textCheck s) (afterText s) r e in
+      let a = check-then (textCheck s) (thenCheck (bedWordsCheck s n) (afterWords s n)) r e in
       let b = check-then (bedWordsCheck s n) (afterWords s n) r (a .1) in
       let c = read-then (columnsFrom (take n bedColumns) 0 s 0) (afterColumns s n (lineValues s)) r (b .1) in
-      let d = check-then (lastLineCheck s 0) (afterLines s n (lineValues s)) r (c .on) in
+      let d = check-then (lastLineCheck s 0) (thenCheck (spanCheck q (lineValues s)) (afterSpans s q)) r (c .on) in
       let f = check-then (spanCheck q (lineValues s)) (afterSpans s q) r (d .1) in
       let g = check-then (blockCheck s q) (Accepted q) r (f .1) in
       let i : q ≡ r = cc (g .1) in
       record { text = a .0; number = b .0; end = c .end; read = c .read; line = d .0; is = sym i; spans = rw i at (f .0); blocks = rw i at (g .0) }
 
   pub accepts-is : Accepts s r → bedCheck s ≡ Accepted r
-  unfolding bedCheck afterText afterWords afterColumns afterLines afterSpans
+  unfolding bedCheck afterWords afterColumns afterSpans
   accepts-is a = rw (a .text, a .number, a .read, a .line, ← (a .is), a .spans, a .blocks)
 
 -- the checks one by one

@@ -35,7 +35,7 @@ use Rattle.bed.specs.declared.BedAnswer.{BedAnswer}
 use Rattle.bed.specs.declared.BedAnswer.the-variants.{Refused}
 use Rattle.bed.specs.Table.{bedColumns}
 use Rattle.bed.specs.Records.{isWordCount, valueOr, bedRecord}
-use Rattle.bed.specs.Read.{spanCheck, afterLines, afterColumns, afterWords, afterText, bedCheck, Counted, Listed, Staged}
+use Rattle.bed.specs.Read.{spanCheck, afterColumns, afterWords, bedCheck, Counted, Listed, Staged}
 use Rattle.columns.proofs.TableLaws.{codes-length, read-is, read-next, values-same, lists-are}
 use Rattle.bed.specs.Rules.{WordNumber, three-to-nine, twelve}
 
@@ -99,7 +99,7 @@ module _ (n : ℕ) (a b : List ℕ) (same : (i : ℕ) → getD a i 0 ≡ getD b 
   )
 
   pub columns-same : (s : List ℕ) → afterColumns s n a ≡ afterColumns s n b
-  unfolding afterColumns afterLines spanCheck
+  unfolding afterColumns spanCheck
   columns-same s = rw (record-same (length s), same 5, same 13, same 15)
 
 -- the lists of a line of twelve words
@@ -222,23 +222,20 @@ words-few s n d h = count-most n (h .good)
 pub words-length : (s : List ℕ) (n : ℕ) (d : List ℕ) → Counted s n d → n ≡ length (take n bedCodes)
 words-length s n d h = codes-length bedCodes bedColumns codes-same codes-few n (count-most n (h .good))
 
-module _ (s : List ℕ) (n : ℕ) (en : n ≡ wordCount s 0) (t : Bool) (et : t ≡ isWordCount n) (c : Check) (ec : c ≡ wordsCheck s 0 n 12 t) where
-  pub words-counted : (d : List ℕ) → length d ≡ 2 * blockLimit → c ≡ Holds → Counted s n d
-  words-counted d l q = record { long = l; count = en; good = sym et ∙ words-hold s 0 n 12 t (sym ec ∙ q) .1 }
-
-  pub text-refused : (l : List ℕ) (x : Refusal) → c ≡ check.Refused x → Staged s (afterText s) l (Refused x)
-  unfolding afterText
-  text-refused l x q = record { is = rw (← en, ← et, ← ec, q); held = λ b e. absurd (let k : _≡_ {A = ℕ} 0 1 = cc in omega arith) }
-
-  pub text-on : (l : List ℕ) (a : BedAnswer) → c ≡ Holds → Staged s (afterWords s n) l a → Staged s (afterText s) l a
-  unfolding afterText
-  text-on l a q h = record { is = rw (← en, ← et, ← ec, q) (h .is); held = h .held }
-
-module _ (s : List ℕ) (c : Check) (ec : c ≡ textCheck s) where
-  pub check-refused : (l : List ℕ) (x : Refusal) → c ≡ check.Refused x → Staged s (bedCheck s) l (Refused x)
+-- the text's checks
+module _ (s : List ℕ) (b : Check) (eb : b ≡ textCheck s) where
+  pub check-refused : (l : List ℕ) (x : Refusal) → b ≡ check.Refused x → Staged s (bedCheck s) l (Refused x)
   unfolding bedCheck
-  check-refused l x q = record { is = rw (← ec, q); held = λ b e. absurd (let k : _≡_ {A = ℕ} 0 1 = cc in omega arith) }
+  check-refused l x q = record { is = rw (← eb, q); held = λ r e. absurd (let k : _≡_ {A = ℕ} 0 1 = cc in omega arith) }
 
-  pub check-on : (l : List ℕ) (a : BedAnswer) → c ≡ Holds → Staged s (afterText s) l a → Staged s (bedCheck s) l a
-  unfolding bedCheck
-  check-on l a q h = record { is = rw (← ec, q) (h .is); held = h .held }
+  module _ (n : ℕ) (en : n ≡ wordCount s 0) (t : Bool) (et : t ≡ isWordCount n) (c : Check) (ec : c ≡ wordsCheck s 0 n 12 t) where
+    pub words-counted : (d : List ℕ) → length d ≡ 2 * blockLimit → c ≡ Holds → Counted s n d
+    words-counted d l q = record { long = l; count = en; good = sym et ∙ words-hold s 0 n 12 t (sym ec ∙ q) .1 }
+
+    pub text-refused : (l : List ℕ) (x : Refusal) → b ≡ Holds → c ≡ check.Refused x → Staged s (bedCheck s) l (Refused x)
+    unfolding bedCheck
+    text-refused l x p q = record { is = rw (← eb, p, ← en, ← et, ← ec, q); held = λ r e. absurd (let k : _≡_ {A = ℕ} 0 1 = cc in omega arith) }
+
+    pub text-on : (l : List ℕ) (a : BedAnswer) → b ≡ Holds → c ≡ Holds → Staged s (afterWords s n) l a → Staged s (bedCheck s) l a
+    unfolding bedCheck
+    text-on l a p q h = record { is = rw (← eb, p, ← en, ← et, ← ec, q) (h .is); held = h .held }

@@ -26,7 +26,7 @@ use Rattle.ledger.specs.Strands.{strandIs}
 use Rattle.ledger.specs.Parts.{partAt}
 use Rattle.bed.specs.Records.{valueOr, placeOr, bedRecord, bedSizes, bedStarts}
 use Rattle.bed.specs.Tests.{ifThere}
-use Rattle.bed.specs.Read.{thickPlace, spanCheck, blockCheck, withDefault, afterSpans, afterLines, afterColumns, Listed, Blocked, Staged}
+use Rattle.bed.specs.Read.{thickPlace, spanCheck, blockCheck, withDefault, afterSpans, afterColumns, Listed, Blocked, Staged}
 
 -- a column or its default
 module _ (n : ℕ) (vs : List ℕ) (k d : ℕ) where
@@ -124,24 +124,19 @@ module _ (s : List ℕ) (l : List ℕ) (c : Check) where
     unfolding afterSpans
     spans-accepted q = record { is = rw (← ec, q); held = λ b e. let p : r ≡ b = cc in rw p at held }
 
-  module _ (n : ℕ) (vs : List ℕ) where
-    module _ (r : Bed) (er : r ≡ bedRecord n (length s) vs) (ec : c ≡ spanCheck r vs) where
-      pub lines-refused : (x : Refusal) → c ≡ check.Refused x → Staged s (afterLines s n vs) l (Refused x)
-      unfolding afterLines
-      lines-refused x q = record { is = rw (← er, ← ec, q); held = λ b e. absurd (let z : _≡_ {A = ℕ} 0 1 = cc in omega arith) }
+  module _ (n : ℕ) (vs : List ℕ) (ec : c ≡ lastLineCheck s 0) where
+    pub columns-refused : (x : Refusal) → c ≡ check.Refused x → Staged s (afterColumns s n vs) l (Refused x)
+    unfolding afterColumns
+    columns-refused x q = record { is = rw (← ec, q); held = λ b e. absurd (let z : _≡_ {A = ℕ} 0 1 = cc in omega arith) }
 
-      pub lines-on : (l′ : List ℕ) (a : BedAnswer) → c ≡ Holds → Staged s (afterSpans s r) l′ a → Staged s (afterLines s n vs) l′ a
-      unfolding afterLines
-      lines-on l′ a q h = record { is = rw (← er, ← ec, q) (h .is); held = h .held }
-
-    module _ (ec : c ≡ lastLineCheck s 0) where
-      pub columns-refused : (x : Refusal) → c ≡ check.Refused x → Staged s (afterColumns s n vs) l (Refused x)
+    module _ (q : c ≡ Holds) (r : Bed) (er : r ≡ bedRecord n (length s) vs) (d : Check) (ed : d ≡ spanCheck r vs) where
+      pub lines-refused : (x : Refusal) → d ≡ check.Refused x → Staged s (afterColumns s n vs) l (Refused x)
       unfolding afterColumns
-      columns-refused x q = record { is = rw (← ec, q); held = λ b e. absurd (let z : _≡_ {A = ℕ} 0 1 = cc in omega arith) }
+      lines-refused x k = record { is = rw (← ec, q, ← er, ← ed, k); held = λ b e. absurd (let z : _≡_ {A = ℕ} 0 1 = cc in omega arith) }
 
-      pub columns-on : (l′ : List ℕ) (a : BedAnswer) → c ≡ Holds → Staged s (afterLines s n vs) l′ a → Staged s (afterColumns s n vs) l′ a
+      pub lines-on : (l′ : List ℕ) (a : BedAnswer) → d ≡ Holds → Staged s (afterSpans s r) l′ a → Staged s (afterColumns s n vs) l′ a
       unfolding afterColumns
-      columns-on l′ a q h = record { is = rw (← ec, q) (h .is); held = h .held }
+      lines-on l′ a k h = record { is = rw (← ec, q, ← er, ← ed, k) (h .is); held = h .held }
 
 pub listed-as : (s : List ℕ) (r b : Bed) (l : List ℕ) → r ≡ b → Listed s b l → Listed s r l
 listed-as s r b l e h = rw e h

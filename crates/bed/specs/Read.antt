@@ -63,25 +63,17 @@ roomCheck s r room = require (leb (r .blockCount) room) NoRoom (length s) Holds
 unfoldable pub afterSpans : List ℕ → Bed → BedAnswer
 afterSpans s r = thenCheck (blockCheck s r) (Accepted r)
 
--- after the lines: the spans
-unfoldable pub afterLines : List ℕ → ℕ → List ℕ → BedAnswer
-afterLines s n vs = thenCheck (spanCheck (bedRecord n (length s) vs) vs) (afterSpans s (bedRecord n (length s) vs))
-
--- after the columns: a surplus line (2)
+-- after the columns: a surplus line (2), then the spans
 unfoldable pub afterColumns : List ℕ → ℕ → List ℕ → BedAnswer
-afterColumns s n vs = thenCheck (lastLineCheck s 0) (afterLines s n vs)
+afterColumns s n vs = thenCheck (lastLineCheck s 0) (thenCheck (spanCheck (bedRecord n (length s) vs) vs) (afterSpans s (bedRecord n (length s) vs)))
 
 -- after the number of words: the columns from the left (4, 5, 6, 8)
 unfoldable pub afterWords : List ℕ → ℕ → BedAnswer
 afterWords s n = thenRead (columnsFrom (take n bedColumns) 0 s 0) (afterColumns s n (valuesFrom (take n bedColumns) 0 s 0))
 
--- after the text's length and bytes: the number of words (2)
-unfoldable pub afterText : List ℕ → BedAnswer
-afterText s = thenCheck (bedWordsCheck s (wordCount s 0)) (afterWords s (wordCount s 0))
-
--- THE TEXT CHECKER: the reader without room
+-- THE TEXT CHECKER, the reader without room: the text's length and bytes (1, 3), then the number of words
 unfoldable pub bedCheck : List ℕ → BedAnswer
-bedCheck s = thenCheck (textCheck s) (afterText s)
+bedCheck s = thenCheck (textCheck s) (thenCheck (bedWordsCheck s (wordCount s 0)) (afterWords s (wordCount s 0)))
 
 abbrev pub thenRoom : BedAnswer → List ℕ → ℕ → BedAnswer
 thenRoom (Accepted r) s room = thenCheck (roomCheck s r room) (Accepted r)

@@ -1,21 +1,19 @@
 // One BED line: reader, text checker, record checker, writer, over three flat slices of blocks.
 ghost use mathlib.Core.Path.{_≡_};
-ghost use mathlib.Core.Bool.{true};
-ghost use Prim.Native.Nat.{_+_, _*_, _≤_};
+ghost use Prim.Native.Nat.{_*_, _≤_};
 ghost use lib.ListN.{length, take};
 ghost use Rattle.ledger.specs.Limits.{nameLimit, blockLimit};
 ghost use Rattle.writing.specs.Answers.{Wrote};
 ghost use Rattle.bed.specs.Records.{isWordCount, valueOr, placeOr, bedRecord};
 ghost use Rattle.bed.specs.Tests.{ifThere, namesFit, isDot, strandFits, fieldsFit, spansFit, rowsFit, bedValid};
 ghost use Rattle.bed.specs.Write.{namesShow, writeCheck, bedValues, bedText, RowsThere, ListsPut, Writable, BedWrote, recordCheck};
-ghost use Rattle.bed.specs.Read.{thickFits, thickPlace, spanCheck, blockCheck, withDefault, afterSpans, afterLines, afterColumns, afterWords, afterText, bedCheck, Counted, Listed, Blocked, Staged, Stored, RowsStored, BedRead};
+ghost use Rattle.bed.specs.Read.{thickFits, thickPlace, spanCheck, blockCheck, withDefault, afterSpans, afterColumns, afterWords, bedCheck, Counted, Listed, Blocked, Staged, Stored, RowsStored, BedRead};
 use columns::Columns;
 use ledger::Part;
 use ledger::Reason;
 use ledger::Refusal;
 use ledger::Strand;
 use text::Check;
-use text::Class;
 use writing::Writing;
 
 // The record of a BED line. A name is a part of the text; a colour is one number, (red × 256 + green) × 256 + blue.
@@ -167,26 +165,20 @@ fn after_spans(text: &[u8], r: Bed, lists: &mut [u64]) -> BedAnswer
     }
 }
 
-// The spans, and on.
-fn after_lines(text: &[u8], n: u64, values: &[u64], lists: &mut [u64]) -> BedAnswer
-    requires { ⌜ Listed (now text) (bedRecord n (length (now text)) (now values)) (now lists) ⌝ }
-    ensures { λ x. ⌜ Staged (now (text .entry)) (afterLines (now (text .entry)) n (now (values .entry))) (now (lists .exit)) x ⌝ }
-{
-    let r = record_of(values, n, text.len());
-    match check_spans(r, values) {
-        Check::Refused(x) => BedAnswer::Refused(x),
-        Check::Holds => after_spans(text, r, lists),
-    }
-}
-
-// A surplus line, and on.
+// A surplus line, the spans, and on.
 fn after_columns(text: &[u8], n: u64, values: &[u64], lists: &mut [u64]) -> BedAnswer
     requires { ⌜ Listed (now text) (bedRecord n (length (now text)) (now values)) (now lists) ⌝ }
     ensures { λ x. ⌜ Staged (now (text .entry)) (afterColumns (now (text .entry)) n (now (values .entry))) (now (lists .exit)) x ⌝ }
 {
     match text::check_last_line(text, 0) {
         Check::Refused(x) => BedAnswer::Refused(x),
-        Check::Holds => after_lines(text, n, values, lists),
+        Check::Holds => {
+            let r = record_of(values, n, text.len());
+            match check_spans(r, values) {
+                Check::Refused(x) => BedAnswer::Refused(x),
+                Check::Holds => after_spans(text, r, lists),
+            }
+        }
     }
 }
 
@@ -203,18 +195,6 @@ fn after_words(text: &[u8], n: usize, lists: &mut [u64]) -> BedAnswer
     }
 }
 
-// The number of words, and on.
-fn after_text(text: &[u8], lists: &mut [u64]) -> BedAnswer
-    requires { ⌜ length (now lists) ≡ 2 * blockLimit ⌝ }
-    ensures { λ x. ⌜ Staged (now (text .entry)) (afterText (now (text .entry))) (now (lists .exit)) x ⌝ }
-{
-    let n = text::count_words(text, 0);
-    match text::check_words(text, 0, n, 12, is_word_count(n as u64)) {
-        Check::Refused(x) => BedAnswer::Refused(x),
-        Check::Holds => after_words(text, n, lists),
-    }
-}
-
 // All checks of a text, the blocks of an accepted line in the working room.
 fn stage(text: &[u8], lists: &mut [u64]) -> BedAnswer
     requires { ⌜ length (now lists) ≡ 2 * blockLimit ⌝ }
@@ -222,7 +202,13 @@ fn stage(text: &[u8], lists: &mut [u64]) -> BedAnswer
 {
     match text::check_text(text) {
         Check::Refused(x) => BedAnswer::Refused(x),
-        Check::Holds => after_text(text, lists),
+        Check::Holds => {
+            let n = text::count_words(text, 0);
+            match text::check_words(text, 0, n, 12, is_word_count(n as u64)) {
+                Check::Refused(x) => BedAnswer::Refused(x),
+                Check::Holds => after_words(text, n, lists),
+            }
+        }
     }
 }
 

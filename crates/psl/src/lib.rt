@@ -1,6 +1,6 @@
 // One PSL line: reader, text checker, record checker, writer, over three flat slices of blocks.
 ghost use mathlib.Core.Path.{_≡_};
-ghost use Prim.Native.Nat.{_+_, _*_, _≤_};
+ghost use Prim.Native.Nat.{_*_, _≤_};
 ghost use lib.ListN.{length, take};
 ghost use Rattle.ledger.specs.Limits.{nameLimit, blockLimit};
 ghost use Rattle.writing.specs.Answers.{Wrote};
@@ -15,7 +15,6 @@ use ledger::Reason;
 use ledger::Refusal;
 use ledger::Strand;
 use text::Check;
-use text::Class;
 use writing::Writing;
 
 // The eight counts of a PSL line.
