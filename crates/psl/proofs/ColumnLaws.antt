@@ -38,7 +38,7 @@ use Rattle.psl.specs.declared.PslAnswer.{PslAnswer}
 use Rattle.psl.specs.declared.PslAnswer.the-variants.{Accepted, Refused}
 use Rattle.psl.specs.Table.{pslColumns}
 use Rattle.psl.specs.Records.{countsOf, pslRecord, pslSizes, pslQueries, pslTargets}
-use Rattle.psl.specs.Read.{thenCheck, roomCheck, spanCheck, rowCheck, afterSpans, afterLine, pslCheck, pslRead, CountsRange, Listed, Ready, Staged, RowsStored, PslRead}
+use Rattle.psl.specs.Read.{thenCheck, roomCheck, spanCheck, rowCheck, afterLine, pslCheck, pslRead, CountsRange, Listed, Ready, Staged, RowsStored, PslRead}
 use Rattle.psl.proofs.ReadLaws.{part-all}
 
 -- the codes of the table in the code
@@ -56,7 +56,7 @@ check-then (check.Refused x) rest r e = absurd (let z : _≡_ {A = ℕ} 0 1 = cc
 
 -- what is accepted is the columns' record
 pub accepted-record : (s vs : List ℕ) (r : Psl) → afterLine s vs ≡ Accepted r → pslRecord vs ≡ r
-unfolding afterLine afterSpans
+unfolding afterLine
 accepted-record s vs r e =
     let a = check-then (spanCheck (pslRecord vs) vs) (thenCheck (rowCheck s (pslRecord vs)) (Accepted (pslRecord vs))) r e in
     let b = check-then (rowCheck s (pslRecord vs)) (Accepted (pslRecord vs)) r (a .1) in

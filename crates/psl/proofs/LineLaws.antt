@@ -38,7 +38,7 @@ use Rattle.psl.specs.declared.PslAnswer.the-variants.{Accepted, Refused}
 use Rattle.psl.specs.Table.{pslColumns}
 use Rattle.psl.specs.Records.{countsOf, sideOf, pslRecord, pslSizes, pslQueries, pslTargets}
 use Rattle.psl.specs.Rows.{firstOn, lastOn, rowsFit, countsFit}
-use Rattle.psl.specs.Read.{spanCheck, rowCheck, thenLine, afterSpans, afterLine, pslCheck}
+use Rattle.psl.specs.Read.{spanCheck, rowCheck, thenCheck, thenLine, afterLine, pslCheck}
 use Rattle.psl.specs.Rules.{SideSays, SpanIn, CountRules, PslLine}
 use Rattle.psl.proofs.ColumnLaws.{check-then, accepted-record}
 use Rattle.psl.proofs.RuleLaws.{span-of, span-is, counts-of, counts-is}
@@ -68,17 +68,17 @@ line-then (columns.Refused x) rest r e = absurd (let z : _≡_ {A = ℕ} 0 1 = c
 
 module _ (s : List ℕ) (r : Psl) where
   pub accepts-of : pslCheck s ≡ Accepted r → Accepts s r
-  unfolding pslCheck afterLine afterSpans
+  unfolding pslCheck afterLine
   accepts-of e =
       let vs = lineValues s in
       let a = line-then (lineRead pslColumns s) (afterLine s vs) r e in
       let i = accepted-record s vs r (a .on) in
-      let b = check-then (spanCheck (pslRecord vs) vs) (afterSpans s (pslRecord vs)) r (a .on) in
+      let b = check-then (spanCheck (pslRecord vs) vs) (thenCheck (rowCheck s (pslRecord vs)) (Accepted (pslRecord vs))) r (a .on) in
       let c = check-then (rowCheck s (pslRecord vs)) (Accepted (pslRecord vs)) r (b .1) in
       record { end = a .end; read = a .read; is = sym i; spans = rw i at (b .0); rows = rw i at (c .0) }
 
   pub accepts-is : Accepts s r → pslCheck s ≡ Accepted r
-  unfolding pslCheck afterLine afterSpans
+  unfolding pslCheck afterLine
   accepts-is a = rw (a .read, ← (a .is), a .spans, a .rows)
 
 -- the checks one by one

@@ -18,11 +18,10 @@ use Rattle.blocks.specs.Blocks.{capped, sumOf, gapCount, gapBases}
 use Rattle.blocks.proofs.GapLaws.{capped-eq}
 use Rattle.psl.specs.declared.Counts.{Counts}
 use Rattle.psl.specs.declared.Psl.{Psl}
-use Rattle.psl.specs.declared.PslAnswer.{PslAnswer}
 use Rattle.psl.specs.declared.PslAnswer.the-variants.{Accepted, Refused}
 use Rattle.psl.specs.Records.{pslRecord, pslSizes, pslQueries, pslTargets}
 use Rattle.psl.specs.Rows.{rowsFit, countsFit}
-use Rattle.psl.specs.Read.{spanCheck, rowCheck, afterSpans, afterLine, CountsRange, Ready}
+use Rattle.psl.specs.Read.{spanCheck, rowCheck, afterLine, CountsRange, Ready}
 
 -- the counts, by sums that are capped
 module _ (c : Counts) (range : CountsRange c) (ts qs zs : List ℕ) (sum qGaps qBases tGaps tBases : ℕ) (es : sum ≡ capped (sumOf zs)) (eq : qGaps ≡ gapCount qs zs) (eqb′ : qBases ≡ capped (gapBases qs zs))
@@ -69,25 +68,20 @@ module _ (s : List ℕ) (r : Psl) (l : List ℕ) (ready : Ready s r l) where
       unfolding rowCheck
       rows-checked c d ed ec = rw (← rows-are, ← counts-held, ← ed) ec
 
--- a stage that refuses, and one that goes on
-module _ (s : List ℕ) (c : Check) where
-  module _ (r : Psl) (ec : c ≡ rowCheck s r) where
-    pub spans-refused : (x : Refusal) → c ≡ check.Refused x → Refused x ≡ afterSpans s r
-    unfolding afterSpans
-    spans-refused x q = rw (← ec, q)
+-- a check that refuses, and all that hold
+module _ (s vs : List ℕ) (r : Psl) (er : r ≡ pslRecord vs) (c : Check) (ec : c ≡ spanCheck r vs) where
+  pub line-refused : (x : Refusal) → c ≡ check.Refused x → Refused x ≡ afterLine s vs
+  unfolding afterLine
+  line-refused x q = rw (← er, ← ec, q)
 
-    pub spans-accepted : c ≡ Holds → Accepted r ≡ afterSpans s r
-    unfolding afterSpans
-    spans-accepted q = rw (← ec, q)
-
-  module _ (vs : List ℕ) (r : Psl) (er : r ≡ pslRecord vs) (ec : c ≡ spanCheck r vs) where
-    pub line-refused : (x : Refusal) → c ≡ check.Refused x → Refused x ≡ afterLine s vs
+  module _ (q : c ≡ Holds) (d : Check) (ed : d ≡ rowCheck s r) where
+    pub rows-refused : (x : Refusal) → d ≡ check.Refused x → Refused x ≡ afterLine s vs
     unfolding afterLine
-    line-refused x q = rw (← er, ← ec, q)
+    rows-refused x k = rw (← er, ← ec, q, ← ed, k)
 
-    pub line-on : (a : PslAnswer) → c ≡ Holds → a ≡ afterSpans s r → a ≡ afterLine s vs
+    pub line-accepted : d ≡ Holds → Accepted r ≡ afterLine s vs
     unfolding afterLine
-    line-on a q h = rw (← er, ← ec, q) h
+    line-accepted k = rw (← er, ← ec, q, ← ed, k)
 
 pub ready-as : (s : List ℕ) (r b : Psl) (l : List ℕ) → r ≡ b → Ready s b l → Ready s r l
 ready-as s r b l e h = rw e h

@@ -50,11 +50,8 @@ thenLine (Next e) rest = rest
 thenLine (columns.Refused x) rest = Refused x
 
 -- after the line: the spans, the blocks, the counts
-unfoldable pub afterSpans : List ℕ → Psl → PslAnswer
-afterSpans s r = thenCheck (rowCheck s r) (Accepted r)
-
 unfoldable pub afterLine : List ℕ → List ℕ → PslAnswer
-afterLine s vs = thenCheck (spanCheck (pslRecord vs) vs) (afterSpans s (pslRecord vs))
+afterLine s vs = thenCheck (spanCheck (pslRecord vs) vs) (thenCheck (rowCheck s (pslRecord vs)) (Accepted (pslRecord vs)))
 
 -- THE TEXT CHECKER: the reader without room
 unfoldable pub pslCheck : List ℕ → PslAnswer

@@ -8,7 +8,7 @@ ghost use Rattle.psl.specs.Records.{countsOf, sideOf, pslRecord};
 ghost use Rattle.psl.specs.Rows.{firstOn, lastOn, rowsFit, countsFit};
 ghost use Rattle.psl.specs.Tests.{sideFits, countNumbersFit, fieldsFit, spansFit, headFits, pslValid};
 ghost use Rattle.psl.specs.Write.{wordsShow, numbersCheck, writeCheck, pslText, pslValues, RowsThere, ListsPut, Writable, PslWrote, recordCheck};
-ghost use Rattle.psl.specs.Read.{spanCheck, rowCheck, afterSpans, afterLine, pslCheck, CountsRange, Listed, Ready, Staged, RowsStored, PslRead};
+ghost use Rattle.psl.specs.Read.{spanCheck, rowCheck, afterLine, pslCheck, CountsRange, Listed, Ready, Staged, RowsStored, PslRead};
 use columns::Columns;
 use ledger::Part;
 use ledger::Reason;
@@ -227,18 +227,7 @@ fn check_rows(text: &[u8], r: Psl, lists: &[u64]) -> Check
     )
 }
 
-// The blocks and the counts, and the answer.
-fn after_spans(text: &[u8], r: Psl, lists: &[u64]) -> PslAnswer
-    requires { ⌜ Ready (now text) r (now lists) ⌝ }
-    ensures { λ x. ⌜ x ≡ afterSpans (now (text .entry)) r ⌝ }
-{
-    match check_rows(text, r, lists) {
-        Check::Refused(x) => PslAnswer::Refused(x),
-        Check::Holds => PslAnswer::Accepted(r),
-    }
-}
-
-// The spans, and on.
+// The spans, the blocks and the counts, and the answer.
 fn after_line(text: &[u8], values: &[u64], lists: &[u64]) -> PslAnswer
     requires { ⌜ Ready (now text) (pslRecord (now values)) (now lists) ⌝ }
     ensures { λ x. ⌜ x ≡ afterLine (now (text .entry)) (now (values .entry)) ⌝ }
@@ -246,7 +235,10 @@ fn after_line(text: &[u8], values: &[u64], lists: &[u64]) -> PslAnswer
     let r = record_of(values);
     match check_spans(r, values) {
         Check::Refused(x) => PslAnswer::Refused(x),
-        Check::Holds => after_spans(text, r, lists),
+        Check::Holds => match check_rows(text, r, lists) {
+            Check::Refused(x) => PslAnswer::Refused(x),
+            Check::Holds => PslAnswer::Accepted(r),
+        },
     }
 }
 
