@@ -1,20 +1,19 @@
 -- What an accepted BED line passed, check by check; and what follows of its span, its blocks and their number. Assumes nothing.
 use mathlib.Core.Path.{_≡_, refl, sym}
-use mathlib.Core.Bool.{Bool, true, false, _&&_, _||_}
+use mathlib.Core.Bool.{true}
 use mathlib.Core.List.{List, [], _∷_}
 use Prim.Native.Nat.{ℕ, _-_, _≤_, _<_}
 use native.Mathlib.Omega.{arith}
 use lib.ListN.{length, getD, take}
-use lib.Dec.{leb, ltb, eqb}
-use borrow.Author.Tests.{lt-ltb, le-ltb, le-leb, leb-true, ltb-true, eqb-true, ne-eqb}
-use Rattle.ledger.specs.declared.Refusal.{Refusal}
+use lib.Dec.{ltb}
+use borrow.Author.Tests.{lt-ltb, le-ltb, ltb-true, ne-eqb}
 use Rattle.text.specs.declared.Check.{Check}
 use Rattle.text.specs.declared.Check.the-variants.{Holds}
 use Rattle.text.specs.declared.Check.the-variants as check
-use Rattle.text.specs.Checks.{pickCheck, textCheck, lastLineCheck}
+use Rattle.text.specs.Checks.{textCheck, lastLineCheck}
 use Rattle.text.specs.Words.{wordAt, wordCount, bytesOf}
 use Rattle.numbers.specs.Lists.{valuesOf}
-use Rattle.text.proofs.CheckLaws.{require-holds}
+use Rattle.text.proofs.CheckLaws.{require-holds, words-hold}
 use Rattle.columns.specs.declared.Columns.{Columns}
 use Rattle.columns.specs.declared.Columns.the-variants.{Next}
 use Rattle.columns.specs.declared.Columns.the-variants as columns
@@ -25,9 +24,9 @@ use Rattle.bed.specs.declared.BedAnswer.{BedAnswer}
 use Rattle.bed.specs.declared.BedAnswer.the-variants.{Accepted, Refused}
 use Rattle.bed.specs.Table.{bedColumns}
 use Rattle.bed.specs.Records.{isWordCount, bedRecord, bedSizes, bedStarts}
-use Rattle.bed.specs.Read.{thenCheck, thenRead, wordsCheck, thickFits, spanCheck, blockCheck, afterSpans, afterLines, afterColumns, afterWords, afterText, bedCheck}
-use Rattle.bed.specs.Rules.{WordNumber, three-to-nine, twelve}
-use Rattle.bed.proofs.ColumnLaws.{block-sizes, block-starts}
+use Rattle.bed.specs.Read.{thenCheck, thenRead, bedWordsCheck, thickFits, spanCheck, blockCheck, afterSpans, afterColumns, afterWords, bedCheck}
+use Rattle.bed.specs.Rules.{WordNumber}
+use Rattle.bed.proofs.ColumnLaws.{number-of, by-number, all-columns, block-sizes, block-starts}
 
 -- the values of a line: two numbers for each of its words
 abbrev pub lineValues : List ℕ → List ℕ
@@ -36,7 +35,7 @@ lineValues s = valuesFrom (take (wordCount s 0) bedColumns) 0 s 0
 -- what the row of checks found of a line that is accepted with the record r
 pub record Accepts (s : List ℕ) (r : Bed) : Type 0 where
   pub text : textCheck s ≡ Holds
-  pub number : wordsCheck s (wordCount s 0) ≡ Holds
+  pub number : bedWordsCheck s (wordCount s 0) ≡ Holds
   pub end : ℕ
   pub read : columnsFrom (take (wordCount s 0) bedColumns) 0 s 0 ≡ Next end
   pub line : lastLineCheck s 0 ≡ Holds
@@ -60,41 +59,26 @@ read-then (columns.Refused x) rest r e = absurd (let z : _≡_ {A = ℕ} 0 1 = c
 
 module _ (s : List ℕ) (r : Bed) where
   pub accepts-of : bedCheck s ≡ Accepted r → Accepts s r
-  unfolding bedCheck afterText afterWords afterColumns afterLines afterSpans
+  unfolding bedCheck afterWords afterColumns afterSpans
   accepts-of e =
       let n = wordCount s 0 in
       let q = bedRecord n (length s) (lineValues s) in
-      let a = check-then (textCheck s) (afterText s) r e in
-      let b = check-then (wordsCheck s n) (afterWords s n) r (a .1) in
+      let a = check-then (textCheck s) (thenCheck (bedWordsCheck s n) (afterWords s n)) r e in
+      let b = check-then (bedWordsCheck s n) (afterWords s n) r (a .1) in
       let c = read-then (columnsFrom (take n bedColumns) 0 s 0) (afterColumns s n (lineValues s)) r (b .1) in
-      let d = check-then (lastLineCheck s 0) (afterLines s n (lineValues s)) r (c .on) in
+      let d = check-then (lastLineCheck s 0) (thenCheck (spanCheck q (lineValues s)) (afterSpans s q)) r (c .on) in
       let f = check-then (spanCheck q (lineValues s)) (afterSpans s q) r (d .1) in
       let g = check-then (blockCheck s q) (Accepted q) r (f .1) in
       let i : q ≡ r = cc (g .1) in
       record { text = a .0; number = b .0; end = c .end; read = c .read; line = d .0; is = sym i; spans = rw i at (f .0); blocks = rw i at (g .0) }
 
   pub accepts-is : Accepts s r → bedCheck s ≡ Accepted r
-  unfolding bedCheck afterText afterWords afterColumns afterLines afterSpans
+  unfolding bedCheck afterWords afterColumns afterSpans
   accepts-is a = rw (a .text, a .number, a .read, a .line, ← (a .is), a .spans, a .blocks)
 
--- a good number of words is 3 to 9, or 12
-pub number-of : (n : ℕ) → isWordCount n ≡ true → WordNumber n
-number-of n h = go (leb 3 n) (leb n 9) (eqb n 12) refl refl refl h
-  where
-    go : (x y z : Bool) → leb 3 n ≡ x → leb n 9 ≡ y → eqb n 12 ≡ z → (x && (y || z)) ≡ true → WordNumber n
-    go true true z e f g k = three-to-nine (leb-true 3 n e) (leb-true n 9 f)
-    go true false true e f g k = rw (eqb-true n 12 g) twelve
-    go true false false e f g k = absurd (let q : _≡_ {A = ℕ} 0 1 = cc in omega arith)
-    go false y z e f g k = absurd (let q : _≡_ {A = ℕ} 0 1 = cc in omega arith)
-
-pub number-is : {n : ℕ} → WordNumber n → isWordCount n ≡ true
-number-is (three-to-nine {n} a b) = rw (le-leb 3 n a, le-leb n 9 b)
-number-is twelve = refl
-
 -- the checks one by one
-pub words-of : (s : List ℕ) (n : ℕ) → wordsCheck s n ≡ Holds → WordNumber n
-unfolding wordsCheck
-words-of s n e = number-of n (require-holds (isWordCount n) Holds _ (require-holds (leb n 12) _ _ e .1) .0)
+pub words-of : (s : List ℕ) (n : ℕ) → bedWordsCheck s n ≡ Holds → WordNumber n
+words-of s n e = number-of n (words-hold s 0 n 12 (isWordCount n) e .1)
 
 pub span-of : (r : Bed) (vs : List ℕ) → spanCheck r vs ≡ Holds → r .chromStart < r .chromEnd
 unfolding spanCheck
@@ -109,10 +93,6 @@ unfolding blockCheck
 fill-of s r e = require-holds _ Holds _ e .0
 
 -- the lists of the blocks are as long as their count says
-all-columns : take 12 bedColumns ≡ bedColumns
-unfolding bedColumns
-all-columns = refl
-
 module _ (s : List ℕ) (e : ℕ) (read : columnsFrom (take (wordCount s 0) bedColumns) 0 s 0 ≡ Next e) (len : ℕ) where
   abbrev made : Bed
   made = bedRecord (wordCount s 0) len (lineValues s)
@@ -151,18 +131,10 @@ module _ (s : List ℕ) (e : ℕ) (read : columnsFrom (take (wordCount s 0) bedC
 
   module _ (number : WordNumber (wordCount s 0)) where
     pub sizes-count : length (bedSizes s made) ≡ made .blockCount
-    sizes-count = go (wordCount s 0) refl number
-      where
-        go : (n : ℕ) → wordCount s 0 ≡ n → WordNumber n → length (bedSizes s made) ≡ made .blockCount
-        go n q (three-to-nine a b) = rw (sizes-one (omega arith), count-one (omega arith))
-        go n q twelve = rw (sizes-given q, count-given q) (block-sizes s e (read-all q) q .2)
+    sizes-count = by-number number _ (λ a h. rw (sizes-one h, count-one h)) (λ q. rw (sizes-given q, count-given q) (block-sizes s e (read-all q) q .2))
 
     pub starts-count : length (bedStarts s made) ≡ made .blockCount
-    starts-count = go (wordCount s 0) refl number
-      where
-        go : (n : ℕ) → wordCount s 0 ≡ n → WordNumber n → length (bedStarts s made) ≡ made .blockCount
-        go n q (three-to-nine a b) = rw (starts-one (omega arith), count-one (omega arith))
-        go n q twelve = rw (starts-given q, count-given q) (block-starts s e (read-all q) q .2)
+    starts-count = by-number number _ (λ a h. rw (starts-one h, count-one h)) (λ q. rw (starts-given q, count-given q) (block-starts s e (read-all q) q .2))
 
 -- what an accepted line shows
 module _ (s : List ℕ) (r : Bed) (ok : bedCheck s ≡ Accepted r) where

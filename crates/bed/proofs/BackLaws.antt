@@ -1,8 +1,8 @@
 -- The standard text of a BED record that may be written reads back as that record, with the same names and the same rows. Assumes nothing.
 use mathlib.Core.Path.{_≡_, refl, sym, ap, _∙_}
 use mathlib.Core.Bool.{true, false}
-use mathlib.Core.List.{List, [], _∷_, _++_}
-use Prim.Native.Nat.{ℕ, suc, _+_, _-_, _≤_, _<_}
+use mathlib.Core.List.{List, [], _∷_}
+use Prim.Native.Nat.{ℕ, _+_, _-_, _≤_, _<_}
 use native.Mathlib.Omega.{arith}
 use lib.ListN.{length, take, getD}
 use lib.Seq.{getD-take, length-take-le}
@@ -10,16 +10,15 @@ use lib.Dec.{eqb}
 use borrow.Author.Tests.{lt-ltb, le-ltb, le-leb, eqb-true, eq-eqb, ne-eqb}
 use Rattle.ledger.specs.Limits.{textLimit, largestPosition}
 use Rattle.text.proofs.CheckLaws.{fed-allowed, fed-line}
-use Rattle.text.specs.declared.Class.the-variants.{Allowed, Line}
+use Rattle.text.specs.declared.Class.the-variants.{Allowed}
 use Rattle.text.specs.declared.Check.the-variants.{Holds}
-use Rattle.text.specs.declared.Extent.{Extent}
 use Rattle.text.specs.Scan.{run}
 use Rattle.text.specs.Parts.{partBytes}
-use Rattle.text.specs.Pieces.{linesOf, lineOf, wordsOf, joined}
+use Rattle.text.specs.Pieces.{linesOf, lineOf, wordsOf}
 use Rattle.text.specs.Words.{wordAt, wordCount, bytesOf}
 use Rattle.text.proofs.Laws.{either}
-use Rattle.text.proofs.TextLaws.{All, all-append, in-allowed, both}
-use Rattle.text.proofs.PieceLaws.{Worded, worded-more, pieces-join, lines-none, joined-in-line, line-joined, words-joined, word-bytes}
+use Rattle.text.proofs.TextLaws.{both}
+use Rattle.text.proofs.PieceLaws.{Worded, line-joined, words-joined, word-bytes}
 use Rattle.writing.proofs.ListLaws.{list-values}
 use Rattle.blocks.specs.Blocks.{orderFrom, blocksFill, sumsFrom, shifted, subtracted}
 use Rattle.blocks.specs.Rules.{Fills}
@@ -28,11 +27,11 @@ use Rattle.bed.specs.declared.Bed.{Bed}
 use Rattle.bed.specs.declared.BedAnswer.the-variants.{Accepted}
 use Rattle.bed.specs.Records.{bedSizes, bedStarts, bedTargets, bedQueries}
 use Rattle.bed.specs.Read.{roomCheck, bedCheck, bedRead}
-use Rattle.bed.specs.Rules.{WordNumber, three-to-nine, twelve, BedLine, placed}
+use Rattle.bed.specs.Rules.{BedLine, placed}
 use Rattle.bed.specs.Write.{writeCheck, bedWords, bedText}
-use Rattle.bed.proofs.LineLaws.{most-words, least-words, line-is}
+use Rattle.bed.proofs.ColumnLaws.{most-words, least-words, by-number}
+use Rattle.bed.proofs.LineLaws.{line-is}
 use Rattle.bed.proofs.BackWordLaws.{MayWrite, may-write, wordValues, sizes-between, starts-between, words-spell, words-worded}
-use Rattle.columns.specs.Names.{partOf}
 use Rattle.columns.proofs.WordLaws.{part-bytes}
 
 no-bytes : (xs : List ℕ) → length xs ≡ 0 → [] ≡ xs
@@ -115,18 +114,11 @@ module _ (r : Bed) (chrom name ts qs zs : List ℕ) (ok : MayWrite r chrom name 
         let z : 0 ≡ r .chromStart - r .chromStart = omega arith in
         rw (ne-eqb (r .words) 12 (λ q. omega arith), one .0) (ap (λ (x : ℕ). x ∷ []) z)
 
-  by-number : (P : Type 0) → (r .words ≤ 9 → P) → (r .words ≡ 12 → P) → P
-  by-number P f g = go (r .words) refl (ok .rules .number)
-    where
-      go : (m : ℕ) → r .words ≡ m → WordNumber m → P
-      go m q (three-to-nine a b) = f (omega arith)
-      go m q twelve = g q
-
   sizes-read : bedSizes s (placed s r) ≡ take n zs
-  sizes-read = by-number _ sizes-one sizes-twelve
+  sizes-read = by-number (ok .rules .number) _ (λ a h. sizes-one h) sizes-twelve
 
   starts-read : bedStarts s (placed s r) ≡ subtracted (r .chromStart) (take n ts)
-  starts-read = by-number _ starts-one starts-twelve
+  starts-read = by-number (ok .rules .number) _ (λ a h. starts-one h) starts-twelve
 
   targets-moved : shifted (r .chromStart) (subtracted (r .chromStart) (take n ts)) ≡ take n ts
   targets-moved = back-shifted (r .chromStart) (r .chromEnd) (take n ts) (fill-low (r .chromStart) (r .chromEnd) (take n ts) (take n zs) (ok .fill))

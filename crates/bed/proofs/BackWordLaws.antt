@@ -1,61 +1,38 @@
 -- A BED record that may be written: the rules that it obeys, and that each of its first words is there, shows, and spells its column. Assumes nothing.
-use mathlib.Core.Path.{_≡_, refl, ap, _∙_}
-use mathlib.Core.Bool.{Bool, true, false, _&&_}
+use mathlib.Core.Path.{_≡_, refl, _∙_}
+use mathlib.Core.Bool.{true, _&&_}
 use mathlib.Core.List.{List, [], _∷_}
 use Prim.Native.Nat.{ℕ, zero, suc, _+_, _-_, _≤_, _<_, zero-le}
 use native.Mathlib.Omega.{arith}
-use lib.ListN.{length, take, drop}
-use lib.Seq.{take-all, take-length, length-take-le}
+use lib.ListN.{length, take}
+use lib.Seq.{length-take-le}
 use lib.Dec.{eqb}
-use borrow.Author.Tests.{leb-true}
 use Rattle.ledger.specs.declared.Strand.{Strand}
 use Rattle.ledger.specs.declared.Strand.the-variants.{Plus, Minus, Dot}
-use Rattle.ledger.specs.Limits.{nameLimit, largestPosition}
+use Rattle.ledger.specs.Limits.{largestPosition}
 use Rattle.ledger.specs.Strands.{strandLetter}
-use Rattle.text.proofs.CheckLaws.{run-most, require-holds}
-use Rattle.text.specs.declared.Class.{Class}
+use Rattle.text.proofs.CheckLaws.{require-holds}
 use Rattle.text.specs.declared.Class.the-variants.{Graphic}
 use Rattle.text.specs.declared.Check.the-variants.{Holds}
-use Rattle.text.specs.Scan.{isIn, oneMore, run, endOf}
 use Rattle.text.proofs.TextLaws.{All, both}
 use Rattle.text.proofs.PieceLaws.{Worded, worded-none, worded-more}
 use Rattle.numbers.specs.Ranges.{Between, between-none, between-more}
-use Rattle.writing.specs.Digits.{listText}
-use Rattle.kinds.specs.declared.Range.{Range}
 use Rattle.kinds.specs.declared.Range.the-variants.{Coordinate, Size, BedScore}
 use Rattle.kinds.specs.declared.Kind.{Kind}
-use Rattle.kinds.specs.declared.Kind.the-variants.{Name, Number, Count, Items, Stranded, Colour}
-use Rattle.kinds.specs.Kinds.{leastOf, mostOf, countAfter}
+use Rattle.kinds.specs.declared.Kind.the-variants.{Number, Count, Stranded, Colour}
+use Rattle.kinds.specs.Kinds.{countAfter}
 use Rattle.kinds.proofs.BackLaws.{Written, written}
 use Rattle.columns.specs.Spells.{Spells, spells-none, spells-more}
 use Rattle.blocks.specs.Blocks.{blocksFill, areSums, allBetween, subtracted, countFits, rowsOf, rowNumbersFit}
 use Rattle.blocks.proofs.RuleLaws.{between-of, subtracted-length}
 use Rattle.bed.specs.declared.Bed.{Bed}
 use Rattle.bed.specs.Table.{bedColumns}
-use Rattle.ledger.specs.Parts.{partAt}
-use Rattle.bed.specs.Records.{}
-use Rattle.bed.specs.Rules.{BedRules}
+use Rattle.bed.specs.Rules.{BedRules, named}
 use Rattle.bed.specs.Tests.{ifThere, namesFit, strandFits, fieldsFit, spansFit, rowsFit, bedValid}
 use Rattle.bed.specs.Write.{namesShow, writeCheck, bedWords}
 use Rattle.bed.proofs.RuleLaws.{rules-of}
 use Rattle.columns.specs.Names.{allGraphic}
 use Rattle.columns.proofs.WordLaws.{all-graphic, and-i, name-written, list-written}
-
--- the record with names of these lengths
-abbrev pub named : Bed → List ℕ → List ℕ → Bed
-named r chrom name = record {
-  words = r .words;
-  chrom = partAt 0 (length chrom);
-  chromStart = r .chromStart;
-  chromEnd = r .chromEnd;
-  name = partAt 0 (length name);
-  score = r .score;
-  strand = r .strand;
-  thickStart = r .thickStart;
-  thickEnd = r .thickEnd;
-  itemRgb = r .itemRgb;
-  blockCount = r .blockCount;
-}
 
 -- what the writer's checks show of a record, its names and its rows
 pub record MayWrite (r : Bed) (chrom name ts qs zs : List ℕ) : Type 0 where

@@ -1,71 +1,83 @@
 -- From BED's table of columns to its record: what the columns read hold. Assumes nothing.
 use mathlib.Core.Path.{_≡_, refl, sym, ap, _∙_}
-use mathlib.Core.Bool.{Bool, true, false, not, _&&_, _||_}
-use mathlib.Core.List.{List, [], _∷_, _++_, map}
-use Prim.Native.Nat.{ℕ, zero, suc, _+_, _-_, _*_, _≤_, _<_, min}
+use mathlib.Core.Bool.{Bool, true, false, _||_}
+use mathlib.Core.List.{List, [], _∷_, map}
+use Prim.Native.Nat.{ℕ, _*_, _≤_}
 use native.Mathlib.Omega.{arith}
-use lib.ListN.{length, replicate, getD, take, drop, length-take, List·getD-append, List·getD-eq-default}
-use lib.Seq.{sets, sets-eq, take-all, getD-append-add, getD-drop}
-use lib.Dec.{leb, ltb, eqb}
-use borrow.Author.Tests.{lt-ltb, le-ltb, leb-true, leb-false, eqb-true, eqb-false, eq-eqb, ne-eqb}
+use lib.ListN.{length, replicate, getD, take, drop}
+use lib.Dec.{leb, eqb}
+use borrow.Author.Tests.{lt-ltb, le-ltb, le-leb, leb-true, eqb-true}
 use Rattle.ledger.specs.Limits.{blockLimit, largestPosition}
 use Rattle.ledger.specs.declared.Refusal.{Refusal}
 use Rattle.text.specs.declared.Check.{Check}
 use Rattle.text.specs.declared.Check.the-variants.{Holds}
 use Rattle.text.specs.declared.Check.the-variants as check
-use Rattle.text.specs.Checks.{pickCheck, textCheck}
+use Rattle.text.specs.Checks.{textCheck, wordsCheck}
 use Rattle.text.specs.Words.{wordAt, wordCount, bytesOf}
 use Rattle.text.specs.Pieces.{wordsOf, lineOf}
+use Rattle.text.proofs.CheckLaws.{words-hold}
+use Rattle.text.proofs.TextLaws.{both}
 use Rattle.text.proofs.PieceLaws.{word-bytes}
-use Rattle.text.proofs.Laws.{either}
-use Rattle.numbers.specs.declared.Spelt.the-variants.{Means}
 use Rattle.numbers.specs.Ranges.{Between}
 use Rattle.numbers.specs.Lists.{valuesOf}
-use Rattle.kinds.specs.declared.Kind.{Kind}
 use Rattle.kinds.specs.declared.Range.the-variants.{Coordinate, Size}
-use Rattle.kinds.specs.Kinds.{kindOf, spelt, itemsIn}
+use Rattle.kinds.specs.Kinds.{kindOf, itemsIn}
 use Rattle.kinds.proofs.RangeLaws.{count-spelt, items-spelt}
 use Rattle.columns.specs.declared.Columns.{Columns}
 use Rattle.columns.specs.declared.Columns.the-variants.{Next}
 use Rattle.columns.specs.declared.Columns.the-variants as columns
 use Rattle.columns.specs.Columns.{columnLimit, tableOf, columnsFrom, valuesFrom, listsFrom, ColumnsRead}
 use Rattle.columns.specs.Spells.{Spells, firsts}
-use Rattle.columns.specs.Places.{kindAt, countBefore, baseBefore}
+use Rattle.columns.specs.Places.{kindAt}
 use Rattle.columns.proofs.SpellsLaws.{columns-spell}
-use Rattle.columns.proofs.PlaceLaws.{spelt-at, value-first, values-length, lists-length, lists-at}
-use Rattle.bed.specs.declared.Bed.{Bed}
+use Rattle.columns.proofs.PlaceLaws.{spelt-at, value-first, lists-length, lists-at}
 use Rattle.bed.specs.declared.BedAnswer.{BedAnswer}
-use Rattle.bed.specs.declared.BedAnswer.the-variants.{Accepted, Refused}
+use Rattle.bed.specs.declared.BedAnswer.the-variants.{Refused}
 use Rattle.bed.specs.Table.{bedColumns}
 use Rattle.bed.specs.Records.{isWordCount, valueOr, bedRecord}
-use Rattle.bed.specs.Read.{wordsCheck, spanCheck, afterSpans, afterLines, afterColumns, afterWords, afterText, bedCheck, Counted, Listed, Staged}
-use Rattle.columns.proofs.WordLaws.{map-take, stored-at, zeros, passed}
+use Rattle.bed.specs.Read.{spanCheck, afterColumns, afterWords, bedCheck, Counted, Listed, Staged}
+use Rattle.columns.proofs.TableLaws.{codes-length, read-is, read-next, values-same, lists-are}
+use Rattle.bed.specs.Rules.{WordNumber, three-to-nine, twelve}
 
 -- the codes of the table in the code
-abbrev bedCodes : List ℕ
+abbrev pub bedCodes : List ℕ
 bedCodes = 0 ∷ 1 ∷ 1 ∷ 0 ∷ 3 ∷ 10 ∷ 1 ∷ 1 ∷ 13 ∷ 6 ∷ 7 ∷ 8 ∷ []
 
-pub table-is : (n : ℕ) → n ≤ 12 → tableOf (take n bedCodes) ≡ take n bedColumns
-unfolding tableOf kindOf bedColumns
-table-is n h =
-    let z : length (take n bedCodes) ≤ columnLimit = rw length-take (omega arith) in
-    rw (take-all columnLimit (take n bedCodes) z) (map-take kindOf n bedCodes)
+pub codes-same : map kindOf bedCodes ≡ bedColumns
+unfolding kindOf bedColumns
+codes-same = refl
 
-pub codes-length : (n : ℕ) → n ≤ 12 → n ≡ length (take n bedCodes)
-codes-length n h = rw length-take (omega arith)
+pub codes-few : length bedCodes ≤ columnLimit
+codes-few = omega arith
 
 -- a good number of words is 3 to 9, or 12
-count-split : (n : ℕ) → isWordCount n ≡ true → (P : Type 0) → (3 ≤ n → n ≤ 9 → P) → (n ≡ 12 → P) → P
-count-split n h P a b = go (leb 3 n) (leb n 9) (eqb n 12) refl refl refl h
+pub number-of : (n : ℕ) → isWordCount n ≡ true → WordNumber n
+number-of n e =
+    let b = both (leb 3 n) (leb n 9 || eqb n 12) e in
+    go (leb n 9) refl (leb-true 3 n (b .0)) (b .1)
   where
-    go : (x y z : Bool) → leb 3 n ≡ x → leb n 9 ≡ y → eqb n 12 ≡ z → (x && (y || z)) ≡ true → P
-    go true true z e f g k = a (leb-true 3 n e) (leb-true n 9 f)
-    go true false true e f g k = b (eqb-true n 12 g)
-    go true false false e f g k = absurd (let q : _≡_ {A = ℕ} 0 1 = cc in omega arith)
-    go false y z e f g k = absurd (let q : _≡_ {A = ℕ} 0 1 = cc in omega arith)
+    go : (t : Bool) → leb n 9 ≡ t → 3 ≤ n → (t || eqb n 12) ≡ true → WordNumber n
+    go true q l h = three-to-nine l (leb-true n 9 q)
+    go false q l h = rw (eqb-true n 12 h) twelve
+
+pub number-is : {n : ℕ} → WordNumber n → isWordCount n ≡ true
+number-is (three-to-nine {n} a b) = rw (le-leb 3 n a, le-leb n 9 b)
+number-is twelve = refl
+
+pub by-number : {n : ℕ} → WordNumber n → (P : Type 0) → (3 ≤ n → n ≤ 9 → P) → (n ≡ 12 → P) → P
+by-number (three-to-nine a b) P f g = f a b
+by-number twelve P f g = g refl
+
+pub most-words : {n : ℕ} → WordNumber n → n ≤ 12
+most-words (three-to-nine a b) = omega arith
+most-words twelve = omega arith
+
+pub least-words : {n : ℕ} → WordNumber n → 3 ≤ n
+least-words (three-to-nine a b) = a
+least-words twelve = omega arith
 
 pub count-most : (n : ℕ) → isWordCount n ≡ true → n ≤ 12
-count-most n h = count-split n h (n ≤ 12) (λ a b. omega arith) (λ e. omega arith)
+count-most n h = most-words (number-of n h)
 
 -- a record and its checks depend on the values at their places alone
 module _ (n : ℕ) (a b : List ℕ) (same : (i : ℕ) → getD a i 0 ≡ getD b i 0) where
@@ -87,20 +99,20 @@ module _ (n : ℕ) (a b : List ℕ) (same : (i : ℕ) → getD a i 0 ≡ getD b 
   )
 
   pub columns-same : (s : List ℕ) → afterColumns s n a ≡ afterColumns s n b
-  unfolding afterColumns afterLines spanCheck
+  unfolding afterColumns spanCheck
   columns-same s = rw (record-same (length s), same 5, same 13, same 15)
 
 -- the lists of a line of twelve words
 module _ (s : List ℕ) (e : ℕ) (read : columnsFrom bedColumns 0 s 0 ≡ Next e) (count : wordCount s 0 ≡ 12) where
-  twelve : wordCount s 0 ≡ length bedColumns
+  count-all : wordCount s 0 ≡ length bedColumns
   unfolding bedColumns
-  twelve = count
+  count-all = count
 
   abbrev vs : List ℕ
   vs = valuesFrom bedColumns 0 s 0
 
   spells : Spells bedColumns 0 (wordsOf (lineOf s)) (firsts vs)
-  spells = columns-spell bedColumns 0 s 0 e twelve read
+  spells = columns-spell bedColumns 0 s 0 e count-all read
 
   word : (k : ℕ) → getD (wordsOf (lineOf s)) k [] ≡ bytesOf s (wordAt s 0 k)
   word k = sym (word-bytes s 0 k)
@@ -146,7 +158,7 @@ module _ (s : List ℕ) (e : ℕ) (read : columnsFrom bedColumns 0 s 0 ≡ Next 
         let m : length (itemsIn (kindAt bedColumns 11) (bytesOf s (wordAt s 0 11))) ≡ getD vs 18 0 = ap length (z .0) ∙ z .2 in
         lists-at bedColumns 0 s 0 e 0 d read 11 (omega arith) refl (getD vs 18 0) m (block-count .1) (omega (arith, block-count .1)) ∙ z .0
 
-all-columns : take 12 bedColumns ≡ bedColumns
+pub all-columns : take 12 bedColumns ≡ bedColumns
 unfolding bedColumns
 all-columns = refl
 
@@ -158,7 +170,7 @@ module _ (s : List ℕ) (n e : ℕ) (d : List ℕ) (counted : Counted s n d) (re
   pub lists-listed : (len : ℕ) → Listed s (bedRecord n len us) (listsFrom (take n bedColumns) 0 s 0 0 d)
   unfolding bedRecord
   lists-listed len =
-      count-split n (counted .good) _ (λ l h. record {
+      by-number (number-of n (counted .good)) _ (λ l h. record {
         long = lists-length (take n bedColumns) 0 s 0 e 0 d read ∙ counted .long;
         few = rw (le-ltb 9 n h) (omega arith);
         one = λ w. rw (le-ltb 9 n h);
@@ -179,60 +191,51 @@ module _ (s : List ℕ) (n e : ℕ) (d : List ℕ) (counted : Counted s n d) (re
       })
 
 module _ (s : List ℕ) (n : ℕ) (b′ d d′ : List ℕ) (counted : Counted s n d) (x : Columns) (read : ColumnsRead (tableOf (take n bedCodes)) s 0 (replicate 24 0) b′ d d′ x) where
-  read-is : x ≡ columnsFrom (take n bedColumns) 0 s 0
-  read-is = rw (table-is n (count-most n (counted .good))) at (read .result)
+  few : n ≤ 12
+  few = count-most n (counted .good)
 
   module _ (e : ℕ) (q : x ≡ Next e) where
     next : columnsFrom (take n bedColumns) 0 s 0 ≡ Next e
-    next = sym read-is ∙ q
+    next = read-next bedCodes bedColumns codes-same codes-few n few s 0 24 (omega (arith, few)) b′ d d′ x read e q
 
-    values-same : (i : ℕ) → getD b′ i 0 ≡ getD (valuesFrom (take n bedColumns) 0 s 0) i 0
-    values-same i =
-        let t = table-is n (count-most n (counted .good)) in
-        let st : b′ ≡ sets (replicate 24 0) 0 (valuesFrom (take n bedColumns) 0 s 0) = rw (q, t) at (read .stored) in
-        let l : length (valuesFrom (take n bedColumns) 0 s 0) ≤ 24 = rw (values-length (take n bedColumns) 0 s 0 e next, length-take) (omega (arith, count-most n (counted .good))) in
-        rw st (stored-at (replicate 24 0) (valuesFrom (take n bedColumns) 0 s 0) (zeros 24) l i)
+    same : (i : ℕ) → getD b′ i 0 ≡ getD (valuesFrom (take n bedColumns) 0 s 0) i 0
+    same = values-same bedCodes bedColumns codes-same codes-few n few s 0 24 (omega (arith, few)) b′ d d′ x read e q
 
     pub words-listed : Listed s (bedRecord n (length s) b′) d′
     words-listed =
-        let t = table-is n (count-most n (counted .good)) in
-        let h : d′ ≡ listsFrom (take n bedColumns) 0 s 0 0 d = rw (q, t) at (read .held) in
-        rw (record-same n b′ (valuesFrom (take n bedColumns) 0 s 0) values-same (length s), h) (lists-listed s n e d counted next (length s))
+        let h = lists-are bedCodes bedColumns codes-same codes-few n few s 0 24 (omega (arith, few)) b′ d d′ x read e q in
+        rw (record-same n b′ (valuesFrom (take n bedColumns) 0 s 0) same (length s), h) (lists-listed s n e d counted next (length s))
 
     pub words-on : (l : List ℕ) (a : BedAnswer) → Staged s (afterColumns s n b′) l a → Staged s (afterWords s n) l a
     unfolding afterWords
-    words-on l a h = record { is = rw (next, ← columns-same n b′ (valuesFrom (take n bedColumns) 0 s 0) values-same s) (h .is); held = h .held }
+    words-on l a h = record { is = rw (next, ← columns-same n b′ (valuesFrom (take n bedColumns) 0 s 0) same s) (h .is); held = h .held }
 
   pub words-refused : (l : List ℕ) (y : Refusal) → x ≡ columns.Refused y → Staged s (afterWords s n) l (Refused y)
   unfolding afterWords
   words-refused l y q =
-      let z : columnsFrom (take n bedColumns) 0 s 0 ≡ columns.Refused y = sym read-is ∙ q in
+      let z : columnsFrom (take n bedColumns) 0 s 0 ≡ columns.Refused y = sym (read-is bedCodes bedColumns codes-same codes-few n few s 0 24 (omega (arith, few)) b′ d d′ x read) ∙ q in
       record { is = rw z; held = λ b e. absurd (let k : _≡_ {A = ℕ} 0 1 = cc in omega arith) }
 
 pub words-few : (s : List ℕ) (n : ℕ) (d : List ℕ) → Counted s n d → n ≤ 12
 words-few s n d h = count-most n (h .good)
 
 pub words-length : (s : List ℕ) (n : ℕ) (d : List ℕ) → Counted s n d → n ≡ length (take n bedCodes)
-words-length s n d h = codes-length n (count-most n (h .good))
+words-length s n d h = codes-length bedCodes bedColumns codes-same codes-few n (count-most n (h .good))
 
-module _ (s : List ℕ) (n : ℕ) (en : n ≡ wordCount s 0) (c : Check) (ec : c ≡ wordsCheck s n) where
-  pub words-counted : (d : List ℕ) → length d ≡ 2 * blockLimit → c ≡ Holds → Counted s n d
-  unfolding wordsCheck
-  words-counted d l q = record { long = l; count = en; good = passed (leb n 12) (isWordCount n) _ _ (sym ec ∙ q) .1 }
-
-  pub text-refused : (l : List ℕ) (x : Refusal) → c ≡ check.Refused x → Staged s (afterText s) l (Refused x)
-  unfolding afterText
-  text-refused l x q = record { is = rw (← en, ← ec, q); held = λ b e. absurd (let k : _≡_ {A = ℕ} 0 1 = cc in omega arith) }
-
-  pub text-on : (l : List ℕ) (a : BedAnswer) → c ≡ Holds → Staged s (afterWords s n) l a → Staged s (afterText s) l a
-  unfolding afterText
-  text-on l a q h = record { is = rw (← en, ← ec, q) (h .is); held = h .held }
-
-module _ (s : List ℕ) (c : Check) (ec : c ≡ textCheck s) where
-  pub check-refused : (l : List ℕ) (x : Refusal) → c ≡ check.Refused x → Staged s (bedCheck s) l (Refused x)
+-- the text's checks
+module _ (s : List ℕ) (b : Check) (eb : b ≡ textCheck s) where
+  pub check-refused : (l : List ℕ) (x : Refusal) → b ≡ check.Refused x → Staged s (bedCheck s) l (Refused x)
   unfolding bedCheck
-  check-refused l x q = record { is = rw (← ec, q); held = λ b e. absurd (let k : _≡_ {A = ℕ} 0 1 = cc in omega arith) }
+  check-refused l x q = record { is = rw (← eb, q); held = λ r e. absurd (let k : _≡_ {A = ℕ} 0 1 = cc in omega arith) }
 
-  pub check-on : (l : List ℕ) (a : BedAnswer) → c ≡ Holds → Staged s (afterText s) l a → Staged s (bedCheck s) l a
-  unfolding bedCheck
-  check-on l a q h = record { is = rw (← ec, q) (h .is); held = h .held }
+  module _ (n : ℕ) (en : n ≡ wordCount s 0) (t : Bool) (et : t ≡ isWordCount n) (c : Check) (ec : c ≡ wordsCheck s 0 n 12 t) where
+    pub words-counted : (d : List ℕ) → length d ≡ 2 * blockLimit → c ≡ Holds → Counted s n d
+    words-counted d l q = record { long = l; count = en; good = sym et ∙ words-hold s 0 n 12 t (sym ec ∙ q) .1 }
+
+    pub text-refused : (l : List ℕ) (x : Refusal) → b ≡ Holds → c ≡ check.Refused x → Staged s (bedCheck s) l (Refused x)
+    unfolding bedCheck
+    text-refused l x p q = record { is = rw (← eb, p, ← en, ← et, ← ec, q); held = λ r e. absurd (let k : _≡_ {A = ℕ} 0 1 = cc in omega arith) }
+
+    pub text-on : (l : List ℕ) (a : BedAnswer) → b ≡ Holds → c ≡ Holds → Staged s (afterWords s n) l a → Staged s (bedCheck s) l a
+    unfolding bedCheck
+    text-on l a p q h = record { is = rw (← eb, p, ← en, ← et, ← ec, q) (h .is); held = h .held }

@@ -1,32 +1,25 @@
 -- A text is accepted exactly when it is a BED line, and then with the record that it says. Assumes nothing.
 use mathlib.Core.Path.{_≡_, refl, sym, ap, _∙_}
-use mathlib.Core.Bool.{Bool, true, false, _||_}
-use mathlib.Core.List.{List, [], _∷_}
-use Prim.Native.Nat.{ℕ, suc, _+_, _-_, _*_, _≤_, _<_}
+use mathlib.Core.Bool.{true}
+use mathlib.Core.List.{List}
+use Prim.Native.Nat.{ℕ, _+_, _-_, _*_, _≤_, _<_}
 use native.Mathlib.Omega.{arith}
-use lib.ListN.{length, getD, take, drop, length-take, drop-of-length-le}
+use lib.ListN.{length, getD, take, length-take}
 use lib.Seq.{getD-take}
-use lib.Dec.{leb, eqb}
-use borrow.Author.Tests.{lt-ltb, le-ltb, le-leb, leb-true, eqb-true}
+use lib.Dec.{leb}
+use borrow.Author.Tests.{lt-ltb, le-ltb, le-leb, leb-true}
 use Rattle.ledger.specs.declared.Part.{Part}
-use Rattle.ledger.specs.declared.Strand.{Strand}
-use Rattle.ledger.specs.Limits.{textLimit}
 use Rattle.ledger.specs.Strands.{strandOf, strandLetter}
-use Rattle.ledger.proofs.Laws.{strand-of-letter}
-use Rattle.text.specs.declared.Class.{Class}
-use Rattle.text.specs.declared.Class.the-variants.{Word, Line, Allowed}
 use Rattle.text.specs.declared.Check.the-variants.{Holds}
-use Rattle.text.specs.Scan.{isIn, oneMore, run, endOf}
-use Rattle.text.specs.Checks.{textCheck, lastLineCheck}
-use Rattle.text.specs.Pieces.{piecesOf, nonEmpty, linesOf, lineOf, wordsOf}
-use Rattle.text.specs.Words.{lineEnd, nextLine, wordAt, wordCount, bytesOf}
-use Rattle.text.proofs.Laws.{either, word-ends, text-good, line-last}
+use Rattle.text.specs.Pieces.{lineOf, wordsOf}
+use Rattle.text.specs.Words.{wordAt, wordCount, bytesOf}
+use Rattle.text.proofs.Laws.{either}
 use Rattle.text.proofs.TextLaws.{both}
-use Rattle.text.proofs.CheckLaws.{run-most, require-holds, text-of, text-is, one-of, one-is, some-text}
-use Rattle.text.proofs.PieceLaws.{lines-none, lines-step, word-bytes}
+use Rattle.text.proofs.CheckLaws.{words-good, text-of, text-is, one-of, one-is, some-text}
+use Rattle.text.proofs.PieceLaws.{word-bytes}
 use Rattle.numbers.specs.declared.Spelt.the-variants.{Means}
 use Rattle.kinds.specs.declared.Kind.the-variants.{Name}
-use Rattle.kinds.specs.Kinds.{spelt, isStrand}
+use Rattle.kinds.specs.Kinds.{spelt}
 use Rattle.kinds.proofs.RangeLaws.{name-spelt, strand-spelt}
 use Rattle.columns.specs.declared.Columns.the-variants.{Next}
 use Rattle.columns.specs.Columns.{columnsFrom, valuesFrom}
@@ -41,26 +34,18 @@ use Rattle.bed.specs.declared.BedAnswer.the-variants.{Accepted}
 use Rattle.bed.specs.Table.{bedColumns}
 use Rattle.ledger.specs.Strands.{strandIs}
 use Rattle.ledger.specs.Parts.{partAt}
-use Rattle.bed.specs.Records.{valueOr, placeOr, bedRecord, bedSizes, bedStarts}
-use Rattle.bed.specs.Read.{wordsCheck, thickFits, spanCheck, blockCheck, bedCheck}
-use Rattle.bed.specs.Rules.{WordNumber, three-to-nine, twelve, BedLine}
+use Rattle.bed.specs.Records.{isWordCount, valueOr, placeOr, bedRecord, bedSizes, bedStarts}
+use Rattle.bed.specs.Read.{bedWordsCheck, thickFits, spanCheck, blockCheck, bedCheck}
+use Rattle.bed.specs.Rules.{WordNumber, BedLine}
 use Rattle.bed.proofs.ReadLaws.{value-there, value-left}
-use Rattle.bed.proofs.AcceptLaws.{lineValues, Accepts, accepts-of, accepts-is, number-is, words-of, span-of, thick-of, sizes-count, starts-count, accepted-count, accepted-starts, accepted-fills}
+use Rattle.bed.proofs.ColumnLaws.{number-is, most-words, least-words}
+use Rattle.bed.proofs.AcceptLaws.{lineValues, Accepts, accepts-of, accepts-is, words-of, span-of, thick-of, sizes-count, starts-count, accepted-count, accepted-starts, accepted-fills}
 use Rattle.columns.specs.Names.{partOf}
 use Rattle.columns.proofs.WordLaws.{word-length, strand-is, letter-is}
 
 -- the number of words
-pub most-words : {n : ℕ} → WordNumber n → n ≤ 12
-most-words (three-to-nine a b) = omega arith
-most-words twelve = omega arith
-
-pub least-words : {n : ℕ} → WordNumber n → 3 ≤ n
-least-words (three-to-nine a b) = a
-least-words twelve = omega arith
-
-words-is : (s : List ℕ) (n : ℕ) → WordNumber n → wordsCheck s n ≡ Holds
-unfolding wordsCheck
-words-is s n w = rw (le-leb n 12 (most-words w), number-is w)
+words-is : (s : List ℕ) (n : ℕ) → WordNumber n → bedWordsCheck s n ≡ Holds
+words-is s n w = sym (words-good s 0 n 12 (isWordCount n) (most-words w) (number-is w))
 
 -- the spans
 pub thick-order : (r : Bed) → thickFits r ≡ true → (r .chromStart ≤ r .thickStart) × (r .thickStart ≤ r .thickEnd) × (r .thickEnd ≤ r .chromEnd)

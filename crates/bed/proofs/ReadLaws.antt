@@ -1,52 +1,32 @@
 -- What each step of reading a BED line shows, on plain values. Assumes nothing.
-use mathlib.Core.Path.{_≡_, refl, sym, ap, _∙_}
-use mathlib.Core.Bool.{Bool, true, false, not, _&&_, _||_}
-use mathlib.Core.List.{List, [], _∷_, map}
-use Prim.Native.Nat.{ℕ, zero, suc, _+_, _-_, _*_, _≤_, _<_, min}
+use mathlib.Core.Path.{_≡_, refl, ap, _∙_}
+use mathlib.Core.Bool.{Bool, true, false}
+use mathlib.Core.List.{List, [], _∷_}
+use Prim.Native.Nat.{ℕ, zero, suc, _+_, _-_, _*_, _≤_, _<_}
 use native.Mathlib.Omega.{arith}
-use lib.ListN.{length, set, getD, take, drop, length-take, length-drop, length-set}
-use lib.Seq.{sets, take-all}
-use lib.Dec.{leb, ltb, eqb}
-use borrow.Author.Tests.{le-leb, lt-leb, lt-ltb, le-ltb, ne-eqb, eq-eqb, not-true, not-false, eqb-true, eqb-false}
+use lib.ListN.{length, set, getD, take, drop, length-drop, length-set}
+use lib.Seq.{take-all}
+use lib.Dec.{eqb}
+use borrow.Author.Tests.{le-leb, lt-leb, lt-ltb, le-ltb, ne-eqb, eq-eqb, eqb-true, eqb-false}
 use Rattle.ledger.specs.Limits.{blockLimit}
-use Rattle.ledger.specs.Strands.{strandOf, pickLettered}
-use Rattle.ledger.specs.declared.Lettered.the-variants.{Is, NoStrand}
+use Rattle.ledger.specs.Strands.{strandOf}
 use Rattle.ledger.specs.declared.Strand.{Strand}
-use Rattle.ledger.specs.declared.Strand.the-variants.{Plus, Minus, Dot}
 use Rattle.ledger.specs.declared.Part.{Part}
-use Rattle.ledger.specs.declared.Reason.the-variants.{WrongCount, SpanDisagrees, BlockRules}
+use Rattle.ledger.specs.declared.Reason.the-variants.{BlockRules}
 use Rattle.ledger.specs.declared.Refusal.{Refusal}
 use Rattle.text.specs.declared.Check.{Check}
 use Rattle.text.specs.declared.Check.the-variants.{Holds}
 use Rattle.text.specs.declared.Check.the-variants as check
-use Rattle.text.specs.declared.Extent.{Extent}
-use Rattle.text.specs.Checks.{textCheck, lastLineCheck}
-use Rattle.text.specs.Words.{lineEnd, wordAt, wordCount, bytesOf}
-use Rattle.numbers.specs.Lists.{valuesOf}
+use Rattle.text.specs.Checks.{require, lastLineCheck}
 use Rattle.blocks.specs.Blocks.{blocksFill}
 use Rattle.bed.specs.declared.Bed.{Bed}
 use Rattle.bed.specs.declared.BedAnswer.{BedAnswer}
 use Rattle.bed.specs.declared.BedAnswer.the-variants.{Accepted, Refused}
 use Rattle.ledger.specs.Strands.{strandIs}
 use Rattle.ledger.specs.Parts.{partAt}
-use Rattle.bed.specs.Records.{isWordCount, pickNumber, valueOr, placeOr, bedRecord, bedSizes, bedStarts}
-use Rattle.bed.specs.Tests.{ifThere, bedValid}
-use Rattle.bed.specs.Write.{recordCheck}
-use Rattle.bed.specs.Read.{wordsCheck, thickFits, thickPlace, spanCheck, blockCheck, withDefault, afterSpans, afterLines, afterColumns, afterWords, bedCheck, Listed, Blocked, Staged}
-
--- the number of words
-module _ (s : List ℕ) (n : ℕ) where
-  pub words-many : (w : Extent) → 12 < n → w ≡ wordAt s 0 12 → check.Refused (record { reason = WrongCount; place = w .start }) ≡ wordsCheck s n
-  unfolding wordsCheck
-  words-many w h e = rw (lt-leb n 12 h, e)
-
-  pub words-few : (t : Bool) (e : ℕ) → n ≤ 12 → t ≡ isWordCount n → not t ≡ true → e ≡ lineEnd s 0 → check.Refused (record { reason = WrongCount; place = e }) ≡ wordsCheck s n
-  unfolding wordsCheck
-  words-few t e h et q ee = rw (le-leb n 12 h, ← et, not-true t q, ee)
-
-  pub words-good : (t : Bool) → n ≤ 12 → t ≡ isWordCount n → not t ≡ false → Holds ≡ wordsCheck s n
-  unfolding wordsCheck
-  words-good t h et q = rw (le-leb n 12 h, ← et, not-false t q)
+use Rattle.bed.specs.Records.{valueOr, placeOr, bedRecord, bedSizes, bedStarts}
+use Rattle.bed.specs.Tests.{ifThere}
+use Rattle.bed.specs.Read.{thickPlace, spanCheck, blockCheck, withDefault, afterSpans, afterColumns, Listed, Blocked, Staged}
 
 -- a column or its default
 module _ (n : ℕ) (vs : List ℕ) (k d : ℕ) where
@@ -70,22 +50,6 @@ module _ (n : ℕ) (vs : List ℕ) (r : ℕ) where
   pub thick-start : n < 8 → r ≡ getD vs 13 0 → r ≡ thickPlace n vs
   thick-start h e = rw (lt-leb 8 n h) e
 
--- the spans
-module _ (r : Bed) (vs : List ℕ) where
-  pub span-empty : (p : ℕ) → r .chromEnd ≤ r .chromStart → p ≡ getD vs 5 0 → check.Refused (record { reason = SpanDisagrees; place = p }) ≡ spanCheck r vs
-  unfolding spanCheck
-  span-empty p h e = rw (le-ltb (r .chromStart) (r .chromEnd) h, e)
-
-  pub span-thick : (t : Bool) (p : ℕ) → r .chromStart < r .chromEnd → t ≡ thickFits r → not t ≡ true → p ≡ thickPlace (r .words) vs → check.Refused (record { reason = SpanDisagrees; place = p }) ≡ spanCheck r vs
-  unfolding spanCheck
-  span-thick t p h et q e = rw (lt-ltb (r .chromStart) (r .chromEnd) h, ← et, not-true t q, e)
-
-  pub span-good : (t : Bool) → r .chromStart < r .chromEnd → t ≡ thickFits r → not t ≡ false → Holds ≡ spanCheck r vs
-  unfolding spanCheck
-  span-good t h et q = rw (lt-ltb (r .chromStart) (r .chromEnd) h, ← et, not-false t q)
-
-pub ruleset spans = (span-empty, span-thick, span-good)
-
 -- the default block
 module _ (r : Bed) (l : List ℕ) where
   pub block-given : r .words ≡ 12 → l ≡ withDefault r l
@@ -94,22 +58,19 @@ module _ (r : Bed) (l : List ℕ) where
   pub block-default : (v : ℕ) (l₁ l₂ : List ℕ) → (r .words ≡ 12 → ⊥) → v ≡ r .chromEnd - r .chromStart → l₁ ≡ set l 0 v → l₂ ≡ set l₁ blockLimit 0 → l₂ ≡ withDefault r l
   block-default v l₁ l₂ h e e₁ e₂ = rw (ne-eqb (r .words) 12 h, e₂, e₁, e)
 
+-- a part of the working room from a place on is what stands there
+pub part-all : (l : List ℕ) (b : ℕ) → take (length l - b) (drop b l) ≡ drop b l
+part-all l b = take-all (length l - b) (drop b l) (rw length-drop (omega arith))
+
 -- the blocks, tested in the working room
 module _ (s : List ℕ) (r : Bed) (l : List ℕ) (held : Blocked s r l) (t : Bool) (v : ℕ) (ev : v ≡ r .chromEnd - r .chromStart)
     (et : t ≡ blocksFill 0 v (take (r .blockCount) (take (length l - blockLimit) (drop blockLimit l))) (take (r .blockCount) l)) where
-  rest-all : take (length l - blockLimit) (drop blockLimit l) ≡ drop blockLimit l
-  rest-all = take-all (length l - blockLimit) (drop blockLimit l) (rw length-drop (omega arith))
-
   tested : t ≡ blocksFill 0 (r .chromEnd - r .chromStart) (bedStarts s r) (bedSizes s r)
-  tested = rw (← ev, ← (held .starts), ← (held .sizes)) (rw rest-all at et)
+  tested = rw (← ev, ← (held .starts), ← (held .sizes)) (rw (part-all l blockLimit) at et)
 
-  pub blocks-good : t ≡ true → Holds ≡ blockCheck s r
+  pub blocks-checked : (c : Check) → c ≡ require t BlockRules (length s) Holds → c ≡ blockCheck s r
   unfolding blockCheck
-  blocks-good q = rw (← tested, q)
-
-  pub blocks-bad : t ≡ false → check.Refused (record { reason = BlockRules; place = length s }) ≡ blockCheck s r
-  unfolding blockCheck
-  blocks-bad q = rw (← tested, q)
+  blocks-checked c e = rw (← tested) e
 
 -- the blocks of a record in the working room, the default one too
 split : (n m : ℕ) (P : Type 0) → (n ≡ m → P) → ((n ≡ m → ⊥) → P) → P
@@ -163,24 +124,19 @@ module _ (s : List ℕ) (l : List ℕ) (c : Check) where
     unfolding afterSpans
     spans-accepted q = record { is = rw (← ec, q); held = λ b e. let p : r ≡ b = cc in rw p at held }
 
-  module _ (n : ℕ) (vs : List ℕ) where
-    module _ (r : Bed) (er : r ≡ bedRecord n (length s) vs) (ec : c ≡ spanCheck r vs) where
-      pub lines-refused : (x : Refusal) → c ≡ check.Refused x → Staged s (afterLines s n vs) l (Refused x)
-      unfolding afterLines
-      lines-refused x q = record { is = rw (← er, ← ec, q); held = λ b e. absurd (let z : _≡_ {A = ℕ} 0 1 = cc in omega arith) }
+  module _ (n : ℕ) (vs : List ℕ) (ec : c ≡ lastLineCheck s 0) where
+    pub columns-refused : (x : Refusal) → c ≡ check.Refused x → Staged s (afterColumns s n vs) l (Refused x)
+    unfolding afterColumns
+    columns-refused x q = record { is = rw (← ec, q); held = λ b e. absurd (let z : _≡_ {A = ℕ} 0 1 = cc in omega arith) }
 
-      pub lines-on : (l′ : List ℕ) (a : BedAnswer) → c ≡ Holds → Staged s (afterSpans s r) l′ a → Staged s (afterLines s n vs) l′ a
-      unfolding afterLines
-      lines-on l′ a q h = record { is = rw (← er, ← ec, q) (h .is); held = h .held }
-
-    module _ (ec : c ≡ lastLineCheck s 0) where
-      pub columns-refused : (x : Refusal) → c ≡ check.Refused x → Staged s (afterColumns s n vs) l (Refused x)
+    module _ (q : c ≡ Holds) (r : Bed) (er : r ≡ bedRecord n (length s) vs) (d : Check) (ed : d ≡ spanCheck r vs) where
+      pub lines-refused : (x : Refusal) → d ≡ check.Refused x → Staged s (afterColumns s n vs) l (Refused x)
       unfolding afterColumns
-      columns-refused x q = record { is = rw (← ec, q); held = λ b e. absurd (let z : _≡_ {A = ℕ} 0 1 = cc in omega arith) }
+      lines-refused x k = record { is = rw (← ec, q, ← er, ← ed, k); held = λ b e. absurd (let z : _≡_ {A = ℕ} 0 1 = cc in omega arith) }
 
-      pub columns-on : (l′ : List ℕ) (a : BedAnswer) → c ≡ Holds → Staged s (afterLines s n vs) l′ a → Staged s (afterColumns s n vs) l′ a
+      pub lines-on : (l′ : List ℕ) (a : BedAnswer) → d ≡ Holds → Staged s (afterSpans s r) l′ a → Staged s (afterColumns s n vs) l′ a
       unfolding afterColumns
-      columns-on l′ a q h = record { is = rw (← ec, q) (h .is); held = h .held }
+      lines-on l′ a k h = record { is = rw (← ec, q, ← er, ← ed, k) (h .is); held = h .held }
 
 pub listed-as : (s : List ℕ) (r b : Bed) (l : List ℕ) → r ≡ b → Listed s b l → Listed s r l
 listed-as s r b l e h = rw e h
@@ -212,13 +168,3 @@ there-is n k a b h = rw (lt-ltb k n h)
 
 pub left-is : (n k : ℕ) (a b : Bool) → n ≤ k → b ≡ ifThere n k a b
 left-is n k a b h = rw (le-ltb k n h)
-
--- the record checker
-module _ (r : Bed) (ts qs zs : List ℕ) (t : Bool) (et : t ≡ bedValid r ts qs zs) where
-  pub record-good : t ≡ true → Holds ≡ recordCheck r ts qs zs
-  unfolding recordCheck
-  record-good q = rw (← et, q)
-
-  pub record-bad : t ≡ false → check.Refused (record { reason = BlockRules; place = 0 }) ≡ recordCheck r ts qs zs
-  unfolding recordCheck
-  record-bad q = rw (← et, q)

@@ -1,6 +1,6 @@
 -- The test of a BED record with its rows and the rules stated one by one say the same; and the test sees only the rows in use. Assumes nothing.
 use mathlib.Core.Path.{_≡_, refl}
-use mathlib.Core.Bool.{Bool, true, false, _&&_, _||_}
+use mathlib.Core.Bool.{Bool, true, false}
 use mathlib.Core.List.{List}
 use Prim.Native.Nat.{ℕ, suc, _*_, _≤_, _<_}
 use native.Mathlib.Omega.{arith}
@@ -16,9 +16,9 @@ use Rattle.blocks.specs.Blocks.{countFits, rowsOf, rowNumbersFit}
 use Rattle.blocks.proofs.RuleLaws.{fills-of, fills-is, sums-of, sums-is, ranged-of, ranged-is}
 use Rattle.blocks.proofs.TakeLaws.{fills-take, fills-back, sums-take, sums-back, ranged-take, ranged-back}
 use Rattle.bed.specs.declared.Bed.{Bed}
-use Rattle.bed.specs.Records.{isWordCount}
 use Rattle.bed.specs.Tests.{ifThere, namesFit, isDot, strandFits, fieldsFit, spansFit, rowsFit, bedValid}
-use Rattle.bed.specs.Rules.{WordNumber, three-to-nine, twelve, BedRules}
+use Rattle.bed.specs.Rules.{BedRules}
+use Rattle.bed.proofs.ColumnLaws.{number-of, number-is}
 use Rattle.columns.specs.Names.{lengthFits}
 use Rattle.columns.proofs.WordLaws.{and-i}
 
@@ -36,20 +36,6 @@ module _ (n k : ℕ) (a b : Bool) where
       go : (t : Bool) → ltb k n ≡ t → ifThere n k a b ≡ true
       go true e = rw e (f (ltb-true k n e))
       go false e = rw e (g (ltb-false k n e))
-
--- a number of words
-number-of : (n : ℕ) → isWordCount n ≡ true → WordNumber n
-number-of n e =
-    let b = both (leb 3 n) (leb n 9 || eqb n 12) e in
-    go (leb n 9) refl (leb-true 3 n (b .0)) (b .1)
-  where
-    go : (t : Bool) → leb n 9 ≡ t → 3 ≤ n → (t || eqb n 12) ≡ true → WordNumber n
-    go true q l h = three-to-nine l (leb-true n 9 q)
-    go false q l h = rw (eqb-true n 12 h) twelve
-
-number-is : (n : ℕ) → WordNumber n → isWordCount n ≡ true
-number-is n (three-to-nine l h) = rw (le-leb 3 n l, le-leb n 9 h)
-number-is n twelve = refl
 
 -- the strand of none
 dot-of : (s : Strand) → isDot s ≡ true → s ≡ Dot
@@ -147,7 +133,7 @@ rules-is r ts qs zs b =
     let thickEnd = there-or-left w 7 (leb (r .thickEnd) largestPosition) (eqb (r .thickEnd) (r .chromEnd)) (λ h. le-leb _ _ (b .thickEndRange h)) (λ h. eq-eqb _ _ (b .noThickEnd h)) in
     let colour = there-or-left w 8 (ltb (r .itemRgb) (suc colourLimit * suc colourLimit * suc colourLimit)) (eqb (r .itemRgb) 0) (λ h. lt-ltb _ _ (b .colourRange h)) (λ h. eq-eqb _ _ (b .noItemRgb h)) in
     let places = and-i _ _ thickStart (and-i _ _ thickEnd colour) in
-    let fields : fieldsFit r ≡ true = and-i _ _ (number-is w (b .number)) (and-i _ _ (le-leb _ _ (b .startRange)) (and-i _ _ (le-leb _ _ (b .endRange)) (and-i _ _ score places))) in
+    let fields : fieldsFit r ≡ true = and-i _ _ (number-is (b .number)) (and-i _ _ (le-leb _ _ (b .startRange)) (and-i _ _ (le-leb _ _ (b .endRange)) (and-i _ _ score places))) in
     let targets = ranged-is 0 largestPosition n (take n ts) lt (ranged-take 0 largestPosition n ts (b .targetRange)) in
     let queries = ranged-is 0 largestPosition n (take n qs) lq (ranged-take 0 largestPosition n qs (b .queryRange)) in
     let sizes = ranged-is 1 largestPosition n (take n zs) lz (ranged-take 1 largestPosition n zs (b .sizeRange)) in

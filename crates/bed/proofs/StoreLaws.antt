@@ -1,25 +1,24 @@
 -- Storing the rows of an accepted BED line. Assumes nothing.
-use mathlib.Core.Path.{_≡_, refl, sym, ap, _∙_}
-use mathlib.Core.Bool.{Bool, true, false}
-use mathlib.Core.List.{List, [], _∷_}
-use Prim.Native.Nat.{ℕ, _+_, _-_, _*_, _≤_, _<_}
+use mathlib.Core.Path.{_≡_, refl, sym, _∙_}
+use mathlib.Core.List.{List}
+use Prim.Native.Nat.{ℕ, _-_, _≤_, _<_}
 use native.Mathlib.Omega.{arith}
-use lib.ListN.{length, take, drop, length-drop}
-use lib.Seq.{sets, take-all}
-use lib.Dec.{leb}
+use lib.ListN.{length, take, drop}
+use lib.Seq.{sets}
 use borrow.Author.Tests.{le-leb, lt-leb}
 use Rattle.ledger.specs.Limits.{blockLimit, largestNumber}
 use Rattle.ledger.specs.declared.Reason.the-variants.{NoRoom}
 use Rattle.ledger.specs.declared.Refusal.{Refusal}
-use Rattle.blocks.specs.Blocks.{shifted, shiftedWithin, sumsFrom, sumsWithin, rowsOf, blocksFill, allBetween, sumOf}
+use Rattle.blocks.specs.Blocks.{shiftedWithin, sumsWithin, rowsOf}
 use Rattle.blocks.proofs.RuleLaws.{shifted-within, sums-within, total-fits, fill-low}
 use Rattle.bed.specs.declared.Bed.{Bed}
 use Rattle.bed.specs.declared.BedAnswer.{BedAnswer}
 use Rattle.bed.specs.declared.BedAnswer.the-variants.{Accepted, Refused}
 use Rattle.bed.specs.Records.{bedSizes, bedStarts, bedTargets, bedQueries}
-use Rattle.bed.specs.Read.{thenCheck, roomCheck, rowsAfter, bedCheck, bedRead, Blocked, Staged, Stored, RowsStored, BedRead}
+use Rattle.bed.specs.Read.{roomCheck, bedCheck, bedRead, Staged, Stored, RowsStored, BedRead}
+use Rattle.bed.proofs.ReadLaws.{part-all}
 use Rattle.bed.proofs.AcceptLaws.{accepted-fills, accepted-span}
-use Rattle.bed.proofs.ValidLaws.{accepted-fields}
+use Rattle.bed.proofs.ValidLaws.{accepted-end}
 
 module _ (s : List ℕ) (r : Bed) (l ts qs zs : List ℕ) (held : Stored s r l) (room : ℕ) (er : room ≡ rowsOf ts qs zs) where
   pub rows-short : room < r .blockCount → RowsStored s r ts ts qs qs zs zs (Refused (record { reason = NoRoom; place = length s }))
@@ -27,9 +26,7 @@ module _ (s : List ℕ) (r : Bed) (l ts qs zs : List ℕ) (held : Stored s r l) 
   rows-short h = record { is = rw (← er, lt-leb (r .blockCount) room h); targets = refl; queries = refl; sizes = refl }
 
   starts-all : take (r .blockCount) (take (length l - blockLimit) (drop blockLimit l)) ≡ bedStarts s r
-  starts-all =
-      let q : take (length l - blockLimit) (drop blockLimit l) ≡ drop blockLimit l = take-all (length l - blockLimit) (drop blockLimit l) (rw length-drop (omega arith)) in
-      rw q (held .held .starts)
+  starts-all = rw (part-all l blockLimit) (held .held .starts)
 
   targets-are : shiftedWithin largestNumber (r .chromStart) (take (r .blockCount) (take (length l - blockLimit) (drop blockLimit l))) ≡ bedTargets s r
   unfolding bedTargets
@@ -62,7 +59,7 @@ module _ (s ts qs zs l : List ℕ) (x : BedAnswer) (staged : Staged s (bedCheck 
   pub read-staged : (r : Bed) → x ≡ Accepted r → Stored s r l
   read-staged r q =
       let e : bedCheck s ≡ Accepted r = sym (staged .is) ∙ q in
-      record { held = staged .held r q; fill = accepted-fills s r e; span = accepted-span s r e; high = accepted-fields s r e .endRange }
+      record { held = staged .held r q; fill = accepted-fills s r e; span = accepted-span s r e; high = accepted-end s r e }
 
   pub read-stored : (r : Bed) (ts′ qs′ zs′ : List ℕ) (a : BedAnswer) → x ≡ Accepted r → RowsStored s r ts ts′ qs qs′ zs zs′ a → BedRead s ts ts′ qs qs′ zs zs′ a
   unfolding bedRead

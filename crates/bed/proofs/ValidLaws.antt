@@ -1,18 +1,15 @@
 -- An accepted BED line is a valid record: its fields are in their ranges, and its rows obey the rules of blocks. Assumes nothing.
 use mathlib.Core.Path.{_≡_, refl, sym, ap, _∙_}
-use mathlib.Core.Bool.{Bool, true, false, _&&_}
+use mathlib.Core.Bool.{true}
 use mathlib.Core.List.{List, [], _∷_}
-use Prim.Native.Nat.{ℕ, suc, _+_, _-_, _*_, _≤_, _<_}
+use Prim.Native.Nat.{ℕ, _+_, _-_, _≤_, _<_}
 use native.Mathlib.Omega.{arith}
 use lib.ListN.{length, getD, take}
-use lib.Seq.{take-all}
-use lib.Dec.{leb, eqb}
-use borrow.Author.Tests.{lt-ltb, le-ltb, le-leb, leb-true, eq-eqb, ne-eqb}
+use borrow.Author.Tests.{le-leb, eq-eqb, ne-eqb}
 use Rattle.ledger.specs.declared.Part.{Part}
-use Rattle.ledger.specs.Limits.{nameLimit, blockLimit, largestPosition, bedScoreLimit, colourLimit}
+use Rattle.ledger.specs.Limits.{nameLimit, blockLimit, largestPosition}
 use Rattle.text.specs.Words.{wordAt, wordCount, bytesOf}
 use Rattle.text.proofs.Laws.{either}
-use Rattle.text.proofs.TextLaws.{both}
 use Rattle.numbers.specs.declared.Spelt.the-variants.{Means}
 use Rattle.numbers.specs.Lists.{valuesOf}
 use Rattle.kinds.specs.declared.Range.{Range}
@@ -23,19 +20,20 @@ use Rattle.kinds.proofs.RangeLaws.{number-spelt, count-spelt, name-spelt, colou
 use Rattle.columns.specs.Spells.{firsts}
 use Rattle.columns.specs.Places.{kindAt, countBefore}
 use Rattle.columns.proofs.PlaceLaws.{value-first}
-use Rattle.blocks.specs.Blocks.{blocksFill, sumsFrom, sumOf, areSums, allBetween, rowsOf, countFits, rowNumbersFit}
-use Rattle.blocks.proofs.RuleLaws.{between-is, fill-low, fill-shift, shifted-length, sums-made, sums-length, total-fits, wider}
+use Rattle.blocks.specs.Blocks.{blocksFill, sumsFrom, sumOf, areSums, allBetween}
+use Rattle.blocks.proofs.RuleLaws.{between-is, fill-low, fill-shift, shifted-length, sums-made, sums-length, total-fits, wider, fills-of, sums-of, ranged-of}
 use Rattle.bed.specs.declared.Bed.{Bed}
 use Rattle.bed.specs.declared.BedAnswer.the-variants.{Accepted}
 use Rattle.bed.specs.Table.{bedColumns}
 use Rattle.bed.specs.Records.{bedSizes, bedStarts, bedTargets, bedQueries}
 use Rattle.bed.specs.Read.{bedCheck}
-use Rattle.bed.specs.Rules.{WordNumber, three-to-nine, twelve, BedLine}
-use Rattle.bed.specs.Tests.{ifThere, namesFit, isDot, strandFits, fieldsFit, spansFit, rowsFit, bedValid}
-use Rattle.bed.proofs.ColumnLaws.{block-sizes}
-use Rattle.bed.proofs.AcceptLaws.{lineValues, accepts-of, number-is, thick-of, read-all, accepted-number, accepted-span, accepted-fills, accepted-count, accepted-starts}
-use Rattle.bed.proofs.LineLaws.{least-words, value-spelt, line-of}
-use Rattle.columns.specs.Names.{partOf, lengthFits}
+use Rattle.bed.specs.Rules.{BedLine, BedRules}
+use Rattle.bed.specs.Tests.{bedValid}
+use Rattle.bed.proofs.ColumnLaws.{least-words, by-number, block-sizes}
+use Rattle.bed.proofs.AcceptLaws.{lineValues, accepts-of, read-all, accepted-number, accepted-span, accepted-fills, accepted-count, accepted-starts}
+use Rattle.bed.proofs.LineLaws.{value-spelt, line-of}
+use Rattle.bed.proofs.RuleLaws.{rules-is}
+use Rattle.columns.specs.Names.{partOf}
 use Rattle.columns.proofs.WordLaws.{word-length}
 
 -- sums lie within a number that their total fits into
@@ -43,18 +41,6 @@ sums-between : (most acc : ℕ) (zs : List ℕ) → acc + sumOf zs ≤ most → 
 unfolding allBetween sumsFrom sumOf
 sums-between most acc [] h = refl
 sums-between most acc (z ∷ zs) h = rw (le-leb 0 acc (omega arith), le-leb acc most (omega arith)) (sums-between most (acc + z) zs (omega arith))
-
--- a test of a column that is there or left out
-there-is : (n k : ℕ) (a b : Bool) → (k < n → a ≡ true) → (n ≤ k → b ≡ true) → ifThere n k a b ≡ true
-there-is n k a b f g = either n k _ (λ h. rw (le-ltb k n h) (g h)) (λ h. rw (lt-ltb k n h) (f h))
-
-length-fits : (n : ℕ) → 1 ≤ n → n ≤ nameLimit → lengthFits n ≡ true
-length-fits n a b = rw (le-leb 1 n a, le-leb n nameLimit b)
-
-all : (a b : Bool) → a ≡ true → b ≡ true → (a && b) ≡ true
-all true true e f = refl
-all true false e f = f
-all false b e f = e
 
 -- the rows of a record as its rules have them
 pub record RowsObey (r : Bed) (ts qs zs : List ℕ) : Type 0 where
@@ -68,22 +54,6 @@ pub record RowsObey (r : Bed) (ts qs zs : List ℕ) : Type 0 where
   pub targetRange : allBetween 0 largestPosition ts ≡ true
   pub queryRange : allBetween 0 largestPosition qs ≡ true
   pub sizeRange : allBetween 1 largestPosition zs ≡ true
-
--- the fields of a record in their ranges
-pub record FieldsObey (r : Bed) : Type 0 where
-  pub number : WordNumber (r .words)
-  pub chromSome : 1 ≤ r .chrom .length
-  pub chromShort : r .chrom .length ≤ nameLimit
-  pub nameSome : 3 < r .words → 1 ≤ r .name .length
-  pub nameShort : 3 < r .words → r .name .length ≤ nameLimit
-  pub startRange : r .chromStart ≤ largestPosition
-  pub endRange : r .chromEnd ≤ largestPosition
-  pub scoreRange : 4 < r .words → r .score ≤ bedScoreLimit
-  pub thickStartRange : r .thickStart ≤ largestPosition
-  pub thickEndRange : r .thickEnd ≤ largestPosition
-  pub colourRange : 8 < r .words → r .itemRgb < suc colourLimit * suc colourLimit * suc colourLimit
-  pub countSome : 1 ≤ r .blockCount
-  pub countFew : r .blockCount ≤ blockLimit
 
 module _ (s : List ℕ) (r : Bed) (ok : bedCheck s ≡ Accepted r) where
   abbrev vs : List ℕ
@@ -122,135 +92,86 @@ module _ (s : List ℕ) (r : Bed) (ok : bedCheck s ≡ Accepted r) where
       let c = count-spelt (before 9) (bytesOf s (wordAt s 0 9)) (getD vs 9 0) (value-says 9 h) in
       rw (line .blockCount h) (c .0, c .1))
 
-  pub accepted-fields : FieldsObey r
+  pub accepted-end : r .chromEnd ≤ largestPosition
   unfolding bedColumns
-  accepted-fields =
-      let w = some-words in
-      let chrom = name-at 0 (r .chrom) (omega arith) refl (line .chrom) in
-      let start : r .chromStart ≤ largestPosition = rw (line .chromStart) (number-at 1 Coordinate (omega arith) refl) in
-      let end : r .chromEnd ≤ largestPosition = rw (line .chromEnd) (number-at 2 Coordinate (omega arith) refl) in
-      let a = line .thickOrder in
-      let b = line .thickHigh in
-      record {
-        number = rw (line .words) (accepted-number s r ok);
-        chromSome = chrom .0;
-        chromShort = chrom .1;
-        nameSome = λ h. name-at 3 (r .name) h refl (line .name h) .0;
-        nameShort = λ h. name-at 3 (r .name) h refl (line .name h) .1;
-        startRange = start;
-        endRange = end;
-        scoreRange = λ h. rw (line .score h) (number-at 4 BedScore h refl);
-        thickStartRange = omega arith;
-        thickEndRange = omega arith;
-        colourRange = λ h. rw (line .itemRgb h) (colour-spelt (before 8) (bytesOf s (wordAt s 0 8)) (getD vs 8 0) (value-says 8 h));
-        countSome = count-at .0;
-        countFew = count-at .1;
-      }
+  accepted-end = rw (line .chromEnd) (number-at 2 Coordinate (omega (arith, some-words)) refl)
 
   sizes-in : allBetween 1 largestPosition (bedSizes s r) ≡ true
   unfolding bedSizes allBetween
-  sizes-in = go (wordCount s 0) refl (accepted-number s r ok)
-    where
-      go : (n : ℕ) → wordCount s 0 ≡ n → WordNumber n → allBetween 1 largestPosition (bedSizes s r) ≡ true
-      go n q (three-to-nine x y) =
-          let w = line .words in
-          let a = accepted-span s r ok in
-          let b = accepted-fields .endRange in
-          rw (ne-eqb (r .words) 12 (λ z. omega arith), le-leb 1 (r .chromEnd - r .chromStart) (omega arith), le-leb (r .chromEnd - r .chromStart) largestPosition (omega arith))
-      go n q twelve =
-          let a = accepts-of s r ok in
-          rw (eq-eqb (r .words) 12 (line .words ∙ q)) (between-is 1 largestPosition (valuesOf (bytesOf s (wordAt s 0 10))) (block-sizes s (a .end) (read-all s (a .end) (a .read) 0 q) q .1))
+  sizes-in =
+      by-number (accepted-number s r ok) _ (λ x y.
+      let w = line .words in
+      let a = accepted-span s r ok in
+      let b = accepted-end in
+      rw (ne-eqb (r .words) 12 (λ z. omega arith), le-leb 1 (r .chromEnd - r .chromStart) (omega arith), le-leb (r .chromEnd - r .chromStart) largestPosition (omega arith)))
+      (λ q.
+      let a = accepts-of s r ok in
+      rw (eq-eqb (r .words) 12 (line .words ∙ q)) (between-is 1 largestPosition (valuesOf (bytesOf s (wordAt s 0 10))) (block-sizes s (a .end) (read-all s (a .end) (a .read) 0 q) q .1)))
 
   pub accepted-rows : RowsObey r (bedTargets s r) (bedQueries s r) (bedSizes s r)
   unfolding bedTargets bedQueries
   accepted-rows =
-      let f = accepted-fields in
       let filled = accepted-fills s r ok in
       let total = total-fits 0 (r .chromEnd - r .chromStart) (bedStarts s r) (bedSizes s r) filled in
       let x : r .chromStart + 0 ≡ r .chromStart = omega arith in
       let y : r .chromStart + (r .chromEnd - r .chromStart) ≡ r .chromEnd = omega (arith, accepted-span s r ok) in
       let moved : blocksFill (r .chromStart) (r .chromEnd) (bedTargets s r) (bedSizes s r) ≡ true = rw (x, y) at (fill-shift (r .chromStart) 0 (r .chromEnd - r .chromStart) (bedStarts s r) (bedSizes s r) ∙ filled) in
       record {
-        someBlock = f .countSome;
-        fewBlocks = f .countFew;
+        someBlock = count-at .0;
+        fewBlocks = count-at .1;
         targets = shifted-length (r .chromStart) (bedStarts s r) ∙ accepted-starts s r ok;
         queries = sums-length 0 (bedSizes s r) ∙ accepted-count s r ok;
         sizes = accepted-count s r ok;
         fill = moved;
         sums = sums-made 0 (bedSizes s r);
-        targetRange = wider (r .chromStart) (r .chromEnd) 0 largestPosition (bedTargets s r) (omega arith) (f .endRange) (fill-low (r .chromStart) (r .chromEnd) (bedTargets s r) (bedSizes s r) moved);
-        queryRange = sums-between largestPosition 0 (bedSizes s r) (omega (arith, f .endRange));
+        targetRange = wider (r .chromStart) (r .chromEnd) 0 largestPosition (bedTargets s r) (omega arith) accepted-end (fill-low (r .chromStart) (r .chromEnd) (bedTargets s r) (bedSizes s r) moved);
+        queryRange = sums-between largestPosition 0 (bedSizes s r) (omega (arith, accepted-end));
         sizeRange = sizes-in;
       }
 
--- the rules as tests
-module _ (r : Bed) (ts qs zs : List ℕ) (rows : RowsObey r ts qs zs) where
-  count-fits : countFits (r .blockCount) (rowsOf ts qs zs) ≡ true
-  count-fits =
-      let a = rows .targets in
-      let b = rows .queries in
-      let c = rows .sizes in
-      rw (le-leb 1 (r .blockCount) (rows .someBlock), le-leb (r .blockCount) blockLimit (rows .fewBlocks), le-leb (r .blockCount) (rowsOf ts qs zs) (omega arith))
-
-  ts-all : take (r .blockCount) ts ≡ ts
-  ts-all = take-all (r .blockCount) ts (omega (arith, rows .targets))
-
-  qs-all : take (r .blockCount) qs ≡ qs
-  qs-all = take-all (r .blockCount) qs (omega (arith, rows .queries))
-
-  zs-all : take (r .blockCount) zs ≡ zs
-  zs-all = take-all (r .blockCount) zs (omega (arith, rows .sizes))
-
-  numbers-fit : rowNumbersFit (take (r .blockCount) ts) (take (r .blockCount) qs) (take (r .blockCount) zs) ≡ true
-  unfolding rowNumbersFit
-  numbers-fit = rw (ts-all, qs-all, zs-all, rows .targetRange, rows .queryRange, rows .sizeRange)
-
-  rows-fit : (r .words ≤ 9 → r .blockCount ≡ 1) → rowsFit r (take (r .blockCount) ts) (take (r .blockCount) qs) (take (r .blockCount) zs) ≡ true
-  unfolding rowsFit
-  rows-fit one =
-      rw (ts-all, qs-all, zs-all, rows .fill, rows .sums, there-is (r .words) 9 true (eqb (r .blockCount) 1) (λ h. refl) (λ h. eq-eqb (r .blockCount) 1 (one h)))
-
-module _ (s : List ℕ) (r : Bed) (ok : bedCheck s ≡ Accepted r) where
-  abbrev read : BedLine s (firsts (lineValues s)) r
-  read = line-of s r ok
-
-  names-fit : namesFit (r .words) (r .chrom .length) (r .name .length) ≡ true
-  unfolding namesFit
-  names-fit =
-      let f = accepted-fields s r ok in
-      all _ _ (length-fits (r .chrom .length) (f .chromSome) (f .chromShort))
-      (there-is (r .words) 3 _ _ (λ h. length-fits (r .name .length) (f .nameSome h) (f .nameShort h)) (λ h. eq-eqb (r .name .length) 0 (ap (λ (p : Part). p .length) (read .noName h))))
-
-  strand-fits : strandFits r ≡ true
-  unfolding strandFits
-  strand-fits = there-is (r .words) 5 true (isDot (r .strand)) (λ h. refl) (λ h. rw (read .noStrand h))
-
-  fields-fit : fieldsFit r ≡ true
-  unfolding fieldsFit
-  fields-fit =
-      let f = accepted-fields s r ok in
-      all _ _ (number-is (f .number))
-      (all _ _ (le-leb (r .chromStart) largestPosition (f .startRange))
-      (all _ _ (le-leb (r .chromEnd) largestPosition (f .endRange))
-      (all _ _ (there-is (r .words) 4 _ _ (λ h. le-leb (r .score) bedScoreLimit (f .scoreRange h)) (λ h. eq-eqb (r .score) 0 (read .noScore h)))
-      (all _ _ (there-is (r .words) 6 _ _ (λ h. le-leb (r .thickStart) largestPosition (f .thickStartRange)) (λ h. eq-eqb (r .thickStart) (r .chromStart) (read .noThickStart h)))
-      (all _ _ (there-is (r .words) 7 _ _ (λ h. le-leb (r .thickEnd) largestPosition (f .thickEndRange)) (λ h. eq-eqb (r .thickEnd) (r .chromEnd) (read .noThickEnd h)))
-      (there-is (r .words) 8 _ _ (λ h. lt-ltb (r .itemRgb) (suc colourLimit * suc colourLimit * suc colourLimit) (f .colourRange h)) (λ h. eq-eqb (r .itemRgb) 0 (read .noItemRgb h))))))))
-
-  spans-fit : spansFit r ≡ true
-  unfolding spansFit
-  spans-fit = all _ _ (lt-ltb (r .chromStart) (r .chromEnd) (accepted-span s r ok)) (thick-of r (lineValues s) (accepts-of s r ok .spans))
+  -- THE RULES OF A RECORD, ONE BY ONE
+  pub accepted-rules : BedRules r (bedTargets s r) (bedQueries s r) (bedSizes s r)
+  unfolding bedColumns
+  accepted-rules =
+      let w = accepted-rows in
+      let n = r .blockCount in
+      let some = some-words in
+      let chrom = name-at 0 (r .chrom) (omega arith) refl (line .chrom) in
+      let start : r .chromStart ≤ largestPosition = rw (line .chromStart) (number-at 1 Coordinate (omega arith) refl) in
+      record {
+        someBlock = w .someBlock;
+        fewBlocks = w .fewBlocks;
+        targetRows = omega (arith, w .targets);
+        queryRows = omega (arith, w .queries);
+        sizeRows = omega (arith, w .sizes);
+        number = rw (line .words) (accepted-number s r ok);
+        chromSome = chrom .0;
+        chromShort = chrom .1;
+        nameSome = λ h. name-at 3 (r .name) h refl (line .name h) .0;
+        nameShort = λ h. name-at 3 (r .name) h refl (line .name h) .1;
+        startRange = start;
+        endRange = accepted-end;
+        scoreRange = λ h. rw (line .score h) (number-at 4 BedScore h refl);
+        thickStartRange = λ h. rw (line .thickStart h) (number-at 6 Coordinate h refl);
+        thickEndRange = λ h. rw (line .thickEnd h) (number-at 7 Coordinate h refl);
+        colourRange = λ h. rw (line .itemRgb h) (colour-spelt (before 8) (bytesOf s (wordAt s 0 8)) (getD vs 8 0) (value-says 8 h));
+        targetRange = ranged-of 0 largestPosition n (bedTargets s r) (w .targets) (w .targetRange);
+        queryRange = ranged-of 0 largestPosition n (bedQueries s r) (w .queries) (w .queryRange);
+        sizeRange = ranged-of 1 largestPosition n (bedSizes s r) (w .sizes) (w .sizeRange);
+        noName = λ h. ap (λ (p : Part). p .length) (line .noName h);
+        noScore = line .noScore;
+        noStrand = line .noStrand;
+        noThickStart = line .noThickStart;
+        noThickEnd = line .noThickEnd;
+        noItemRgb = line .noItemRgb;
+        noBlocks = line .noBlocks;
+        span = line .span;
+        thickLow = line .thickLow;
+        thickOrder = line .thickOrder;
+        thickHigh = line .thickHigh;
+        blocks = fills-of (r .chromStart) (r .chromEnd) n (bedTargets s r) (bedSizes s r) (w .targets) (w .sizes) (w .fill);
+        sums = sums-of n (bedQueries s r) (bedSizes s r) (w .queries) (w .sizes) (w .sums);
+      }
 
   pub accepted-valid : bedValid r (bedTargets s r) (bedQueries s r) (bedSizes s r) ≡ true
-  unfolding bedValid
-  accepted-valid =
-      let ts = bedTargets s r in
-      let qs = bedQueries s r in
-      let zs = bedSizes s r in
-      let rows = accepted-rows s r ok in
-      all _ _ (count-fits r ts qs zs rows)
-      (all _ _ names-fit
-      (all _ _ strand-fits
-      (all _ _ fields-fit
-      (all _ _ (numbers-fit r ts qs zs rows)
-      (all _ _ spans-fit (rows-fit r ts qs zs rows (read .noBlocks)))))))
+  accepted-valid = rules-is r (bedTargets s r) (bedQueries s r) (bedSizes s r) accepted-rules

@@ -1,58 +1,44 @@
 -- Writing a BED record: what each stage shows, on plain values. Assumes nothing.
-use mathlib.Core.Path.{_≡_, refl, sym, ap, _∙_}
-use mathlib.Core.Bool.{Bool, true, false, _&&_, _||_}
-use mathlib.Core.List.{List, [], _∷_, _++_}
-use Prim.Native.Nat.{ℕ, zero, suc, _+_, _-_, _*_, _%_, _≤_, _<_, min}
+use mathlib.Core.Path.{_≡_, refl, sym, _∙_}
+use mathlib.Core.Bool.{Bool, true, false}
+use mathlib.Core.List.{List}
+use Prim.Native.Nat.{ℕ, _-_, _*_, _≤_, min}
 use native.Mathlib.Omega.{arith}
-use lib.ListN.{length, take, drop, length-take, length-drop}
+use lib.ListN.{length, take, drop, length-take}
 use lib.Seq.{sets, length-sets}
 use lib.Dec.{leb, ltb, eqb}
-use borrow.Author.Tests.{leb-true, ltb-true, ltb-false, eqb-true}
+use borrow.Author.Tests.{leb-true, eqb-true}
 use borrow.Rule.Slice.PartMut.{putMid}
 use Rattle.ledger.specs.Limits.{nameLimit, blockLimit}
-use Rattle.ledger.specs.declared.Strand.{Strand}
-use Rattle.ledger.specs.declared.Strand.the-variants.{Plus, Minus, Dot}
 use Rattle.ledger.specs.declared.Refusal.{Refusal}
-use Rattle.ledger.specs.Strands.{strandLetter}
 use Rattle.text.proofs.CheckLaws.{require-holds}
 use Rattle.text.specs.declared.Check.{Check}
 use Rattle.text.specs.declared.Check.the-variants.{Holds}
 use Rattle.text.specs.declared.Check.the-variants as check
-use Rattle.text.specs.Pieces.{joined}
 use Rattle.text.proofs.TextLaws.{both}
-use Rattle.writing.specs.Puts.{Put}
 use Rattle.writing.specs.Answers.{Wrote}
 use Rattle.writing.specs.declared.Writing.{Writing}
 use Rattle.writing.specs.declared.Writing.the-variants as writing
 use Rattle.kinds.proofs.SpellLaws.{part-stored}
 use Rattle.columns.specs.Columns.{tableOf}
-use Rattle.columns.specs.Lines.{lineText, fedLine, thenWrite}
+use Rattle.columns.specs.Lines.{lineText, fedLine}
 use Rattle.columns.specs.Ranges.{wordsFrom}
 use Rattle.columns.proofs.BackLaws.{line-joins, words-take}
 use Rattle.columns.proofs.PlaceLaws.{sets-keep, sets-there}
-use Rattle.blocks.specs.Blocks.{countFits, rowsOf, subtracted, rowNumbersFit}
+use Rattle.blocks.specs.Blocks.{rowsOf, subtracted, rowNumbersFit}
 use Rattle.bed.specs.declared.Bed.{Bed}
 use Rattle.bed.specs.Table.{bedColumns}
 use Rattle.bed.specs.Records.{isWordCount}
-use Rattle.bed.specs.Tests.{pickTest, ifThere, namesFit, fieldsFit, strandFits, spansFit, rowsFit}
-use Rattle.bed.specs.Write.{namesShow, writeCheck, bedWords, bedText, bedValues, bedWrite, BedWrote, NamesShort, NamesPut, RowsThere, ListsPut, Writable}
-use Rattle.bed.proofs.AcceptLaws.{number-of}
-use Rattle.bed.proofs.ColumnLaws.{table-is, codes-length, count-most}
-use Rattle.columns.specs.Names.{lengthFits}
+use Rattle.bed.specs.Tests.{pickTest, ifThere, namesFit, fieldsFit, strandFits}
+use Rattle.bed.specs.Write.{namesShow, writeCheck, bedWords, bedText, bedValues, bedWrite, BedWrote, RowsThere, ListsPut, Writable}
+use Rattle.bed.proofs.ColumnLaws.{bedCodes, codes-same, codes-few, count-most}
+use Rattle.columns.specs.Names.{NamesPut, namesIn, lengthFits}
+use Rattle.columns.proofs.NameLaws.{names-put}
+use Rattle.columns.proofs.TableLaws.{codes-length, table-is}
 use Rattle.columns.proofs.WordLaws.{letter-byte}
 use Rattle.blocks.proofs.RuleLaws.{subtracted-length}
 
--- the codes of the table in the code
-abbrev bedCodes : List ℕ
-bedCodes = 0 ∷ 1 ∷ 1 ∷ 0 ∷ 3 ∷ 10 ∷ 1 ∷ 1 ∷ 13 ∷ 6 ∷ 7 ∷ 8 ∷ []
-
--- the two names
-pub names-put : (chrom name t t₁ t₂ : List ℕ) (p q : ℕ) → NamesShort chrom name t → Put chrom 0 t t₁ p → Put name nameLimit t₁ t₂ q → NamesPut chrom name t₂
-names-put chrom name t t₁ t₂ p q h f g = record {
-  chromAt = rw (g .stored) (sets-keep t₁ nameLimit name 0 (length chrom) (omega (arith, h .chromShort)) ∙ rw (f .stored) (sets-there t 0 chrom (omega (arith, h .chromShort, h .long))));
-  nameAt = rw (g .stored) (sets-there t₁ nameLimit name (rw (f .stored, length-sets) (omega (arith, h .nameShort, h .long))));
-}
-
+-- the two lists of the blocks
 pub lists-put : (r : Bed) (ts zs l l₁ y : List ℕ) → RowsThere r ts zs l → l₁ ≡ sets l 0 (take (r .blockCount) zs)
     → y ≡ sets (take (length l₁ - blockLimit) (drop blockLimit l₁)) 0 (subtracted (r .chromStart) (take (r .blockCount) ts)) → ListsPut r ts zs (putMid blockLimit (length l₁ - blockLimit) l₁ y)
 lists-put r ts zs l l₁ y h e₁ ey =
@@ -74,12 +60,12 @@ lists-put r ts zs l l₁ y h e₁ ey =
 module _ (r : Bed) (chrom name ts zs t l : List ℕ) (names : NamesPut chrom name t) (lists : ListsPut r ts zs l) where
   words-are : wordsFrom 0 0 bedColumns t (bedValues r (length chrom) (length name)) l ≡ bedWords r chrom name ts zs
   unfolding wordsFrom bedColumns bedValues bedWords
-  words-are = rw (names .chromAt, names .nameAt, letter-byte (r .strand), lists .sizes, lists .starts)
+  words-are = rw (names .firstAt, names .secondAt, letter-byte (r .strand), lists .sizes, lists .starts)
 
   pub text-is : r .words ≤ 12 → fedLine (tableOf (take (r .words) bedCodes)) 9 t (bedValues r (length chrom) (length name)) l ≡ bedText r chrom name ts zs
   unfolding fedLine lineText bedText
   text-is h = rw (
-    table-is (r .words) h,
+    table-is bedCodes bedColumns codes-same codes-few (r .words) h,
     line-joins 9 t (bedValues r (length chrom) (length name)) l (take (r .words) bedColumns),
     words-take (r .words) 0 0 bedColumns t (bedValues r (length chrom) (length name)) l,
     words-are,
@@ -90,8 +76,11 @@ module _ (r : Bed) (chrom name ts zs t l : List ℕ) (names : NamesPut chrom nam
 
 -- what the stages ask of a record that passed the checks
 module _ (r : Bed) (chrom name ts zs : List ℕ) (w : Writable r chrom name ts zs) where
-  pub names-short : (t : List ℕ) → length t ≡ 2 * nameLimit → NamesShort chrom name t
-  names-short t e = record { long = e; chromShort = w .chromShort; nameShort = w .nameShort }
+  pub names-there : (t names : List ℕ) → names ≡ namesIn chrom name t → length t ≡ 2 * nameLimit → NamesPut chrom name names
+  names-there t names e l = names-put chrom name t names e l (w .chromShort) (w .nameShort)
+
+  pub codes-there : r .words ≡ length (take (r .words) bedCodes)
+  codes-there = codes-length bedCodes bedColumns codes-same codes-few (r .words) (w .words)
 
   pub rows-there : (l : List ℕ) → length l ≡ 2 * blockLimit → RowsThere r ts zs l
   rows-there l e = record { long = e; few = w .few; targets = w .targets; sizes = w .sizes }

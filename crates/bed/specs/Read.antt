@@ -1,19 +1,18 @@
 -- Reading a BED line: the checks in the ledger's order. Each stage names what is tested from there on; the last one, `bedRead`, is the reader.
-use Prim.Native.Nat.{ℕ, _+_, _-_, _*_, _≤_, _<_}
+use Prim.Native.Nat.{ℕ, _-_, _*_, _≤_, _<_}
 use mathlib.Core.Path.{_≡_}
-use mathlib.Core.Bool.{Bool, true, false, _&&_, _||_}
-use mathlib.Core.List.{List, [], _∷_}
+use mathlib.Core.Bool.{Bool, true, _&&_}
+use mathlib.Core.List.{List}
 use lib.ListN.{length, take, drop, getD, set}
 use lib.Seq.{sets}
 use lib.Dec.{leb, ltb, eqb}
-use Rattle.ledger.specs.declared.Reason.the-variants.{WrongCount, SpanDisagrees, BlockRules, NoRoom}
-use Rattle.ledger.specs.declared.Refusal.{Refusal}
+use Rattle.ledger.specs.declared.Reason.the-variants.{SpanDisagrees, BlockRules, NoRoom}
 use Rattle.ledger.specs.Limits.{blockLimit, largestPosition}
 use Rattle.text.specs.declared.Check.{Check}
 use Rattle.text.specs.declared.Check.the-variants.{Holds}
 use Rattle.text.specs.declared.Check.the-variants as check
-use Rattle.text.specs.Checks.{require, textCheck, lastLineCheck}
-use Rattle.text.specs.Words.{lineEnd, wordAt, wordCount, bytesOf}
+use Rattle.text.specs.Checks.{require, textCheck, wordsCheck, lastLineCheck}
+use Rattle.text.specs.Words.{wordAt, wordCount, bytesOf}
 use Rattle.numbers.specs.Lists.{valuesOf}
 use Rattle.columns.specs.declared.Columns.{Columns}
 use Rattle.columns.specs.declared.Columns.the-variants.{Next}
@@ -35,11 +34,9 @@ abbrev pub thenRead : Columns → BedAnswer → BedAnswer
 thenRead (Next e) rest = rest
 thenRead (columns.Refused x) rest = Refused x
 
--- the number of words: more than 12 at the first surplus word, any other wrong number at the line's end (2)
-unfoldable pub wordsCheck : List ℕ → ℕ → Check
-wordsCheck s n =
-    require (leb n 12) WrongCount (wordAt s 0 12 .start)
-    (require (isWordCount n) WrongCount (lineEnd s 0) Holds)
+-- the number of words n (2): 3 to 9, or 12
+abbrev pub bedWordsCheck : List ℕ → ℕ → Check
+bedWordsCheck s n = wordsCheck s 0 n 12 (isWordCount n)
 
 -- chromStart ≤ thickStart ≤ thickEnd ≤ chromEnd
 abbrev pub thickFits : Bed → Bool
@@ -66,25 +63,17 @@ roomCheck s r room = require (leb (r .blockCount) room) NoRoom (length s) Holds
 unfoldable pub afterSpans : List ℕ → Bed → BedAnswer
 afterSpans s r = thenCheck (blockCheck s r) (Accepted r)
 
--- after the lines: the spans
-unfoldable pub afterLines : List ℕ → ℕ → List ℕ → BedAnswer
-afterLines s n vs = thenCheck (spanCheck (bedRecord n (length s) vs) vs) (afterSpans s (bedRecord n (length s) vs))
-
--- after the columns: a surplus line (2)
+-- after the columns: a surplus line (2), then the spans
 unfoldable pub afterColumns : List ℕ → ℕ → List ℕ → BedAnswer
-afterColumns s n vs = thenCheck (lastLineCheck s 0) (afterLines s n vs)
+afterColumns s n vs = thenCheck (lastLineCheck s 0) (thenCheck (spanCheck (bedRecord n (length s) vs) vs) (afterSpans s (bedRecord n (length s) vs)))
 
 -- after the number of words: the columns from the left (4, 5, 6, 8)
 unfoldable pub afterWords : List ℕ → ℕ → BedAnswer
 afterWords s n = thenRead (columnsFrom (take n bedColumns) 0 s 0) (afterColumns s n (valuesFrom (take n bedColumns) 0 s 0))
 
--- after the text's length and bytes: the number of words (2)
-unfoldable pub afterText : List ℕ → BedAnswer
-afterText s = thenCheck (wordsCheck s (wordCount s 0)) (afterWords s (wordCount s 0))
-
--- THE TEXT CHECKER: the reader without room
+-- THE TEXT CHECKER, the reader without room: the text's length and bytes (1, 3), then the number of words
 unfoldable pub bedCheck : List ℕ → BedAnswer
-bedCheck s = thenCheck (textCheck s) (afterText s)
+bedCheck s = thenCheck (textCheck s) (thenCheck (bedWordsCheck s (wordCount s 0)) (afterWords s (wordCount s 0)))
 
 abbrev pub thenRoom : BedAnswer → List ℕ → ℕ → BedAnswer
 thenRoom (Accepted r) s room = thenCheck (roomCheck s r room) (Accepted r)

@@ -1,12 +1,9 @@
 -- The record of a BED line: what its columns say, and what columns left out hold.
 use Prim.Native.Nat.{ℕ, _+_, _-_, _*_}
-use mathlib.Core.Path.{_≡_}
 use mathlib.Core.Bool.{Bool, true, false, _&&_, _||_}
 use mathlib.Core.List.{List, [], _∷_}
-use lib.ListN.{length, take, drop, getD}
+use lib.ListN.{getD}
 use lib.Dec.{leb, ltb, eqb}
-use Rattle.ledger.specs.declared.Part.{Part}
-use Rattle.ledger.specs.declared.Strand.{Strand}
 use Rattle.ledger.specs.declared.Strand.the-variants.{Dot}
 use Rattle.ledger.specs.declared.Row.{Row}
 use Rattle.ledger.specs.Strands.{strandOf, strandIs, strandLetter}

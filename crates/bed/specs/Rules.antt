@@ -1,5 +1,5 @@
 -- What a BED line and a BED record are: the rules of the UCSC page and of 01, one field for each, with no order of checks in them.
-use Prim.Native.Nat.{ℕ, suc, _+_, _-_, _*_, _≤_, _<_}
+use Prim.Native.Nat.{ℕ, suc, _-_, _*_, _≤_, _<_}
 use mathlib.Core.Path.{_≡_}
 use mathlib.Core.List.{List, [], _∷_}
 use mathlib.Core.Bool.{Bool, true, false}
@@ -9,8 +9,8 @@ use Rattle.ledger.specs.declared.Part.{Part}
 use Rattle.ledger.specs.declared.Strand.the-variants.{Dot}
 use Rattle.ledger.specs.Limits.{textLimit, nameLimit, blockLimit, largestPosition, bedScoreLimit, colourLimit}
 use Rattle.ledger.specs.Strands.{strandLetter}
+use Rattle.ledger.specs.Parts.{partAt}
 use Rattle.text.specs.declared.Class.the-variants.{Allowed}
-use Rattle.text.specs.declared.Extent.{Extent}
 use Rattle.text.specs.Scan.{run}
 use Rattle.text.specs.Pieces.{linesOf, lineOf, wordsOf}
 use Rattle.text.specs.Words.{wordAt, wordCount}
@@ -103,6 +103,22 @@ pub record BedRules (r : Bed) (ts qs zs : List ℕ) : Type 0 where
   -- the blocks
   pub blocks : Fills (r .chromStart) (r .chromEnd) (r .blockCount) ts zs
   pub sums : Sums (r .blockCount) qs zs
+
+-- the record with names of these lengths
+abbrev pub named : Bed → List ℕ → List ℕ → Bed
+named r chrom name = record {
+  words = r .words;
+  chrom = partAt 0 (length chrom);
+  chromStart = r .chromStart;
+  chromEnd = r .chromEnd;
+  name = partAt 0 (length name);
+  score = r .score;
+  strand = r .strand;
+  thickStart = r .thickStart;
+  thickEnd = r .thickEnd;
+  itemRgb = r .itemRgb;
+  blockCount = r .blockCount;
+}
 
 abbrev pub pickPart : Bool → Part → Part → Part
 pickPart true a b = a

@@ -1,19 +1,17 @@
 -- The rules of a BED record with its rows, as tests. The record checker asks for all of them; the writer asks for them in its order.
-use Prim.Native.Nat.{ℕ, suc, _+_, _-_, _*_}
-use mathlib.Core.Bool.{Bool, true, false, _&&_, _||_}
+use Prim.Native.Nat.{ℕ, suc, _*_}
+use mathlib.Core.Bool.{Bool, true, false, _&&_}
 use mathlib.Core.List.{List}
 use lib.ListN.{length, take}
 use lib.Dec.{leb, ltb, eqb}
 use Rattle.ledger.specs.declared.Strand.{Strand}
 use Rattle.ledger.specs.declared.Strand.the-variants.{Plus, Minus, Dot}
-use Rattle.ledger.specs.Limits.{nameLimit, largestPosition, bedScoreLimit, colourLimit}
-use Rattle.text.specs.declared.Class.the-variants.{Graphic}
-use Rattle.text.specs.Scan.{endOf}
-use Rattle.blocks.specs.Blocks.{blocksFill, areSums, allBetween, countFits, rowsOf, rowNumbersFit}
+use Rattle.ledger.specs.Limits.{largestPosition, bedScoreLimit, colourLimit}
+use Rattle.blocks.specs.Blocks.{blocksFill, areSums, countFits, rowsOf, rowNumbersFit}
 use Rattle.bed.specs.declared.Bed.{Bed}
 use Rattle.bed.specs.Records.{isWordCount}
 use Rattle.bed.specs.Read.{thickFits}
-use Rattle.columns.specs.Names.{allGraphic, lengthFits}
+use Rattle.columns.specs.Names.{lengthFits}
 
 abbrev pub pickTest : Bool → Bool → Bool → Bool
 pickTest true a b = a

@@ -1,11 +1,10 @@
 -- Writing a BED record: the writers' refusals in their order, and the standard text.
-use Prim.Native.Nat.{ℕ, suc, _+_, _-_, _*_, _<_, _≤_}
+use Prim.Native.Nat.{ℕ, _*_, _≤_}
 use mathlib.Core.Path.{_≡_}
-use mathlib.Core.Bool.{Bool, true, false, _&&_}
+use mathlib.Core.Bool.{Bool, _&&_}
 use mathlib.Core.List.{List, [], _∷_, _++_}
 use lib.ListN.{length, take, drop}
 use Rattle.ledger.specs.declared.Reason.the-variants.{NumberOutOfRange, BadWord, SpanDisagrees, BlockRules}
-use Rattle.ledger.specs.declared.Refusal.{Refusal}
 use Rattle.ledger.specs.Limits.{nameLimit, blockLimit}
 use Rattle.ledger.specs.Strands.{strandLetter}
 use Rattle.text.specs.declared.Check.{Check}
@@ -13,7 +12,6 @@ use Rattle.text.specs.declared.Check.the-variants.{Holds}
 use Rattle.text.specs.declared.Check.the-variants as check
 use Rattle.text.specs.Checks.{require}
 use Rattle.text.specs.Pieces.{joined}
-use Rattle.text.specs.Words.{wordAt}
 use Rattle.writing.specs.Digits.{digits, listText}
 use Rattle.writing.specs.declared.Writing.{Writing}
 use Rattle.writing.specs.declared.Writing.the-variants as writing
@@ -21,7 +19,7 @@ use Rattle.writing.specs.Answers.{roomAnswer, leftAfter}
 use Rattle.kinds.specs.Words.{colourText}
 use Rattle.blocks.specs.Blocks.{countFits, rowsOf, subtracted, rowNumbersFit}
 use Rattle.bed.specs.declared.Bed.{Bed}
-use Rattle.bed.specs.Tests.{namesFit, strandFits, fieldsFit, spansFit, rowsFit, bedValid, ifThere}
+use Rattle.bed.specs.Tests.{namesFit, strandFits, fieldsFit, spansFit, rowsFit, bedValid}
 use Rattle.columns.specs.Names.{allGraphic}
 use Rattle.columns.specs.Lines.{thenWrite}
 
@@ -67,16 +65,7 @@ pub record BedWrote (r : Bed) (chrom name ts qs zs before after : List ℕ) (x :
 unfoldable pub recordCheck : Bed → List ℕ → List ℕ → List ℕ → Check
 recordCheck r ts qs zs = require (bedValid r ts qs zs) BlockRules 0 Holds
 
--- the stages of writing a record that passed the checks: two names in a text of their own, and the two lists of its blocks
-pub record NamesShort (chrom name names : List ℕ) : Type 0 where
-  pub long : length names ≡ 2 * nameLimit
-  pub chromShort : length chrom ≤ nameLimit
-  pub nameShort : length name ≤ nameLimit
-
-pub record NamesPut (chrom name names : List ℕ) : Type 0 where
-  pub chromAt : take (length chrom) (drop 0 names) ≡ chrom
-  pub nameAt : take (length name) (drop nameLimit names) ≡ name
-
+-- the stages of writing a record that passed the checks: the two lists of its blocks
 pub record RowsThere (r : Bed) (ts zs lists : List ℕ) : Type 0 where
   pub long : length lists ≡ 2 * blockLimit
   pub few : r .blockCount ≤ blockLimit

@@ -1,25 +1,20 @@
 // One BED line: reader, text checker, record checker, writer, over three flat slices of blocks.
 ghost use mathlib.Core.Path.{_≡_};
-ghost use mathlib.Core.Bool.{true};
-ghost use Prim.Native.Nat.{_+_, _-_, _*_, _≤_};
-ghost use lib.ListN.{length, getD, take, drop};
+ghost use Prim.Native.Nat.{_*_, _≤_};
+ghost use lib.ListN.{length, take};
 ghost use Rattle.ledger.specs.Limits.{nameLimit, blockLimit};
 ghost use Rattle.writing.specs.Answers.{Wrote};
 ghost use Rattle.bed.specs.Records.{isWordCount, valueOr, placeOr, bedRecord};
-ghost use Rattle.text.specs.Checks.{require};
 ghost use Rattle.bed.specs.Tests.{ifThere, namesFit, isDot, strandFits, fieldsFit, spansFit, rowsFit, bedValid};
-ghost use Rattle.bed.specs.Write.{namesShow, writeCheck, bedValues, bedText, NamesShort, NamesPut, RowsThere, ListsPut, Writable, BedWrote, recordCheck};
-ghost use Rattle.bed.specs.Read.{wordsCheck, thickFits, thickPlace, spanCheck, blockCheck, withDefault, afterSpans, afterLines, afterColumns, afterWords, afterText, bedCheck, Counted, Listed, Blocked, Staged, Stored, RowsStored, BedRead};
+ghost use Rattle.bed.specs.Write.{namesShow, writeCheck, bedValues, bedText, RowsThere, ListsPut, Writable, BedWrote, recordCheck};
+ghost use Rattle.bed.specs.Read.{thickFits, thickPlace, spanCheck, blockCheck, withDefault, afterSpans, afterColumns, afterWords, bedCheck, Counted, Listed, Blocked, Staged, Stored, RowsStored, BedRead};
 use columns::Columns;
 use ledger::Part;
 use ledger::Reason;
 use ledger::Refusal;
 use ledger::Strand;
 use text::Check;
-use text::Class;
 use writing::Writing;
-ghost use Rattle.columns.specs.Names.{lengthFits, allGraphic};
-ghost use Rattle.blocks.specs.Blocks.{rowNumbersFit};
 
 // The record of a BED line. A name is a part of the text; a colour is one number, (red × 256 + green) × 256 + blue.
 pub struct Bed {
@@ -54,27 +49,6 @@ fn is_word_count(n: u64) -> bool
     ensures { λ r. ⌜ r ≡ isWordCount n ⌝ }
 {
     (3 <= n) & ((n <= 9) | (n == 12))
-}
-
-// The number of words (2).
-fn check_words(text: &[u8], n: usize) -> Check
-    ensures { λ r. ⌜ r ≡ wordsCheck (now (text .entry)) n ⌝ }
-{
-    if 12 < n {
-        let w = text::word_at(text, 0, 12);
-        return Check::Refused(Refusal {
-            reason: Reason::WrongCount,
-            place: w.start,
-        });
-    }
-    if !is_word_count(n as u64) {
-        let e = text::line_end(text, 0);
-        return Check::Refused(Refusal {
-            reason: Reason::WrongCount,
-            place: e,
-        });
-    }
-    Check::Holds
 }
 
 // A column's value, or a default where the column is left out.
@@ -143,31 +117,14 @@ fn thick_place(values: &[u64], n: u64) -> usize
 fn check_spans(r: Bed, values: &[u64]) -> Check
     ensures { λ x. ⌜ x ≡ spanCheck r (now (values .entry)) ⌝ }
 {
-    if r.chromEnd <= r.chromStart {
-        let end = columns::value_at(values, 5) as usize;
-        return Check::Refused(Refusal {
-            reason: Reason::SpanDisagrees,
-            place: end,
-        });
-    }
-    if !thick_fits(r) {
-        let at = thick_place(values, r.words);
-        return Check::Refused(Refusal {
-            reason: Reason::SpanDisagrees,
-            place: at,
-        });
-    }
-    Check::Holds
-}
-
-// The length of the span; 0 where start and end disagree.
-fn span_of(r: Bed) -> u64
-    ensures { λ x. ⌜ x ≡ r .chromEnd - r .chromStart ⌝ }
-{
-    if r.chromEnd < r.chromStart {
-        return 0;
-    }
-    r.chromEnd - r.chromStart
+    let end = columns::value_at(values, 5) as usize;
+    let thick = text::require(
+        thick_fits(r),
+        Reason::SpanDisagrees,
+        thick_place(values, r.words),
+        Check::Holds,
+    );
+    text::require(r.chromStart < r.chromEnd, Reason::SpanDisagrees, end, thick)
 }
 
 // The one block of a line without block columns.
@@ -177,7 +134,7 @@ fn default_block(r: Bed, lists: &mut [u64])
     if r.words == 12 {
         return;
     }
-    numbers::store(lists, 0, span_of(r));
+    numbers::store(lists, 0, blocks::less(r.chromEnd, r.chromStart));
     numbers::store(lists, ledger::BLOCK_LIMIT as usize, 0);
 }
 
@@ -187,13 +144,13 @@ fn check_blocks(text: &[u8], r: Bed, lists: &[u64]) -> Check
     ensures { λ x. ⌜ x ≡ blockCheck (now (text .entry)) r ⌝ }
 {
     let b = ledger::BLOCK_LIMIT as usize;
-    if blocks::blocks_fill(&lists[b..], lists, r.blockCount as usize, 0, span_of(r)) {
-        return Check::Holds;
-    }
-    Check::Refused(Refusal {
-        reason: Reason::BlockRules,
-        place: text.len(),
-    })
+    let span = blocks::less(r.chromEnd, r.chromStart);
+    text::require(
+        blocks::blocks_fill(&lists[b..], lists, r.blockCount as usize, 0, span),
+        Reason::BlockRules,
+        text.len(),
+        Check::Holds,
+    )
 }
 
 // The default block, then the blocks.
@@ -208,26 +165,20 @@ fn after_spans(text: &[u8], r: Bed, lists: &mut [u64]) -> BedAnswer
     }
 }
 
-// The spans, and on.
-fn after_lines(text: &[u8], n: u64, values: &[u64], lists: &mut [u64]) -> BedAnswer
-    requires { ⌜ Listed (now text) (bedRecord n (length (now text)) (now values)) (now lists) ⌝ }
-    ensures { λ x. ⌜ Staged (now (text .entry)) (afterLines (now (text .entry)) n (now (values .entry))) (now (lists .exit)) x ⌝ }
-{
-    let r = record_of(values, n, text.len());
-    match check_spans(r, values) {
-        Check::Refused(x) => BedAnswer::Refused(x),
-        Check::Holds => after_spans(text, r, lists),
-    }
-}
-
-// A surplus line, and on.
+// A surplus line, the spans, and on.
 fn after_columns(text: &[u8], n: u64, values: &[u64], lists: &mut [u64]) -> BedAnswer
     requires { ⌜ Listed (now text) (bedRecord n (length (now text)) (now values)) (now lists) ⌝ }
     ensures { λ x. ⌜ Staged (now (text .entry)) (afterColumns (now (text .entry)) n (now (values .entry))) (now (lists .exit)) x ⌝ }
 {
     match text::check_last_line(text, 0) {
         Check::Refused(x) => BedAnswer::Refused(x),
-        Check::Holds => after_lines(text, n, values, lists),
+        Check::Holds => {
+            let r = record_of(values, n, text.len());
+            match check_spans(r, values) {
+                Check::Refused(x) => BedAnswer::Refused(x),
+                Check::Holds => after_spans(text, r, lists),
+            }
+        }
     }
 }
 
@@ -244,18 +195,6 @@ fn after_words(text: &[u8], n: usize, lists: &mut [u64]) -> BedAnswer
     }
 }
 
-// The number of words, and on.
-fn after_text(text: &[u8], lists: &mut [u64]) -> BedAnswer
-    requires { ⌜ length (now lists) ≡ 2 * blockLimit ⌝ }
-    ensures { λ x. ⌜ Staged (now (text .entry)) (afterText (now (text .entry))) (now (lists .exit)) x ⌝ }
-{
-    let n = text::count_words(text, 0);
-    match check_words(text, n) {
-        Check::Refused(x) => BedAnswer::Refused(x),
-        Check::Holds => after_words(text, n, lists),
-    }
-}
-
 // All checks of a text, the blocks of an accepted line in the working room.
 fn stage(text: &[u8], lists: &mut [u64]) -> BedAnswer
     requires { ⌜ length (now lists) ≡ 2 * blockLimit ⌝ }
@@ -263,7 +202,13 @@ fn stage(text: &[u8], lists: &mut [u64]) -> BedAnswer
 {
     match text::check_text(text) {
         Check::Refused(x) => BedAnswer::Refused(x),
-        Check::Holds => after_text(text, lists),
+        Check::Holds => {
+            let n = text::count_words(text, 0);
+            match text::check_words(text, 0, n, 12, is_word_count(n as u64)) {
+                Check::Refused(x) => BedAnswer::Refused(x),
+                Check::Holds => after_words(text, n, lists),
+            }
+        }
     }
 }
 
@@ -337,17 +282,11 @@ fn if_there(n: u64, k: u64, there: bool, left: bool) -> bool
     if k < n { there } else { left }
 }
 
-fn length_fits(n: usize) -> bool
-    ensures { λ r. ⌜ r ≡ lengthFits n ⌝ }
-{
-    (1 <= n) & (n <= ledger::NAME_LIMIT)
-}
-
 // The two names by their lengths.
 fn names_fit(n: u64, chrom: usize, name: usize) -> bool
     ensures { λ r. ⌜ r ≡ namesFit n chrom name ⌝ }
 {
-    length_fits(chrom) & if_there(n, 3, length_fits(name), name == 0)
+    columns::length_fits(chrom) & if_there(n, 3, columns::length_fits(name), name == 0)
 }
 
 fn is_dot(s: Strand) -> bool
@@ -385,17 +324,6 @@ fn fields_fit(r: Bed) -> bool
         & ((r.chromStart <= most) & ((r.chromEnd <= most) & (score & (start & (end & colour)))))
 }
 
-// The numbers of the used rows.
-fn row_numbers_fit(targets: &[u64], queries: &[u64], sizes: &[u64], count: usize) -> bool
-    ensures { λ x. ⌜ x ≡ rowNumbersFit (take count (now (targets .entry))) (take count (now (queries .entry))) (take count (now
-        (sizes .entry))) ⌝ }
-{
-    let most = ledger::Position::LARGEST;
-    blocks::all_between(targets, count, 0, most)
-        & (blocks::all_between(queries, count, 0, most)
-            & blocks::all_between(sizes, count, 1, most))
-}
-
 fn spans_fit(r: Bed) -> bool
     ensures { λ x. ⌜ x ≡ spansFit r ⌝ }
 {
@@ -422,7 +350,7 @@ fn record_fits(r: Bed, targets: &[u64], queries: &[u64], sizes: &[u64]) -> bool
         & (names_fit(r.words, r.chrom.length, r.name.length)
             & (strand_fits(r)
                 & (fields_fit(r)
-                    & (row_numbers_fit(targets, queries, sizes, count)
+                    & (blocks::row_numbers_fit(targets, queries, sizes, count)
                         & (spans_fit(r) & rows_fit(r, targets, queries, sizes, count))))))
 }
 
@@ -430,37 +358,20 @@ fn record_fits(r: Bed, targets: &[u64], queries: &[u64], sizes: &[u64]) -> bool
 pub fn check_bed(r: Bed, targets: &[u64], queries: &[u64], sizes: &[u64]) -> Check
     ensures { λ x. ⌜ x ≡ recordCheck r (now (targets .entry)) (now (queries .entry)) (now (sizes .entry)) ⌝ }
 {
-    if record_fits(r, targets, queries, sizes) {
-        return Check::Holds;
-    }
-    Check::Refused(Refusal {
-        reason: Reason::BlockRules,
-        place: 0,
-    })
-}
-
-// Whether all bytes of a name show.
-fn all_graphic(w: &[u8]) -> bool
-    ensures { λ r. ⌜ r ≡ allGraphic (now (w .entry)) ⌝ }
-{
-    w.len() <= text::scan(w, 0, Class::Graphic)
+    text::require(
+        record_fits(r, targets, queries, sizes),
+        Reason::BlockRules,
+        0,
+        Check::Holds,
+    )
 }
 
 // The names that are handed in.
 fn names_show(r: Bed, chrom: &[u8], name: &[u8]) -> bool
     ensures { λ x. ⌜ x ≡ namesShow r (now (chrom .entry)) (now (name .entry)) ⌝ }
 {
-    names_fit(r.words, chrom.len(), name.len()) & (all_graphic(chrom) & all_graphic(name))
-}
-
-// Where a test holds, the rest; else a refusal at place 0.
-fn or_refuse(test: bool, reason: Reason, rest: Check) -> Check
-    ensures { λ x. ⌜ x ≡ require test reason 0 rest ⌝ }
-{
-    if test {
-        return rest;
-    }
-    Check::Refused(Refusal { reason, place: 0 })
+    names_fit(r.words, chrom.len(), name.len())
+        & (columns::all_graphic(chrom) & columns::all_graphic(name))
 }
 
 // The writers' refusals in their order.
@@ -477,25 +388,29 @@ fn check_write(
 {
     let count = r.blockCount as usize;
     let rows = blocks::rows_of(targets, queries, sizes);
-    let blocks = or_refuse(
+    let blocks = text::require(
         rows_fit(r, targets, queries, sizes, count),
         Reason::BlockRules,
+        0,
         Check::Holds,
     );
-    let spans = or_refuse(spans_fit(r), Reason::SpanDisagrees, blocks);
-    let numbers = or_refuse(
-        fields_fit(r) & row_numbers_fit(targets, queries, sizes, count),
+    let spans = text::require(spans_fit(r), Reason::SpanDisagrees, 0, blocks);
+    let numbers = text::require(
+        fields_fit(r) & blocks::row_numbers_fit(targets, queries, sizes, count),
         Reason::NumberOutOfRange,
+        0,
         spans,
     );
-    let words = or_refuse(
+    let words = text::require(
         names_show(r, chrom, name) & strand_fits(r),
         Reason::BadWord,
+        0,
         numbers,
     );
-    or_refuse(
+    text::require(
         blocks::count_fits(r.blockCount, rows),
         Reason::BlockRules,
+        0,
         words,
     )
 }
@@ -534,15 +449,6 @@ fn values_of(r: Bed, chrom: usize, name: usize) -> [u64; 24]
     ]
 }
 
-// The names one after the other, in a text of their own.
-fn put_names(chrom: &[u8], name: &[u8], names: &mut [u8])
-    requires { ⌜ NamesShort (now chrom) (now name) (now names) ⌝ }
-    ensures { λ _. ⌜ NamesPut (now (chrom .entry)) (now (name .entry)) (now (names .exit)) ⌝ }
-{
-    writing::put_bytes(names, 0, chrom);
-    writing::put_bytes(names, ledger::NAME_LIMIT, name);
-}
-
 // The sizes, and the starts from chromStart on.
 fn put_lists(r: Bed, targets: &[u64], sizes: &[u64], lists: &mut [u64])
     requires { ⌜ RowsThere r (now targets) (now sizes) (now lists) ⌝ }
@@ -577,7 +483,7 @@ fn write_text(
         (now (buf .entry)) (now (buf .exit)) x ⌝ }
 {
     let mut names = name_room();
-    put_names(chrom, name, &mut names);
+    columns::put_names(chrom, name, &mut names);
     let mut lists = working_room();
     put_lists(r, targets, sizes, &mut lists);
     let values = values_of(r, chrom.len(), name.len());

@@ -1,21 +1,19 @@
 -- Demand 2 holds of BED. Assumes nothing.
-use mathlib.Core.Path.{_≡_, refl, sym, ap, ap₂, _∙_}
-use mathlib.Core.Bool.{Bool, true, false, _&&_}
-use mathlib.Core.Logic.{_↔_}
-use mathlib.Core.List.{List, [], _∷_}
-use Prim.Native.Nat.{ℕ, _+_, _-_, _≤_, _<_}
+use mathlib.Core.Path.{_≡_, refl, sym, ap, _∙_}
+use mathlib.Core.Bool.{Bool, true, false}
+use mathlib.Core.List.{List}
+use Prim.Native.Nat.{ℕ, _≤_}
 use native.Mathlib.Omega.{arith}
-use lib.ListN.{length, take, drop}
-use lib.Dec.{leb, ltb}
+use lib.ListN.{length, take}
+use lib.Dec.{leb}
 use borrow.Author.Tests.{le-leb, leb-true}
 use Rattle.ledger.specs.declared.Row.{Row}
 use Rattle.ledger.specs.declared.Reason.the-variants.{NoRoom}
 use Rattle.ledger.specs.Limits.{textLimit}
-use Rattle.text.specs.declared.Check.{Check}
 use Rattle.text.specs.declared.Check.the-variants.{Holds}
 use Rattle.text.specs.declared.Class.the-variants.{Graphic}
 use Rattle.text.specs.Checks.{require}
-use Rattle.text.specs.Scan.{run, endOf}
+use Rattle.text.specs.Scan.{run}
 use Rattle.text.specs.Words.{wordAt, wordCount, bytesOf}
 use Rattle.text.proofs.Laws.{either}
 use Rattle.columns.specs.Columns.{valuesFrom}
@@ -25,26 +23,26 @@ use Rattle.text.proofs.TextLaws.{All, both}
 use Rattle.writing.specs.declared.Writing.the-variants.{Written}
 use Rattle.writing.specs.Answers.{roomAnswer}
 use Rattle.blocks.specs.Blocks.{countFits, rowsOf, rowNumbersFit}
-use Rattle.blocks.specs.Rows.{tableOf, targetsOf, queriesOf, sizesOf}
+use Rattle.blocks.specs.Rows.{targetsOf, queriesOf, sizesOf}
 use Rattle.bed.specs.declared.Bed.{Bed}
 use Rattle.bed.specs.declared.BedAnswer.{BedAnswer}
 use Rattle.bed.specs.declared.BedAnswer.the-variants.{Accepted, Refused}
 use Rattle.bed.specs.Records.{bedTargets, bedQueries, bedSizes, bedRows}
 use Rattle.bed.specs.Read.{bedCheck, bedRead, roomCheck, thenCheck, thenRoom}
 use Rattle.bed.specs.Table.{bedColumns}
-use Rattle.bed.specs.Rules.{BedLine, BedRules, placed}
+use Rattle.bed.specs.Rules.{BedLine, BedRules, named, placed}
 use Rattle.bed.specs.Tests.{namesFit, strandFits, fieldsFit, spansFit, rowsFit, bedValid}
 use Rattle.bed.specs.Write.{namesShow, writeCheck, bedText, bedWrite}
 use Rattle.bed.proofs.LineLaws.{line-of, line-is}
 use Rattle.bed.proofs.ValidLaws.{accepted-rows, accepted-valid}
 use Rattle.bed.proofs.RuleLaws.{rules-of, rules-is}
 use Rattle.bed.proofs.BackLaws.{back-chrom, back-name, back-targets, back-queries, back-sizes, back-read}
-use Rattle.demands.specs.Formats.{Names, Format}
-use Rattle.demands.specs.Demand2.{ReadsBack, Demand2}
-use Rattle.demands.specs.Bed.{BedSpells, bedNames, named, BedValid, SameBed, bed}
+use Rattle.demands.specs.Formats.{Names}
+use Rattle.demands.specs.Demand2.{Demand2}
+use Rattle.demands.specs.Bed.{bedNames, BedValid, SameBed, bed}
 use Rattle.demands.proofs.NameLaws.{word-shows}
 use Rattle.demands.proofs.RowLaws.{Flat, flat, rows-taken}
-use Rattle.columns.specs.Names.{partOf, allGraphic}
+use Rattle.columns.specs.Names.{partOf}
 use Rattle.columns.proofs.WordLaws.{word-length, graphic-all}
 
 -- the reader is the text checker with room
@@ -65,22 +63,22 @@ unfolding bedRead roomCheck
 read-is s room r e h = rw (e, le-leb (r .blockCount) room h)
 
 -- the test of a record sees only the lengths of its names
-valid-named : (r : Bed) (ns : Names) (ts qs zs : List ℕ) → length (ns .first) ≡ r .chrom .length → length (ns .second) ≡ r .name .length → bedValid r ts qs zs ≡ true → bedValid (named r ns) ts qs zs ≡ true
+valid-named : (r : Bed) (ns : Names) (ts qs zs : List ℕ) → length (ns .first) ≡ r .chrom .length → length (ns .second) ≡ r .name .length → bedValid r ts qs zs ≡ true → bedValid (named r (ns .first) (ns .second)) ts qs zs ≡ true
 unfolding bedValid strandFits fieldsFit spansFit rowsFit
 valid-named r ns ts qs zs e f h = rw (e, f) h
 
 -- a valid record passes the writer's checks
-passes : (r : Bed) (ns : Names) (ts qs zs : List ℕ) → BedRules (named r ns) ts qs zs → All Graphic (ns .first) → All Graphic (ns .second) → writeCheck r (ns .first) (ns .second) ts qs zs ≡ Holds
+passes : (r : Bed) (ns : Names) (ts qs zs : List ℕ) → BedRules (named r (ns .first) (ns .second)) ts qs zs → All Graphic (ns .first) → All Graphic (ns .second) → writeCheck r (ns .first) (ns .second) ts qs zs ≡ Holds
 unfolding writeCheck namesShow bedValid strandFits fieldsFit spansFit rowsFit
 passes r ns ts qs zs k c d =
     let n = r .blockCount in
-    let v = rules-is (named r ns) ts qs zs k in
+    let v = rules-is (named r (ns .first) (ns .second)) ts qs zs k in
     let count = both (countFits n (rowsOf ts qs zs)) _ v in
     let names = both (namesFit (r .words) (length (ns .first)) (length (ns .second))) _ (count .1) in
-    let strand = both (strandFits (named r ns)) _ (names .1) in
-    let fields = both (fieldsFit (named r ns)) _ (strand .1) in
+    let strand = both (strandFits (named r (ns .first) (ns .second))) _ (names .1) in
+    let fields = both (fieldsFit (named r (ns .first) (ns .second))) _ (strand .1) in
     let numbers = both (rowNumbersFit (take n ts) (take n qs) (take n zs)) _ (fields .1) in
-    let spans = both (spansFit (named r ns)) (rowsFit (named r ns) (take n ts) (take n qs) (take n zs)) (numbers .1) in
+    let spans = both (spansFit (named r (ns .first) (ns .second))) (rowsFit (named r (ns .first) (ns .second)) (take n ts) (take n qs) (take n zs)) (numbers .1) in
     rw (count .0, names .0, graphic-all (ns .first) c, graphic-all (ns .second) d, strand .0, fields .0, numbers .0, spans .0, spans .1)
 
 -- ---- an accepted line: its names, and its rows
@@ -110,7 +108,7 @@ module _ (s : List ℕ) (r : Bed) (ok : bedCheck s ≡ Accepted r) where
       let w = accepted-flat in
       let v : bedValid r (targetsOf (bedRows s r)) (queriesOf (bedRows s r)) (sizesOf (bedRows s r)) ≡ true = rw (w .targets, w .queries, w .sizes) (accepted-valid s r ok) in
       record {
-        rules = rules-of (named r (bedNames s r)) _ _ _ (valid-named r (bedNames s r) _ _ _ (chrom-shows .1) (name-shows .1) v);
+        rules = rules-of (named r (bedNames s r .first) (bedNames s r .second)) _ _ _ (valid-named r (bedNames s r) _ _ _ (chrom-shows .1) (name-shows .1) v);
         chromShows = chrom-shows .0;
         nameShows = name-shows .0;
       }

@@ -1,25 +1,19 @@
 -- Demand 2 holds of PSL. Assumes nothing.
-use mathlib.Core.Path.{_≡_, refl, sym, ap, ap₂, _∙_}
+use mathlib.Core.Path.{_≡_, refl, sym, ap, _∙_}
 use mathlib.Core.Bool.{Bool, true, false, _&&_}
-use mathlib.Core.Logic.{_↔_}
-use mathlib.Core.List.{List, [], _∷_}
-use Prim.Native.Nat.{ℕ, _+_, _-_, _≤_, _<_}
+use mathlib.Core.List.{List}
+use Prim.Native.Nat.{ℕ, _≤_}
 use native.Mathlib.Omega.{arith}
-use lib.ListN.{length, take, drop}
-use lib.Dec.{leb, ltb}
+use lib.ListN.{length, take}
+use lib.Dec.{leb}
 use borrow.Author.Tests.{le-leb, leb-true}
-use Rattle.ledger.specs.declared.Part.{Part}
 use Rattle.ledger.specs.declared.Row.{Row}
-use Rattle.ledger.specs.declared.Strand.{Strand}
-use Rattle.ledger.specs.declared.Strand.the-variants.{Plus, Minus, Dot}
 use Rattle.ledger.specs.Parts.{partAt}
 use Rattle.ledger.specs.declared.Reason.the-variants.{NoRoom}
 use Rattle.ledger.specs.Limits.{textLimit}
-use Rattle.text.specs.declared.Check.{Check}
 use Rattle.text.specs.declared.Check.the-variants.{Holds}
 use Rattle.text.specs.declared.Class.the-variants.{Graphic}
 use Rattle.text.specs.Checks.{require}
-use Rattle.text.specs.Scan.{run, endOf}
 use Rattle.text.specs.Words.{wordAt, bytesOf}
 use Rattle.columns.specs.Columns.{valuesFrom}
 use Rattle.columns.specs.Spells.{firsts}
@@ -27,29 +21,30 @@ use Rattle.text.specs.Parts.{partBytes}
 use Rattle.text.proofs.TextLaws.{All, both}
 use Rattle.writing.specs.declared.Writing.the-variants.{Written}
 use Rattle.writing.specs.Answers.{roomAnswer}
-use Rattle.blocks.specs.Blocks.{countFits, rowsOf, rowNumbersFit}
-use Rattle.blocks.specs.Rows.{tableOf, targetsOf, queriesOf, sizesOf}
+use Rattle.blocks.specs.Blocks.{blocksFill, countFits, rowsOf, rowNumbersFit}
+use Rattle.blocks.specs.Rows.{targetsOf, queriesOf, sizesOf}
 use Rattle.psl.specs.declared.Psl.{Psl}
 use Rattle.psl.specs.declared.PslAnswer.{PslAnswer}
 use Rattle.psl.specs.declared.PslAnswer.the-variants.{Accepted, Refused}
 use Rattle.psl.specs.Records.{pslTargets, pslQueries, pslSizes, pslRows}
 use Rattle.psl.specs.Read.{pslCheck, pslRead, roomCheck, thenCheck, thenRoom}
 use Rattle.psl.specs.Table.{pslColumns}
-use Rattle.psl.specs.Rules.{PslLine, PslRules, placed}
-use Rattle.psl.specs.declared.Side.{Side}
-use Rattle.psl.specs.Rows.{firstOn, lastOn, rowsFit, countsFit}
-use Rattle.psl.specs.Tests.{isTold, fieldsFit, spansFit, pslValid}
+use Rattle.psl.specs.Rules.{PslLine, PslRules, named, placed}
+use Rattle.psl.specs.Rows.{rowsFit, countsFit}
+use Rattle.ledger.specs.Strands.{isTold}
+use Rattle.psl.specs.Tests.{fieldsFit, spansFit, pslValid}
 use Rattle.psl.specs.Write.{wordsShow, writeCheck, pslText, pslWrite}
 use Rattle.psl.proofs.LineLaws.{line-of, line-is, accepted-targets, accepted-queries, accepted-sizes}
 use Rattle.psl.proofs.ValidLaws.{accepted-valid}
 use Rattle.psl.proofs.RuleLaws.{rules-of, rules-is}
+use Rattle.psl.proofs.BackWordLaws.{on-renamed}
 use Rattle.psl.proofs.BackLaws.{back-query, back-target, back-targets, back-queries, back-sizes, back-read}
-use Rattle.demands.specs.Formats.{Names, Format}
-use Rattle.demands.specs.Demand2.{ReadsBack, Demand2}
-use Rattle.demands.specs.Psl.{PslSpells, pslNames, renamed, named, PslValid, SamePsl, psl}
+use Rattle.demands.specs.Formats.{Names}
+use Rattle.demands.specs.Demand2.{Demand2}
+use Rattle.demands.specs.Psl.{pslNames, PslValid, SamePsl, psl}
 use Rattle.demands.proofs.NameLaws.{word-shows}
 use Rattle.demands.proofs.RowLaws.{Flat, flat, rows-taken}
-use Rattle.columns.specs.Names.{partOf, lengthFits, allGraphic}
+use Rattle.columns.specs.Names.{partOf, lengthFits}
 use Rattle.columns.proofs.WordLaws.{word-length, graphic-all}
 
 -- the reader is the text checker with room
@@ -69,38 +64,28 @@ read-is : (s : List ℕ) (room : ℕ) (r : Psl) → pslCheck s ≡ Accepted r �
 unfolding pslRead roomCheck
 read-is s room r e h = rw (e, le-leb (r .blockCount) room h)
 
--- where a side's blocks start and end does not depend on its name
-first-named : (t : Strand) (x : Side) (p : Part) → firstOn t (renamed x p) ≡ firstOn t x
-first-named Plus x p = refl
-first-named Minus x p = refl
-first-named Dot x p = refl
-
-last-named : (t : Strand) (x : Side) (p : Part) → lastOn t (renamed x p) ≡ lastOn t x
-last-named Plus x p = refl
-last-named Minus x p = refl
-last-named Dot x p = refl
-
-rows-named : (r : Psl) (ns : Names) (ts qs zs : List ℕ) → rowsFit (named r ns) ts qs zs ≡ rowsFit r ts qs zs
+-- where the blocks start and end does not depend on the names
+rows-named : (r : Psl) (ns : Names) (ts qs zs : List ℕ) → rowsFit (named r (ns .first) (ns .second)) ts qs zs ≡ rowsFit r ts qs zs
 unfolding rowsFit
-rows-named r ns ts qs zs = rw (first-named (r .strand) (r .query) (partAt 0 (length (ns .first))), last-named (r .strand) (r .query) (partAt 0 (length (ns .first))))
+rows-named r ns ts qs zs = on-renamed (λ (a b : ℕ). (blocksFill (r .target .start) (r .target .end) ts zs && blocksFill a b qs zs) ≡ rowsFit r ts qs zs) (r .strand) (r .query) (partAt 0 (length (ns .first))) refl
 
 -- the test of a record sees only the lengths of its names
-valid-named : (r : Psl) (ns : Names) (ts qs zs : List ℕ) → length (ns .first) ≡ r .query .name .length → length (ns .second) ≡ r .target .name .length → pslValid r ts qs zs ≡ true → pslValid (named r ns) ts qs zs ≡ true
+valid-named : (r : Psl) (ns : Names) (ts qs zs : List ℕ) → length (ns .first) ≡ r .query .name .length → length (ns .second) ≡ r .target .name .length → pslValid r ts qs zs ≡ true → pslValid (named r (ns .first) (ns .second)) ts qs zs ≡ true
 unfolding pslValid fieldsFit spansFit
 valid-named r ns ts qs zs e f h = rw (rows-named r ns (take (r .blockCount) ts) (take (r .blockCount) qs) (take (r .blockCount) zs), e, f) h
 
 -- a valid record passes the writer's checks
-passes : (r : Psl) (ns : Names) (ts qs zs : List ℕ) → PslRules (named r ns) ts qs zs → All Graphic (ns .first) → All Graphic (ns .second) → writeCheck r (ns .first) (ns .second) ts qs zs ≡ Holds
+passes : (r : Psl) (ns : Names) (ts qs zs : List ℕ) → PslRules (named r (ns .first) (ns .second)) ts qs zs → All Graphic (ns .first) → All Graphic (ns .second) → writeCheck r (ns .first) (ns .second) ts qs zs ≡ Holds
 unfolding writeCheck wordsShow pslValid fieldsFit spansFit
 passes r ns ts qs zs k c d =
     let n = r .blockCount in
-    let v = rules-is (named r ns) ts qs zs k in
+    let v = rules-is (named r (ns .first) (ns .second)) ts qs zs k in
     let count = both (countFits n (rowsOf ts qs zs)) _ v in
     let names = both (lengthFits (length (ns .first)) && (lengthFits (length (ns .second)) && isTold (r .strand))) _ (count .1) in
-    let fields = both (fieldsFit (named r ns)) _ (names .1) in
+    let fields = both (fieldsFit (named r (ns .first) (ns .second))) _ (names .1) in
     let numbers = both (rowNumbersFit (take n ts) (take n qs) (take n zs)) _ (fields .1) in
-    let spans = both (spansFit (named r ns)) _ (numbers .1) in
-    let rows = both (rowsFit (named r ns) (take n ts) (take n qs) (take n zs)) (countsFit (r .counts) (take n ts) (take n qs) (take n zs)) (spans .1) in
+    let spans = both (spansFit (named r (ns .first) (ns .second))) _ (numbers .1) in
+    let rows = both (rowsFit (named r (ns .first) (ns .second)) (take n ts) (take n qs) (take n zs)) (countsFit (r .counts) (take n ts) (take n qs) (take n zs)) (spans .1) in
     rw (count .0, names .0, graphic-all (ns .first) c, graphic-all (ns .second) d, fields .0, numbers .0, spans .0, ← rows-named r ns (take n ts) (take n qs) (take n zs), rows .0, rows .1)
 
 -- ---- an accepted line: its names, and its rows
@@ -126,7 +111,7 @@ module _ (s : List ℕ) (r : Psl) (ok : pslCheck s ≡ Accepted r) where
       let w = accepted-flat in
       let v : pslValid r (targetsOf (pslRows s)) (queriesOf (pslRows s)) (sizesOf (pslRows s)) ≡ true = rw (w .targets, w .queries, w .sizes) (accepted-valid s r ok) in
       record {
-        rules = rules-of (named r (pslNames s r)) _ _ _ (valid-named r (pslNames s r) _ _ _ (query-shows .1) (target-shows .1) v);
+        rules = rules-of (named r (pslNames s r .first) (pslNames s r .second)) _ _ _ (valid-named r (pslNames s r) _ _ _ (query-shows .1) (target-shows .1) v);
         queryShows = query-shows .0;
         targetShows = target-shows .0;
       }

@@ -4,7 +4,6 @@ use mathlib.Core.Path.{_≡_}
 use mathlib.Core.List.{List}
 use lib.ListN.{length}
 use Rattle.ledger.specs.declared.Row.{Row}
-use Rattle.ledger.specs.Parts.{partAt}
 use Rattle.text.specs.declared.Class.the-variants.{Graphic}
 use Rattle.text.specs.Scan.{run}
 use Rattle.text.specs.Parts.{partBytes}
@@ -13,7 +12,7 @@ use Rattle.bed.specs.declared.Bed.{Bed}
 use Rattle.bed.specs.declared.BedAnswer.{BedAnswer}
 use Rattle.bed.specs.declared.BedAnswer.the-variants.{Accepted}
 use Rattle.bed.specs.Read.{bedRead}
-use Rattle.bed.specs.Rules.{BedLine, BedRules}
+use Rattle.bed.specs.Rules.{BedLine, BedRules, named}
 use Rattle.bed.specs.Write.{bedText, bedWrite}
 use Rattle.bed.specs.Records.{bedRows}
 use Rattle.demands.specs.Formats.{Names, Format}
@@ -28,24 +27,8 @@ pub record BedSpells (s : List ℕ) (r : Bed) (rows : List Row) : Type 0 where
 abbrev pub bedNames : List ℕ → Bed → Names
 bedNames s r = record { first = partBytes s (r .chrom); second = partBytes s (r .name) }
 
--- the record with names of these lengths
-abbrev pub named : Bed → Names → Bed
-named r ns = record {
-  words = r .words;
-  chrom = partAt 0 (length (ns .first));
-  chromStart = r .chromStart;
-  chromEnd = r .chromEnd;
-  name = partAt 0 (length (ns .second));
-  score = r .score;
-  strand = r .strand;
-  thickStart = r .thickStart;
-  thickEnd = r .thickEnd;
-  itemRgb = r .itemRgb;
-  blockCount = r .blockCount;
-}
-
 pub record BedValid (r : Bed) (ns : Names) (table : List Row) : Type 0 where
-  pub rules : BedRules (named r ns) (targetsOf table) (queriesOf table) (sizesOf table)
+  pub rules : BedRules (named r (ns .first) (ns .second)) (targetsOf table) (queriesOf table) (sizesOf table)
   pub chromShows : run Graphic (ns .first) ≡ length (ns .first)
   pub nameShows : run Graphic (ns .second) ≡ length (ns .second)
 

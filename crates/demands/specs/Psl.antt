@@ -3,19 +3,16 @@ use Prim.Native.Nat.{ℕ}
 use mathlib.Core.Path.{_≡_}
 use mathlib.Core.List.{List}
 use lib.ListN.{length}
-use Rattle.ledger.specs.declared.Part.{Part}
 use Rattle.ledger.specs.declared.Row.{Row}
-use Rattle.ledger.specs.Parts.{partAt}
 use Rattle.text.specs.declared.Class.the-variants.{Graphic}
 use Rattle.text.specs.Scan.{run}
 use Rattle.text.specs.Parts.{partBytes}
 use Rattle.blocks.specs.Rows.{targetsOf, queriesOf, sizesOf}
-use Rattle.psl.specs.declared.Side.{Side}
 use Rattle.psl.specs.declared.Psl.{Psl}
 use Rattle.psl.specs.declared.PslAnswer.{PslAnswer}
 use Rattle.psl.specs.declared.PslAnswer.the-variants.{Accepted}
 use Rattle.psl.specs.Read.{pslRead}
-use Rattle.psl.specs.Rules.{PslLine, PslRules}
+use Rattle.psl.specs.Rules.{PslLine, PslRules, named}
 use Rattle.psl.specs.Write.{pslText, pslWrite}
 use Rattle.psl.specs.Records.{pslRows}
 use Rattle.demands.specs.Formats.{Names, Format}
@@ -30,21 +27,8 @@ pub record PslSpells (s : List ℕ) (r : Psl) (rows : List Row) : Type 0 where
 abbrev pub pslNames : List ℕ → Psl → Names
 pslNames s r = record { first = partBytes s (r .query .name); second = partBytes s (r .target .name) }
 
--- the record with names of these lengths
-abbrev pub renamed : Side → Part → Side
-renamed x p = record { name = p; size = x .size; start = x .start; end = x .end }
-
-abbrev pub named : Psl → Names → Psl
-named r ns = record {
-  counts = r .counts;
-  strand = r .strand;
-  query = renamed (r .query) (partAt 0 (length (ns .first)));
-  target = renamed (r .target) (partAt 0 (length (ns .second)));
-  blockCount = r .blockCount;
-}
-
 pub record PslValid (r : Psl) (ns : Names) (table : List Row) : Type 0 where
-  pub rules : PslRules (named r ns) (targetsOf table) (queriesOf table) (sizesOf table)
+  pub rules : PslRules (named r (ns .first) (ns .second)) (targetsOf table) (queriesOf table) (sizesOf table)
   pub queryShows : run Graphic (ns .first) ≡ length (ns .first)
   pub targetShows : run Graphic (ns .second) ≡ length (ns .second)
 

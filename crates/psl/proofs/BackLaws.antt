@@ -8,7 +8,6 @@ use borrow.Author.Tests.{le-leb}
 use Rattle.ledger.specs.Limits.{textLimit, largestPosition}
 use Rattle.text.specs.declared.Class.the-variants.{Allowed}
 use Rattle.text.specs.declared.Check.the-variants.{Holds}
-use Rattle.text.specs.declared.Extent.{Extent}
 use Rattle.text.specs.Scan.{run}
 use Rattle.text.specs.Parts.{partBytes}
 use Rattle.text.specs.Pieces.{linesOf, lineOf, wordsOf}
@@ -23,10 +22,10 @@ use Rattle.psl.specs.declared.PslAnswer.the-variants.{Accepted}
 use Rattle.psl.specs.Table.{pslColumns}
 use Rattle.psl.specs.Records.{pslSizes, pslQueries, pslTargets}
 use Rattle.psl.specs.Read.{roomCheck, pslCheck, pslRead}
-use Rattle.psl.specs.Rules.{PslLine, placed}
+use Rattle.psl.specs.Rules.{PslLine, named, placed}
 use Rattle.psl.specs.Write.{writeCheck, pslWords, pslText}
 use Rattle.psl.proofs.LineLaws.{line-is}
-use Rattle.psl.proofs.BackWordLaws.{named, on-renamed, MayWrite, may-write, wordValues, sizes-between, queries-between, targets-between, words-spell, words-worded}
+use Rattle.psl.proofs.BackWordLaws.{on-renamed, MayWrite, may-write, wordValues, sizes-between, queries-between, targets-between, words-spell, words-worded}
 use Rattle.columns.specs.Names.{partOf}
 use Rattle.columns.proofs.WordLaws.{part-bytes}
 

@@ -1,58 +1,40 @@
 -- A PSL record that may be written: the rules that it obeys, and that each of its words is there, shows, and spells its column. Assumes nothing.
-use mathlib.Core.Path.{_≡_, refl, ap, _∙_}
+use mathlib.Core.Path.{_≡_, refl}
 use mathlib.Core.Bool.{true, false, _&&_}
 use mathlib.Core.List.{List, [], _∷_}
-use Prim.Native.Nat.{ℕ, _+_, _≤_, zero-le}
+use Prim.Native.Nat.{ℕ, _≤_, zero-le}
 use native.Mathlib.Omega.{arith}
-use lib.ListN.{length, take, drop}
-use lib.Seq.{take-all, take-length, length-take-le}
-use borrow.Author.Tests.{leb-true}
+use lib.ListN.{length, take}
+use lib.Seq.{length-take-le}
 use Rattle.ledger.specs.declared.Part.{Part}
 use Rattle.ledger.specs.declared.Strand.{Strand}
 use Rattle.ledger.specs.declared.Strand.the-variants.{Plus, Minus, Dot}
-use Rattle.ledger.specs.Limits.{nameLimit, largestPosition}
-use Rattle.ledger.specs.Strands.{strandLetter}
+use Rattle.ledger.specs.Limits.{largestPosition}
+use Rattle.ledger.specs.Strands.{strandLetter, isTold}
 use Rattle.ledger.specs.Parts.{partAt}
 use Rattle.text.specs.declared.Class.the-variants.{Graphic}
 use Rattle.text.specs.declared.Check.the-variants.{Holds}
-use Rattle.text.specs.Scan.{run, endOf}
-use Rattle.text.proofs.CheckLaws.{run-most, require-holds}
+use Rattle.text.proofs.CheckLaws.{require-holds}
 use Rattle.text.proofs.TextLaws.{All, both}
-use Rattle.text.proofs.PieceLaws.{Worded, worded-none, worded-more}
+use Rattle.text.proofs.PieceLaws.{Worded}
 use Rattle.numbers.specs.Ranges.{Between}
-use Rattle.writing.specs.Digits.{digits, listText}
-use Rattle.kinds.specs.declared.Range.{Range}
+use Rattle.writing.specs.Digits.{digits}
 use Rattle.kinds.specs.declared.Range.the-variants.{Coordinate, Size}
-use Rattle.kinds.specs.declared.Kind.{Kind}
-use Rattle.kinds.specs.declared.Kind.the-variants.{Name, Number, Count, Items, Stranded}
-use Rattle.kinds.specs.Kinds.{leastOf, mostOf, countAfter}
+use Rattle.kinds.specs.declared.Kind.the-variants.{Number, Count, Stranded}
 use Rattle.kinds.proofs.BackLaws.{Written, written}
-use Rattle.columns.specs.Spells.{Spells, spells-none, spells-more}
+use Rattle.columns.specs.Spells.{Spells}
 use Rattle.blocks.specs.Blocks.{blocksFill, allBetween, countFits, rowsOf, rowNumbersFit}
 use Rattle.blocks.proofs.RuleLaws.{between-of}
 use Rattle.psl.specs.declared.Side.{Side}
 use Rattle.psl.specs.declared.Psl.{Psl}
 use Rattle.psl.specs.Table.{pslColumns}
 use Rattle.psl.specs.Rows.{firstOn, lastOn, rowsFit, countsFit}
-use Rattle.psl.specs.Rules.{PslRules}
-use Rattle.psl.specs.Tests.{isTold, fieldsFit, spansFit, pslValid}
+use Rattle.psl.specs.Rules.{PslRules, renamed, named}
+use Rattle.psl.specs.Tests.{fieldsFit, spansFit, pslValid}
 use Rattle.psl.specs.Write.{wordsShow, writeCheck, pslWords}
 use Rattle.psl.proofs.RuleLaws.{rules-of}
 use Rattle.columns.specs.Names.{lengthFits, allGraphic}
 use Rattle.columns.proofs.WordLaws.{all-graphic, name-written, list-written, row-spells, row-worded, Row, row-none, row-more, and-i}
-
--- a side with another name, and the record with names of these lengths
-abbrev pub renamed : Side → Part → Side
-renamed x p = record { name = p; size = x .size; start = x .start; end = x .end }
-
-abbrev pub named : Psl → List ℕ → List ℕ → Psl
-named r qName tName = record {
-  counts = r .counts;
-  strand = r .strand;
-  query = renamed (r .query) (partAt 0 (length qName));
-  target = renamed (r .target) (partAt 0 (length tName));
-  blockCount = r .blockCount;
-}
 
 -- where a side's blocks start and end does not depend on its name
 pub on-renamed : (P : ℕ → ℕ → Type 0) (t : Strand) (x : Side) (p : Part) → P (firstOn t x) (lastOn t x) → P (firstOn t (renamed x p)) (lastOn t (renamed x p))

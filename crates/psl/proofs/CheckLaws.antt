@@ -1,25 +1,24 @@
 -- The record checker: what its tests show. Assumes nothing.
-use mathlib.Core.Path.{_≡_, refl, sym, ap, _∙_}
+use mathlib.Core.Path.{_≡_, refl, sym, _∙_}
 use mathlib.Core.Bool.{Bool, true, false, not, _&&_}
 use mathlib.Core.List.{List}
-use Prim.Native.Nat.{ℕ, _≤_}
+use Prim.Native.Nat.{ℕ}
 use native.Mathlib.Omega.{arith}
 use lib.ListN.{take}
 use lib.Dec.{leb}
 use borrow.Author.Tests.{leb-true, not-true, not-false}
+use Rattle.ledger.specs.Strands.{isTold}
 use Rattle.ledger.specs.Limits.{largestPosition}
-use Rattle.ledger.specs.declared.Reason.the-variants.{NumberOutOfRange, SpanDisagrees, BlockRules, CountsDisagree}
+use Rattle.ledger.specs.declared.Reason.the-variants.{NumberOutOfRange}
 use Rattle.text.specs.declared.Check.{Check}
-use Rattle.text.specs.Checks.{require}
-use Rattle.text.specs.declared.Check.the-variants.{Holds}
 use Rattle.text.specs.declared.Check.the-variants as check
 use Rattle.text.proofs.TextLaws.{both}
 use Rattle.blocks.specs.Blocks.{countFits, rowsOf, rowNumbersFit}
 use Rattle.psl.specs.declared.Psl.{Psl}
 use Rattle.psl.specs.Rows.{rowsFit, countsFit}
 use Rattle.psl.specs.Read.{CountsRange}
-use Rattle.psl.specs.Tests.{isTold, countNumbersFit, fieldsFit, spansFit, headFits, pslValid}
-use Rattle.psl.specs.Write.{numbersCheck, recordCheck}
+use Rattle.psl.specs.Tests.{countNumbersFit, fieldsFit, spansFit, headFits, pslValid}
+use Rattle.psl.specs.Write.{numbersCheck}
 use Rattle.columns.specs.Names.{lengthFits}
 
 -- counts in range
@@ -77,29 +76,14 @@ module _ (r : Psl) (ts qs zs : List ℕ) (rows : ℕ) (er : rows ≡ rowsOf ts q
     unfolding pslValid
     record-is a b c d ea eb ec ed = rw (ea, eb, ec, ed) (sym (split-head (countFits (r .blockCount) (rowsOf ts qs zs)) names (fieldsFit r) _ head-is))
 
--- the record checker
-module _ (r : Psl) (ts qs zs : List ℕ) (t : Bool) (et : t ≡ pslValid r ts qs zs) where
-  pub record-good : t ≡ true → Holds ≡ recordCheck r ts qs zs
-  unfolding recordCheck
-  record-good q = rw (← et, q)
-
-  pub record-bad : t ≡ false → check.Refused (record { reason = BlockRules; place = 0 }) ≡ recordCheck r ts qs zs
-  unfolding recordCheck
-  record-bad q = rw (← et, q)
-
 -- the writer's checks from the numbers on
-module _ (r : Psl) (ts qs zs : List ℕ) (f : Bool) (ef : f ≡ fieldsFit r) where
-  pub numbers-bad : not f ≡ true → check.Refused (record { reason = NumberOutOfRange; place = 0 }) ≡ numbersCheck r ts qs zs
-  unfolding numbersCheck
-  numbers-bad q = rw (← ef, not-true f q)
+module _ (r : Psl) (f : Bool) (ef : f ≡ fieldsFit r) where
+  pub numbers-bad : (ts qs zs : List ℕ) → not f ≡ true → check.Refused (record { reason = NumberOutOfRange; place = 0 }) ≡ numbersCheck r ts qs zs
+  numbers-bad ts qs zs q = rw (← ef, not-true f q)
 
   module _ (good : not f ≡ false) where
-    pub numbers-range : CountsRange (r .counts)
-    numbers-range = counts-range r (sym ef ∙ not-false f good)
+    pub fields-good : fieldsFit r ≡ true
+    fields-good = sym ef ∙ not-false f good
 
-    pub numbers-on : (x : Check) → x ≡ require (rowNumbersFit (take (r .blockCount) ts) (take (r .blockCount) qs) (take (r .blockCount) zs)) NumberOutOfRange 0
-        (require (spansFit r) SpanDisagrees 0
-        (require (rowsFit r (take (r .blockCount) ts) (take (r .blockCount) qs) (take (r .blockCount) zs)) BlockRules 0
-        (require (countsFit (r .counts) (take (r .blockCount) ts) (take (r .blockCount) qs) (take (r .blockCount) zs)) CountsDisagree 0 Holds))) → x ≡ numbersCheck r ts qs zs
-    unfolding numbersCheck
-    numbers-on x e = rw (← ef, not-false f good) e
+    pub numbers-range : CountsRange (r .counts)
+    numbers-range = counts-range r fields-good

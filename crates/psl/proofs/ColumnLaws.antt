@@ -1,12 +1,10 @@
 -- From PSL's table of columns to its record and rows. Assumes nothing.
 use mathlib.Core.Path.{_≡_, refl, sym, ap, _∙_}
-use mathlib.Core.Bool.{Bool, true, false}
 use mathlib.Core.List.{List, [], _∷_, _++_, append-nil}
-use Prim.Native.Nat.{ℕ, zero, suc, _+_, _-_, _*_, _≤_, _<_}
+use Prim.Native.Nat.{ℕ, _+_, _-_, _*_, _≤_, _<_}
 use native.Mathlib.Omega.{arith}
-use lib.ListN.{length, replicate, getD, take, drop, length-drop, drop-of-length-le}
-use lib.Seq.{sets, sets-eq, take-all}
-use lib.Dec.{leb}
+use lib.ListN.{length, replicate, getD, take, drop, drop-of-length-le}
+use lib.Seq.{sets, sets-eq}
 use borrow.Author.Tests.{le-leb, lt-leb}
 use Rattle.ledger.specs.Limits.{blockLimit, largestPosition}
 use Rattle.ledger.specs.declared.Reason.the-variants.{NoRoom}
@@ -18,19 +16,18 @@ use Rattle.text.specs.Words.{wordAt, bytesOf}
 use Rattle.text.specs.Pieces.{wordsOf, lineOf}
 use Rattle.text.proofs.PieceLaws.{word-bytes}
 use Rattle.numbers.specs.declared.Spelt.the-variants.{Means}
-use Rattle.numbers.specs.Ranges.{Between}
 use Rattle.numbers.specs.Lists.{valuesOf}
 use Rattle.kinds.specs.declared.Range.{Range}
 use Rattle.kinds.specs.declared.Range.the-variants.{Coordinate, Size}
-use Rattle.kinds.specs.declared.Kind.the-variants.{Number, Count, Items}
-use Rattle.kinds.specs.Kinds.{kindOf, leastOf, mostOf, spelt, itemsIn}
+use Rattle.kinds.specs.declared.Kind.the-variants.{Number, Items}
+use Rattle.kinds.specs.Kinds.{kindOf, spelt, itemsIn}
 use Rattle.kinds.proofs.RangeLaws.{number-spelt, count-spelt, items-spelt}
 use Rattle.columns.specs.declared.Columns.{Columns}
 use Rattle.columns.specs.declared.Columns.the-variants.{Next}
 use Rattle.columns.specs.declared.Columns.the-variants as columns
 use Rattle.columns.specs.Columns.{tableOf, columnsFrom, valuesFrom, listsFrom}
 use Rattle.columns.specs.Spells.{Spells, firsts}
-use Rattle.columns.specs.Places.{kindAt, countBefore, baseBefore}
+use Rattle.columns.specs.Places.{kindAt, countBefore}
 use Rattle.columns.specs.OneLine.{lineRead, LineRead}
 use Rattle.columns.proofs.SpellsLaws.{columns-spell}
 use Rattle.columns.proofs.PlaceLaws.{spelt-at, value-first, values-length, lists-length, lists-at}
@@ -41,13 +38,14 @@ use Rattle.psl.specs.declared.PslAnswer.{PslAnswer}
 use Rattle.psl.specs.declared.PslAnswer.the-variants.{Accepted, Refused}
 use Rattle.psl.specs.Table.{pslColumns}
 use Rattle.psl.specs.Records.{countsOf, pslRecord, pslSizes, pslQueries, pslTargets}
-use Rattle.psl.specs.Read.{thenCheck, roomCheck, rowsAfter, spanCheck, rowCheck, afterSpans, afterLine, pslCheck, pslRead, CountsRange, Listed, Ready, Staged, RowsStored, PslRead}
+use Rattle.psl.specs.Read.{thenCheck, roomCheck, spanCheck, rowCheck, afterLine, pslCheck, pslRead, CountsRange, Listed, Ready, Staged, RowsStored, PslRead}
+use Rattle.psl.proofs.ReadLaws.{part-all}
 
 -- the codes of the table in the code
-abbrev pslCodes : List ℕ
+abbrev pub pslCodes : List ℕ
 pslCodes = 1 ∷ 1 ∷ 1 ∷ 1 ∷ 1 ∷ 1 ∷ 1 ∷ 1 ∷ 9 ∷ 0 ∷ 2 ∷ 1 ∷ 1 ∷ 0 ∷ 2 ∷ 1 ∷ 1 ∷ 6 ∷ 7 ∷ 8 ∷ 8 ∷ []
 
-table-is : tableOf pslCodes ≡ pslColumns
+pub table-is : tableOf pslCodes ≡ pslColumns
 unfolding tableOf kindOf pslColumns
 table-is = refl
 
@@ -58,7 +56,7 @@ check-then (check.Refused x) rest r e = absurd (let z : _≡_ {A = ℕ} 0 1 = cc
 
 -- what is accepted is the columns' record
 pub accepted-record : (s vs : List ℕ) (r : Psl) → afterLine s vs ≡ Accepted r → pslRecord vs ≡ r
-unfolding afterLine afterSpans
+unfolding afterLine
 accepted-record s vs r e =
     let a = check-then (spanCheck (pslRecord vs) vs) (thenCheck (rowCheck s (pslRecord vs)) (Accepted (pslRecord vs))) r e in
     let b = check-then (rowCheck s (pslRecord vs)) (Accepted (pslRecord vs)) r (a .1) in
@@ -198,16 +196,13 @@ module _ (s : List ℕ) (r : Psl) (l ts qs zs : List ℕ) (held : Listed s r l) 
   unfolding roomCheck
   rows-short h = record { is = rw (← er, lt-leb (r .blockCount) room h); targets = refl; queries = refl; sizes = refl }
 
-  part-all : (b : ℕ) → take (length l - b) (drop b l) ≡ drop b l
-  part-all b = take-all (length l - b) (drop b l) (rw length-drop (omega arith))
-
   pub rows-stored : (ts′ qs′ zs′ : List ℕ) → r .blockCount ≤ room → ts′ ≡ sets ts 0 (take (r .blockCount) (take (length l - 2 * blockLimit) (drop (2 * blockLimit) l)))
       → qs′ ≡ sets qs 0 (take (r .blockCount) (take (length l - blockLimit) (drop blockLimit l))) → zs′ ≡ sets zs 0 (take (r .blockCount) l) → RowsStored s r ts ts′ qs qs′ zs zs′ (Accepted r)
   unfolding roomCheck
   rows-stored ts′ qs′ zs′ h et eq ez = record {
     is = rw (← er, le-leb (r .blockCount) room h);
-    targets = rw (et, part-all (2 * blockLimit), held .targets);
-    queries = rw (eq, part-all blockLimit, held .queries);
+    targets = rw (et, part-all l (2 * blockLimit), held .targets);
+    queries = rw (eq, part-all l blockLimit, held .queries);
     sizes = rw (ez, held .sizes);
   }
 

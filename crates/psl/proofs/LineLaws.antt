@@ -1,31 +1,20 @@
 -- A text is accepted exactly when it is a PSL line, and then with the record that it says. Assumes nothing.
 use mathlib.Core.Path.{_≡_, refl, sym, ap, _∙_}
-use mathlib.Core.Bool.{Bool, true, false, _&&_, _||_}
+use mathlib.Core.Bool.{true, false}
 use mathlib.Core.List.{List, [], _∷_}
 use Prim.Native.Nat.{ℕ, _+_, _-_, _*_, _≤_, _<_}
 use native.Mathlib.Omega.{arith}
-use lib.ListN.{length, getD, drop, length-take}
-use lib.Dec.{leb, eqb}
-use borrow.Author.Tests.{eqb-true}
-use Rattle.ledger.specs.declared.Part.{Part}
-use Rattle.ledger.specs.declared.Strand.{Strand}
-use Rattle.ledger.specs.Strands.{strandOf, strandLetter, strandIs}
+use lib.ListN.{length, getD}
 use Rattle.ledger.specs.Parts.{partAt}
-use Rattle.ledger.proofs.Laws.{strand-of-letter}
-use Rattle.text.specs.declared.Class.the-variants.{Word}
 use Rattle.text.specs.declared.Check.the-variants.{Holds}
-use Rattle.text.specs.Scan.{run, endOf}
 use Rattle.text.specs.Words.{wordAt, bytesOf}
-use Rattle.text.proofs.Laws.{word-ends}
 use Rattle.text.proofs.TextLaws.{both}
-use Rattle.text.proofs.CheckLaws.{run-most, require-holds}
+use Rattle.text.proofs.CheckLaws.{require-holds}
 use Rattle.text.proofs.PieceLaws.{word-bytes}
 use Rattle.numbers.specs.declared.Spelt.the-variants.{Means}
 use Rattle.numbers.specs.Ranges.{Between}
-use Rattle.numbers.specs.Lists.{valuesOf}
-use Rattle.kinds.specs.declared.Range.{Range}
 use Rattle.kinds.specs.declared.Range.the-variants.{Coordinate, Size}
-use Rattle.kinds.specs.declared.Kind.the-variants.{Name, Items}
+use Rattle.kinds.specs.declared.Kind.the-variants.{Name}
 use Rattle.kinds.specs.Kinds.{leastOf, mostOf, spelt, isStrand}
 use Rattle.kinds.proofs.RangeLaws.{name-spelt, strand-spelt, items-spelt}
 use Rattle.columns.specs.declared.Columns.{Columns}
@@ -34,11 +23,11 @@ use Rattle.columns.specs.declared.Columns.the-variants as columns
 use Rattle.columns.specs.Columns.{valuesFrom}
 use Rattle.columns.specs.Spells.{firsts}
 use Rattle.columns.specs.Places.{kindAt, countBefore}
-use Rattle.columns.specs.OneLine.{lineRead, OneLine}
+use Rattle.columns.specs.OneLine.{lineRead}
 use Rattle.columns.proofs.SpellsLaws.{columns-spell, place-is}
 use Rattle.columns.proofs.PlaceLaws.{spelt-at, value-first, value-second}
 use Rattle.columns.proofs.OneLineLaws.{line-found, one-line-of, LineIs, one-line-is}
-use Rattle.blocks.specs.Blocks.{blocksFill}
+use Rattle.blocks.specs.Blocks.{blocksFill, spanFits}
 use Rattle.blocks.specs.Rules.{Fills}
 use Rattle.blocks.proofs.RuleLaws.{fills-of, fills-is}
 use Rattle.psl.specs.declared.Counts.{Counts}
@@ -48,8 +37,8 @@ use Rattle.psl.specs.declared.PslAnswer.{PslAnswer}
 use Rattle.psl.specs.declared.PslAnswer.the-variants.{Accepted, Refused}
 use Rattle.psl.specs.Table.{pslColumns}
 use Rattle.psl.specs.Records.{countsOf, sideOf, pslRecord, pslSizes, pslQueries, pslTargets}
-use Rattle.psl.specs.Rows.{spanFits, firstOn, lastOn, rowsFit, countsFit}
-use Rattle.psl.specs.Read.{spanCheck, rowCheck, thenLine, thenCheck, afterSpans, afterLine, pslCheck}
+use Rattle.psl.specs.Rows.{firstOn, lastOn, rowsFit, countsFit}
+use Rattle.psl.specs.Read.{spanCheck, rowCheck, thenCheck, thenLine, afterLine, pslCheck}
 use Rattle.psl.specs.Rules.{SideSays, SpanIn, CountRules, PslLine}
 use Rattle.psl.proofs.ColumnLaws.{check-then, accepted-record}
 use Rattle.psl.proofs.RuleLaws.{span-of, span-is, counts-of, counts-is}
@@ -79,17 +68,17 @@ line-then (columns.Refused x) rest r e = absurd (let z : _≡_ {A = ℕ} 0 1 = c
 
 module _ (s : List ℕ) (r : Psl) where
   pub accepts-of : pslCheck s ≡ Accepted r → Accepts s r
-  unfolding pslCheck afterLine afterSpans
+  unfolding pslCheck afterLine
   accepts-of e =
       let vs = lineValues s in
       let a = line-then (lineRead pslColumns s) (afterLine s vs) r e in
       let i = accepted-record s vs r (a .on) in
-      let b = check-then (spanCheck (pslRecord vs) vs) (afterSpans s (pslRecord vs)) r (a .on) in
+      let b = check-then (spanCheck (pslRecord vs) vs) (thenCheck (rowCheck s (pslRecord vs)) (Accepted (pslRecord vs))) r (a .on) in
       let c = check-then (rowCheck s (pslRecord vs)) (Accepted (pslRecord vs)) r (b .1) in
       record { end = a .end; read = a .read; is = sym i; spans = rw i at (b .0); rows = rw i at (c .0) }
 
   pub accepts-is : Accepts s r → pslCheck s ≡ Accepted r
-  unfolding pslCheck afterLine afterSpans
+  unfolding pslCheck afterLine
   accepts-is a = rw (a .read, ← (a .is), a .spans, a .rows)
 
 -- the checks one by one
@@ -97,8 +86,8 @@ module _ (r : Psl) (vs : List ℕ) where
   spans-of : spanCheck r vs ≡ Holds → SpanIn (r .query) × SpanIn (r .target)
   unfolding spanCheck
   spans-of e =
-      let a = require-holds (spanFits (r .query)) _ _ e in
-      let b = require-holds (spanFits (r .target)) _ _ (a .1) in
+      let a = require-holds (spanFits (r .query .start) (r .query .end) (r .query .size)) _ _ e in
+      let b = require-holds (spanFits (r .target .start) (r .target .end) (r .target .size)) _ _ (a .1) in
       (span-of (r .query) (a .0), span-of (r .target) (b .0))
 
   spans-is : SpanIn (r .query) → SpanIn (r .target) → spanCheck r vs ≡ Holds

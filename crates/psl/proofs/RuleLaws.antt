@@ -1,25 +1,26 @@
 -- The test of a PSL record with its rows and the rules stated one by one say the same. Assumes nothing.
 use mathlib.Core.Path.{_≡_, refl}
-use mathlib.Core.Bool.{Bool, true, false, _&&_}
+use mathlib.Core.Bool.{true, _&&_}
 use mathlib.Core.List.{List}
-use Prim.Native.Nat.{ℕ, _+_, _≤_, _<_}
+use Prim.Native.Nat.{ℕ, _≤_}
 use native.Mathlib.Omega.{arith}
 use lib.ListN.{length, take}
 use lib.Seq.{length-take-le}
-use lib.Dec.{leb, ltb, eqb}
+use lib.Dec.{leb, ltb}
 use borrow.Author.Tests.{leb-true, ltb-true, eqb-true, le-leb, lt-ltb, eq-eqb}
 use Rattle.ledger.specs.declared.Strand.{Strand}
 use Rattle.ledger.specs.declared.Strand.the-variants.{Plus, Minus, Dot}
+use Rattle.ledger.specs.Strands.{isTold}
 use Rattle.ledger.specs.Limits.{blockLimit, nameLimit, largestPosition}
 use Rattle.text.proofs.TextLaws.{both}
-use Rattle.blocks.specs.Blocks.{countFits, rowsOf, sumOf, gapCount, gapBases, rowNumbersFit}
+use Rattle.blocks.specs.Blocks.{countFits, rowsOf, rowNumbersFit, spanFits}
 use Rattle.blocks.proofs.RuleLaws.{fills-of, fills-is, ranged-of, ranged-is}
 use Rattle.blocks.proofs.TakeLaws.{fills-take, fills-back, ranged-take, ranged-back}
 use Rattle.psl.specs.declared.Counts.{Counts}
 use Rattle.psl.specs.declared.Side.{Side}
 use Rattle.psl.specs.declared.Psl.{Psl}
-use Rattle.psl.specs.Rows.{spanFits, firstOn, lastOn, rowsFit, countsFit}
-use Rattle.psl.specs.Tests.{isTold, sideFits, countNumbersFit, fieldsFit, spansFit, pslValid}
+use Rattle.psl.specs.Rows.{rowsFit, countsFit}
+use Rattle.psl.specs.Tests.{sideFits, countNumbersFit, fieldsFit, spansFit, pslValid}
 use Rattle.psl.specs.Rules.{SpanIn, CountRules, SideRange, PslRules}
 use Rattle.columns.specs.Names.{lengthFits}
 use Rattle.columns.proofs.WordLaws.{and-i}
@@ -36,12 +37,12 @@ told-is Minus h = refl
 told-is Dot h = absurd (h refl)
 
 -- a span
-pub span-of : (x : Side) → spanFits x ≡ true → SpanIn x
+pub span-of : (x : Side) → spanFits (x .start) (x .end) (x .size) ≡ true → SpanIn x
 span-of x e =
     let b = both (ltb (x .start) (x .end)) (leb (x .end) (x .size)) e in
     record { some = ltb-true _ _ (b .0); within = leb-true _ _ (b .1) }
 
-pub span-is : (x : Side) → SpanIn x → spanFits x ≡ true
+pub span-is : (x : Side) → SpanIn x → spanFits (x .start) (x .end) (x .size) ≡ true
 span-is x h = and-i _ _ (lt-ltb (x .start) (x .end) (h .some)) (le-leb (x .end) (x .size) (h .within))
 
 -- the numbers of a side, and its name's length
@@ -118,7 +119,7 @@ rules-of r ts qs zs e =
     let targets = both _ _ (numbers .0) in
     let queries = both _ _ (targets .1) in
     let spans = both _ _ (numbers .1) in
-    let span = both (spanFits (r .query)) (spanFits (r .target)) (spans .0) in
+    let span = both (spanFits (r .query .start) (r .query .end) (r .query .size)) (spanFits (r .target .start) (r .target .end) (r .target .size)) (spans .0) in
     let rows = both _ _ (spans .1) in
     let blocks = both _ _ (rows .0) in
     let lt = length-take-le n ts ht in

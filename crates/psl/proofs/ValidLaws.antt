@@ -1,8 +1,8 @@
 -- An accepted PSL line is a valid record with its rows. Assumes nothing.
 use mathlib.Core.Path.{_≡_, refl, sym, ap, _∙_}
-use mathlib.Core.Bool.{Bool, true, false}
+use mathlib.Core.Bool.{true, false}
 use mathlib.Core.List.{List, [], _∷_}
-use Prim.Native.Nat.{ℕ, _+_, _*_, _≤_, _<_}
+use Prim.Native.Nat.{ℕ, _≤_, _<_}
 use native.Mathlib.Omega.{arith}
 use lib.ListN.{length, getD, take}
 use lib.Seq.{take-all}
@@ -21,14 +21,13 @@ use Rattle.columns.specs.Spells.{firsts}
 use Rattle.columns.specs.Places.{kindAt, countBefore}
 use Rattle.columns.proofs.PlaceLaws.{value-first}
 use Rattle.blocks.proofs.RuleLaws.{between-is, ranged-of}
-use Rattle.psl.specs.declared.Side.{Side}
 use Rattle.psl.specs.declared.Psl.{Psl}
 use Rattle.psl.specs.declared.PslAnswer.the-variants.{Accepted}
 use Rattle.psl.specs.Table.{pslColumns}
 use Rattle.psl.specs.Records.{pslSizes, pslQueries, pslTargets}
 use Rattle.psl.specs.Read.{pslCheck}
 use Rattle.psl.specs.Tests.{pslValid}
-use Rattle.psl.specs.Rules.{SideSays, SideRange, CountRules, PslLine, PslRules}
+use Rattle.psl.specs.Rules.{SideRange, PslLine, PslRules}
 use Rattle.psl.proofs.RuleLaws.{rules-is}
 use Rattle.psl.proofs.LineLaws.{lineValues, Accepts, accepts-of, value-spelt, letter-told, sizes-are, queries-are, targets-are, accepted-targets, accepted-queries, accepted-sizes, line-of}
 use Rattle.columns.specs.Names.{partOf}

@@ -1,8 +1,8 @@
 -- Writing a PSL record: what each stage shows, on plain values. Assumes nothing.
-use mathlib.Core.Path.{_≡_, refl, sym, ap, _∙_}
-use mathlib.Core.Bool.{Bool, true, false, _&&_}
-use mathlib.Core.List.{List, [], _∷_, _++_}
-use Prim.Native.Nat.{ℕ, _+_, _-_, _*_, _%_, _≤_, min}
+use mathlib.Core.Path.{_≡_, refl, sym, _∙_}
+use mathlib.Core.Bool.{_&&_}
+use mathlib.Core.List.{List}
+use Prim.Native.Nat.{ℕ, _-_, _*_}
 use native.Mathlib.Omega.{arith}
 use lib.ListN.{length, take, drop, length-take}
 use lib.Seq.{sets, length-sets}
@@ -10,10 +10,8 @@ use lib.Dec.{leb}
 use borrow.Author.Tests.{leb-true}
 use borrow.Rule.Slice.PartMut.{putMid}
 use Rattle.ledger.specs.Limits.{nameLimit, blockLimit}
-use Rattle.ledger.specs.declared.Strand.{Strand}
-use Rattle.ledger.specs.declared.Strand.the-variants.{Plus, Minus, Dot}
 use Rattle.ledger.specs.declared.Refusal.{Refusal}
-use Rattle.ledger.specs.Strands.{strandLetter}
+use Rattle.ledger.specs.Strands.{isTold}
 use Rattle.text.specs.declared.Check.{Check}
 use Rattle.text.specs.declared.Check.the-variants.{Holds}
 use Rattle.text.specs.declared.Check.the-variants as check
@@ -22,7 +20,6 @@ use Rattle.text.proofs.CheckLaws.{require-holds}
 use Rattle.writing.specs.Answers.{Wrote}
 use Rattle.writing.specs.declared.Writing.{Writing}
 use Rattle.writing.specs.declared.Writing.the-variants as writing
-use Rattle.kinds.specs.Kinds.{kindOf}
 use Rattle.kinds.proofs.SpellLaws.{part-stored}
 use Rattle.columns.specs.Columns.{tableOf}
 use Rattle.columns.specs.Lines.{lineText, fedLine}
@@ -31,20 +28,12 @@ use Rattle.columns.specs.Ranges.{wordsFrom}
 use Rattle.columns.proofs.BackLaws.{line-joins}
 use Rattle.columns.proofs.NameLaws.{names-put}
 use Rattle.columns.proofs.PlaceLaws.{sets-keep, sets-there}
-use Rattle.blocks.specs.Blocks.{countFits, rowsOf}
+use Rattle.blocks.specs.Blocks.{rowsOf}
 use Rattle.psl.specs.declared.Psl.{Psl}
 use Rattle.psl.specs.Table.{pslColumns}
-use Rattle.psl.specs.Tests.{isTold}
+use Rattle.psl.proofs.ColumnLaws.{pslCodes, table-is}
 use Rattle.psl.specs.Write.{wordsShow, writeCheck, pslWords, pslText, pslValues, pslWrite, RowsThere, ListsPut, Writable, PslWrote}
 use Rattle.columns.proofs.WordLaws.{letter-byte}
-
--- the codes of the table in the code
-abbrev pslCodes : List ℕ
-pslCodes = 1 ∷ 1 ∷ 1 ∷ 1 ∷ 1 ∷ 1 ∷ 1 ∷ 1 ∷ 9 ∷ 0 ∷ 2 ∷ 1 ∷ 1 ∷ 0 ∷ 2 ∷ 1 ∷ 1 ∷ 6 ∷ 7 ∷ 8 ∷ 8 ∷ []
-
-table-is : tableOf pslCodes ≡ pslColumns
-unfolding tableOf kindOf pslColumns
-table-is = refl
 
 -- three lists stored one after the other, room for a record's blocks each
 pub lists-put : (n : ℕ) (ts qs zs l l₁ y l₂ z : List ℕ) → RowsThere n ts qs zs l → l₁ ≡ sets l 0 (take n zs)

@@ -1,8 +1,7 @@
 -- Reading a PSL line: the checks in the ledger's order.
-use Prim.Native.Nat.{ℕ, _+_, _-_, _*_, _≤_}
+use Prim.Native.Nat.{ℕ, _*_, _≤_}
 use mathlib.Core.Path.{_≡_}
-use mathlib.Core.Bool.{Bool, true, false}
-use mathlib.Core.List.{List, [], _∷_}
+use mathlib.Core.List.{List}
 use lib.ListN.{length, take, drop, getD}
 use lib.Seq.{sets}
 use lib.Dec.{leb}
@@ -17,20 +16,20 @@ use Rattle.columns.specs.declared.Columns.the-variants.{Next}
 use Rattle.columns.specs.declared.Columns.the-variants as columns
 use Rattle.columns.specs.Columns.{valuesFrom}
 use Rattle.columns.specs.OneLine.{lineRead}
-use Rattle.blocks.specs.Blocks.{rowsOf}
+use Rattle.blocks.specs.Blocks.{rowsOf, spanFits}
 use Rattle.psl.specs.declared.Counts.{Counts}
 use Rattle.psl.specs.declared.Psl.{Psl}
 use Rattle.psl.specs.declared.PslAnswer.{PslAnswer}
 use Rattle.psl.specs.declared.PslAnswer.the-variants.{Accepted, Refused}
 use Rattle.psl.specs.Table.{pslColumns}
 use Rattle.psl.specs.Records.{pslRecord, pslSizes, pslQueries, pslTargets}
-use Rattle.psl.specs.Rows.{spanFits, rowsFit, countsFit}
+use Rattle.psl.specs.Rows.{rowsFit, countsFit}
 
 -- the spans (7): the query's at qEnd, then the target's at tEnd
 unfoldable pub spanCheck : Psl → List ℕ → Check
 spanCheck r vs =
-    require (spanFits (r .query)) SpanDisagrees (getD vs 25 0)
-    (require (spanFits (r .target)) SpanDisagrees (getD vs 33 0) Holds)
+    require (spanFits (r .query .start) (r .query .end) (r .query .size)) SpanDisagrees (getD vs 25 0)
+    (require (spanFits (r .target .start) (r .target .end) (r .target .size)) SpanDisagrees (getD vs 33 0) Holds)
 
 -- the blocks (9), then the counts (10), both at the text's end
 unfoldable pub rowCheck : List ℕ → Psl → Check
@@ -51,11 +50,8 @@ thenLine (Next e) rest = rest
 thenLine (columns.Refused x) rest = Refused x
 
 -- after the line: the spans, the blocks, the counts
-unfoldable pub afterSpans : List ℕ → Psl → PslAnswer
-afterSpans s r = thenCheck (rowCheck s r) (Accepted r)
-
 unfoldable pub afterLine : List ℕ → List ℕ → PslAnswer
-afterLine s vs = thenCheck (spanCheck (pslRecord vs) vs) (afterSpans s (pslRecord vs))
+afterLine s vs = thenCheck (spanCheck (pslRecord vs) vs) (thenCheck (rowCheck s (pslRecord vs)) (Accepted (pslRecord vs)))
 
 -- THE TEXT CHECKER: the reader without room
 unfoldable pub pslCheck : List ℕ → PslAnswer

@@ -1,18 +1,14 @@
 -- The rules of a PSL record with its rows, as tests.
 use Prim.Native.Nat.{ℕ, _+_, _-_}
-use mathlib.Core.Bool.{Bool, true, false, _&&_}
+use mathlib.Core.Bool.{Bool, _&&_}
 use mathlib.Core.List.{List}
-use lib.Dec.{leb, ltb, eqb}
+use lib.Dec.{eqb}
 use Rattle.ledger.specs.declared.Strand.{Strand}
 use Rattle.ledger.specs.declared.Strand.the-variants.{Plus, Minus, Dot}
 use Rattle.blocks.specs.Blocks.{blocksFill, sumOf, gapCount, gapBases}
 use Rattle.psl.specs.declared.Counts.{Counts}
 use Rattle.psl.specs.declared.Side.{Side}
 use Rattle.psl.specs.declared.Psl.{Psl}
-
--- start < end ≤ size
-abbrev pub spanFits : Side → Bool
-spanFits x = ltb (x .start) (x .end) && leb (x .end) (x .size)
 
 -- where the first block starts and the last ends on the query as its blocks count it: with `-` on the reversed query
 abbrev pub firstOn : Strand → Side → ℕ

@@ -1,5 +1,5 @@
 -- What a PSL line and a PSL record are: the rules of the UCSC page and of 01, one field for each, with no order of checks in them.
-use Prim.Native.Nat.{ℕ, _+_, _-_, _≤_, _<_}
+use Prim.Native.Nat.{ℕ, _+_, _≤_, _<_}
 use mathlib.Core.Path.{_≡_}
 use mathlib.Core.List.{List}
 use lib.ListN.{length, take, getD}
@@ -7,7 +7,7 @@ use Rattle.ledger.specs.declared.Part.{Part}
 use Rattle.ledger.specs.declared.Strand.the-variants.{Dot}
 use Rattle.ledger.specs.Limits.{nameLimit, blockLimit, largestPosition}
 use Rattle.ledger.specs.Strands.{strandLetter}
-use Rattle.text.specs.declared.Extent.{Extent}
+use Rattle.ledger.specs.Parts.{partAt}
 use Rattle.text.specs.Words.{wordAt}
 use Rattle.columns.specs.OneLine.{OneLine}
 use Rattle.blocks.specs.Blocks.{sumOf, gapCount, gapBases}
@@ -105,12 +105,25 @@ pub record PslRules (r : Psl) (ts qs zs : List ℕ) : Type 0 where
   -- the house counts
   pub counts : CountRules (r .counts) (take (r .blockCount) ts) (take (r .blockCount) qs) (take (r .blockCount) zs)
 
+-- a side with another name, and the record with names of these lengths
+abbrev pub renamed : Side → Part → Side
+renamed x p = record { name = p; size = x .size; start = x .start; end = x .end }
+
+abbrev pub named : Psl → List ℕ → List ℕ → Psl
+named r qName tName = record {
+  counts = r .counts;
+  strand = r .strand;
+  query = renamed (r .query) (partAt 0 (length qName));
+  target = renamed (r .target) (partAt 0 (length tName));
+  blockCount = r .blockCount;
+}
+
 -- the record with its names where they stand in a text: what the reader makes of the record's standard text
 unfoldable pub placed : List ℕ → Psl → Psl
 placed s r = record {
   counts = r .counts;
   strand = r .strand;
-  query = record { name = partOf (wordAt s 0 9); size = r .query .size; start = r .query .start; end = r .query .end };
-  target = record { name = partOf (wordAt s 0 13); size = r .target .size; start = r .target .start; end = r .target .end };
+  query = renamed (r .query) (partOf (wordAt s 0 9));
+  target = renamed (r .target) (partOf (wordAt s 0 13));
   blockCount = r .blockCount;
 }

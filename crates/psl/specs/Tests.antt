@@ -1,24 +1,17 @@
 -- The rules of a PSL record with its rows, as tests. The record checker asks for all of them; the writer asks for them in its order.
 use Prim.Native.Nat.{ℕ}
-use mathlib.Core.Bool.{Bool, true, false, _&&_}
+use mathlib.Core.Bool.{Bool, _&&_}
 use mathlib.Core.List.{List}
 use lib.ListN.{take}
 use lib.Dec.{leb}
-use Rattle.ledger.specs.declared.Strand.{Strand}
-use Rattle.ledger.specs.declared.Strand.the-variants.{Plus, Minus, Dot}
-use Rattle.ledger.specs.Limits.{nameLimit, largestPosition}
-use Rattle.blocks.specs.Blocks.{allBetween, countFits, rowsOf, rowNumbersFit}
+use Rattle.ledger.specs.Strands.{isTold}
+use Rattle.ledger.specs.Limits.{largestPosition}
+use Rattle.blocks.specs.Blocks.{countFits, rowsOf, rowNumbersFit, spanFits}
 use Rattle.psl.specs.declared.Counts.{Counts}
 use Rattle.psl.specs.declared.Side.{Side}
 use Rattle.psl.specs.declared.Psl.{Psl}
-use Rattle.psl.specs.Rows.{spanFits, rowsFit, countsFit}
+use Rattle.psl.specs.Rows.{rowsFit, countsFit}
 use Rattle.columns.specs.Names.{lengthFits}
-
--- a PSL strand is `+` or `-`
-abbrev pub isTold : Strand → Bool
-isTold Plus = true
-isTold Minus = true
-isTold Dot = false
 
 -- the numbers of a side: a size of at least 1
 abbrev pub sideFits : Side → Bool
@@ -30,13 +23,13 @@ countNumbersFit c =
     leb (c .matches) largestPosition && (leb (c .misMatches) largestPosition && (leb (c .repMatches) largestPosition && (leb (c .nCount) largestPosition
     && (leb (c .qNumInsert) largestPosition && (leb (c .qBaseInsert) largestPosition && (leb (c .tNumInsert) largestPosition && leb (c .tBaseInsert) largestPosition))))))
 
--- the numbers of the record, and those of the used rows
+-- the numbers of the record
 unfoldable pub fieldsFit : Psl → Bool
 fieldsFit r = countNumbersFit (r .counts) && (sideFits (r .query) && sideFits (r .target))
 
 -- the spans of both sides
 unfoldable pub spansFit : Psl → Bool
-spansFit r = spanFits (r .query) && spanFits (r .target)
+spansFit r = spanFits (r .query .start) (r .query .end) (r .query .size) && spanFits (r .target .start) (r .target .end) (r .target .size)
 
 -- what is tested before the rows: the count of blocks, the names by length, the strand, the numbers
 unfoldable pub headFits : Psl → ℕ → Bool

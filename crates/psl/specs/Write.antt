@@ -1,18 +1,15 @@
 -- Writing a PSL record: the writers' refusals in their order, and the standard text; and the record checker.
-use Prim.Native.Nat.{ℕ, _+_, _-_, _*_, _≤_}
+use Prim.Native.Nat.{ℕ, _*_, _≤_}
 use mathlib.Core.Path.{_≡_}
-use mathlib.Core.Bool.{Bool, true, false, _&&_}
+use mathlib.Core.Bool.{Bool, _&&_}
 use mathlib.Core.List.{List, [], _∷_, _++_}
 use lib.ListN.{length, take, drop}
-use lib.Dec.{leb}
 use Rattle.ledger.specs.declared.Reason.the-variants.{NumberOutOfRange, BadWord, SpanDisagrees, BlockRules, CountsDisagree}
 use Rattle.ledger.specs.Limits.{nameLimit, blockLimit}
-use Rattle.ledger.specs.Strands.{strandLetter}
+use Rattle.ledger.specs.Strands.{strandLetter, isTold}
 use Rattle.text.specs.declared.Check.{Check}
 use Rattle.text.specs.declared.Check.the-variants.{Holds}
 use Rattle.text.specs.declared.Check.the-variants as check
-use Rattle.text.specs.declared.Class.the-variants.{Graphic}
-use Rattle.text.specs.Scan.{endOf}
 use Rattle.text.specs.Checks.{require}
 use Rattle.text.specs.Pieces.{joined}
 use Rattle.writing.specs.Digits.{digits, listText}
@@ -22,7 +19,7 @@ use Rattle.writing.specs.Answers.{roomAnswer, leftAfter}
 use Rattle.blocks.specs.Blocks.{countFits, rowsOf, rowNumbersFit}
 use Rattle.psl.specs.declared.Psl.{Psl}
 use Rattle.psl.specs.Rows.{rowsFit, countsFit}
-use Rattle.psl.specs.Tests.{isTold, fieldsFit, spansFit, pslValid}
+use Rattle.psl.specs.Tests.{fieldsFit, spansFit, pslValid}
 use Rattle.columns.specs.Names.{lengthFits, allGraphic}
 use Rattle.columns.specs.Lines.{thenWrite}
 
@@ -34,25 +31,21 @@ recordCheck r ts qs zs = require (pslValid r ts qs zs) BlockRules 0 Holds
 unfoldable pub wordsShow : Psl → List ℕ → List ℕ → Bool
 wordsShow r qName tName = (lengthFits (length qName) && (lengthFits (length tName) && isTold (r .strand))) && (allGraphic qName && allGraphic tName)
 
--- the refusals, each at place 0: a bad row count (9); names and strand (6); the numbers, a row's too (5); spans (7); blocks (9); counts (10)
-unfoldable pub writeCheck : Psl → List ℕ → List ℕ → List ℕ → List ℕ → List ℕ → Check
-writeCheck r qName tName ts qs zs =
-    require (countFits (r .blockCount) (rowsOf ts qs zs)) BlockRules 0
-    (require (wordsShow r qName tName) BadWord 0
-    (require (fieldsFit r && rowNumbersFit (take (r .blockCount) ts) (take (r .blockCount) qs) (take (r .blockCount) zs)) NumberOutOfRange 0
-    (require (spansFit r) SpanDisagrees 0
-    (require (rowsFit r (take (r .blockCount) ts) (take (r .blockCount) qs) (take (r .blockCount) zs)) BlockRules 0
-    (require (countsFit (r .counts) (take (r .blockCount) ts) (take (r .blockCount) qs) (take (r .blockCount) zs)) CountsDisagree 0
-    Holds)))))
-
--- the same from the numbers on
-unfoldable pub numbersCheck : Psl → List ℕ → List ℕ → List ℕ → Check
+-- the refusals from the numbers on, each at place 0: the numbers, a row's too (5); spans (7); blocks (9); counts (10)
+abbrev pub numbersCheck : Psl → List ℕ → List ℕ → List ℕ → Check
 numbersCheck r ts qs zs =
     require (fieldsFit r && rowNumbersFit (take (r .blockCount) ts) (take (r .blockCount) qs) (take (r .blockCount) zs)) NumberOutOfRange 0
     (require (spansFit r) SpanDisagrees 0
     (require (rowsFit r (take (r .blockCount) ts) (take (r .blockCount) qs) (take (r .blockCount) zs)) BlockRules 0
     (require (countsFit (r .counts) (take (r .blockCount) ts) (take (r .blockCount) qs) (take (r .blockCount) zs)) CountsDisagree 0
     Holds)))
+
+-- all refusals, each at place 0: a bad row count (9); names and strand (6); then those from the numbers on
+unfoldable pub writeCheck : Psl → List ℕ → List ℕ → List ℕ → List ℕ → List ℕ → Check
+writeCheck r qName tName ts qs zs =
+    require (countFits (r .blockCount) (rowsOf ts qs zs)) BlockRules 0
+    (require (wordsShow r qName tName) BadWord 0
+    (numbersCheck r ts qs zs))
 
 -- the twenty-one words of a record: ts, qs and zs are the targets, queries and sizes of its rows
 unfoldable pub pslWords : Psl → List ℕ → List ℕ → List ℕ → List ℕ → List ℕ → List (List ℕ)

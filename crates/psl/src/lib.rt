@@ -1,25 +1,21 @@
-// One PSL line: the reader and the text checker, over three flat slices of blocks.
+// One PSL line: reader, text checker, record checker, writer, over three flat slices of blocks.
 ghost use mathlib.Core.Path.{_≡_};
-ghost use Prim.Native.Nat.{_+_, _-_, _*_, _≤_};
-ghost use lib.ListN.{length, getD, take, drop};
+ghost use Prim.Native.Nat.{_*_, _≤_};
+ghost use lib.ListN.{length, take};
 ghost use Rattle.ledger.specs.Limits.{nameLimit, blockLimit};
 ghost use Rattle.writing.specs.Answers.{Wrote};
-ghost use Rattle.text.specs.Checks.{require};
 ghost use Rattle.psl.specs.Records.{countsOf, sideOf, pslRecord};
-ghost use Rattle.psl.specs.Rows.{spanFits, firstOn, lastOn, rowsFit, countsFit};
-ghost use Rattle.psl.specs.Tests.{isTold, sideFits, countNumbersFit, fieldsFit, spansFit, headFits, pslValid};
+ghost use Rattle.psl.specs.Rows.{firstOn, lastOn, rowsFit, countsFit};
+ghost use Rattle.psl.specs.Tests.{sideFits, countNumbersFit, fieldsFit, spansFit, headFits, pslValid};
 ghost use Rattle.psl.specs.Write.{wordsShow, numbersCheck, writeCheck, pslText, pslValues, RowsThere, ListsPut, Writable, PslWrote, recordCheck};
-ghost use Rattle.psl.specs.Read.{spanCheck, rowCheck, afterSpans, afterLine, pslCheck, CountsRange, Listed, Ready, Staged, RowsStored, PslRead};
+ghost use Rattle.psl.specs.Read.{spanCheck, rowCheck, afterLine, pslCheck, CountsRange, Listed, Ready, Staged, RowsStored, PslRead};
 use columns::Columns;
 use ledger::Part;
 use ledger::Reason;
 use ledger::Refusal;
 use ledger::Strand;
 use text::Check;
-use text::Class;
 use writing::Writing;
-ghost use Rattle.columns.specs.Names.{lengthFits, allGraphic};
-ghost use Rattle.blocks.specs.Blocks.{rowNumbersFit};
 
 // The eight counts of a PSL line.
 pub struct Counts {
@@ -80,13 +76,6 @@ const PSL: [u8; 21] = [
     8,
 ];
 
-// start < end ≤ size
-fn span_fits(x: Side) -> bool
-    ensures { λ r. ⌜ r ≡ spanFits x ⌝ }
-{
-    (x.start < x.end) & (x.end <= x.size)
-}
-
 // The eight counts, from the columns' values.
 fn counts_of(values: &[u64]) -> Counts
     ensures { λ r. ⌜ r ≡ countsOf (now (values .entry)) ⌝ }
@@ -143,28 +132,20 @@ fn check_spans(r: Psl, values: &[u64]) -> Check
 {
     let query = r.query;
     let target = r.target;
-    if !span_fits(query) {
-        let at = columns::value_at(values, 25) as usize;
-        return Check::Refused(Refusal {
-            reason: Reason::SpanDisagrees,
-            place: at,
-        });
-    }
-    if !span_fits(target) {
-        let at = columns::value_at(values, 33) as usize;
-        return Check::Refused(Refusal {
-            reason: Reason::SpanDisagrees,
-            place: at,
-        });
-    }
-    Check::Holds
-}
-
-// The difference of two numbers, or 0.
-fn less(x: u64, by: u64) -> u64
-    ensures { λ r. ⌜ r ≡ x - by ⌝ }
-{
-    if x < by { 0 } else { x - by }
+    let query_end = columns::value_at(values, 25) as usize;
+    let target_end = columns::value_at(values, 33) as usize;
+    let last = text::require(
+        blocks::span_fits(target.start, target.end, target.size),
+        Reason::SpanDisagrees,
+        target_end,
+        Check::Holds,
+    );
+    text::require(
+        blocks::span_fits(query.start, query.end, query.size),
+        Reason::SpanDisagrees,
+        query_end,
+        last,
+    )
 }
 
 // Where the first block starts on the query.
@@ -173,7 +154,7 @@ fn first_on(strand: Strand, x: Side) -> u64
 {
     match strand {
         Strand::Plus => x.start,
-        Strand::Minus => less(x.size, x.end),
+        Strand::Minus => blocks::less(x.size, x.end),
         Strand::Dot => x.start,
     }
 }
@@ -184,7 +165,7 @@ fn last_on(strand: Strand, x: Side) -> u64
 {
     match strand {
         Strand::Plus => x.end,
-        Strand::Minus => less(x.size, x.start),
+        Strand::Minus => blocks::less(x.size, x.start),
         Strand::Dot => x.end,
     }
 }
@@ -230,33 +211,23 @@ fn check_rows(text: &[u8], r: Psl, lists: &[u64]) -> Check
     let d = 2 * b;
     let count = r.blockCount as usize;
     let counts = r.counts;
-    if !rows_fit(r, &lists[d..], &lists[b..], lists, count) {
-        return Check::Refused(Refusal {
-            reason: Reason::BlockRules,
-            place: text.len(),
-        });
-    }
-    if !counts_fit(counts, &lists[d..], &lists[b..], lists, count) {
-        return Check::Refused(Refusal {
-            reason: Reason::CountsDisagree,
-            place: text.len(),
-        });
-    }
-    Check::Holds
+    let targets = &lists[d..];
+    let queries = &lists[b..];
+    let last = text::require(
+        counts_fit(counts, targets, queries, lists, count),
+        Reason::CountsDisagree,
+        text.len(),
+        Check::Holds,
+    );
+    text::require(
+        rows_fit(r, targets, queries, lists, count),
+        Reason::BlockRules,
+        text.len(),
+        last,
+    )
 }
 
-// The blocks and the counts, and the answer.
-fn after_spans(text: &[u8], r: Psl, lists: &[u64]) -> PslAnswer
-    requires { ⌜ Ready (now text) r (now lists) ⌝ }
-    ensures { λ x. ⌜ x ≡ afterSpans (now (text .entry)) r ⌝ }
-{
-    match check_rows(text, r, lists) {
-        Check::Refused(x) => PslAnswer::Refused(x),
-        Check::Holds => PslAnswer::Accepted(r),
-    }
-}
-
-// The spans, and on.
+// The spans, the blocks and the counts, and the answer.
 fn after_line(text: &[u8], values: &[u64], lists: &[u64]) -> PslAnswer
     requires { ⌜ Ready (now text) (pslRecord (now values)) (now lists) ⌝ }
     ensures { λ x. ⌜ x ≡ afterLine (now (text .entry)) (now (values .entry)) ⌝ }
@@ -264,7 +235,10 @@ fn after_line(text: &[u8], values: &[u64], lists: &[u64]) -> PslAnswer
     let r = record_of(values);
     match check_spans(r, values) {
         Check::Refused(x) => PslAnswer::Refused(x),
-        Check::Holds => after_spans(text, r, lists),
+        Check::Holds => match check_rows(text, r, lists) {
+            Check::Refused(x) => PslAnswer::Refused(x),
+            Check::Holds => PslAnswer::Accepted(r),
+        },
     }
 }
 
@@ -345,22 +319,6 @@ pub fn read_psl(
     }
 }
 
-fn length_fits(n: usize) -> bool
-    ensures { λ r. ⌜ r ≡ lengthFits n ⌝ }
-{
-    (1 <= n) & (n <= ledger::NAME_LIMIT)
-}
-
-fn is_told(s: Strand) -> bool
-    ensures { λ r. ⌜ r ≡ isTold s ⌝ }
-{
-    match s {
-        Strand::Plus => true,
-        Strand::Minus => true,
-        Strand::Dot => false,
-    }
-}
-
 // The numbers of a side.
 fn side_fits(x: Side) -> bool
     ensures { λ r. ⌜ r ≡ sideFits x ⌝ }
@@ -393,23 +351,13 @@ fn fields_fit(r: Psl) -> bool
     count_numbers_fit(counts) & (side_fits(query) & side_fits(target))
 }
 
-// The numbers of the used rows.
-fn row_numbers_fit(targets: &[u64], queries: &[u64], sizes: &[u64], count: usize) -> bool
-    ensures { λ x. ⌜ x ≡ rowNumbersFit (take count (now (targets .entry))) (take count (now (queries .entry)))
-        (take count (now (sizes .entry))) ⌝ }
-{
-    let most = ledger::Position::LARGEST;
-    blocks::all_between(targets, count, 0, most)
-        & (blocks::all_between(queries, count, 0, most)
-            & blocks::all_between(sizes, count, 1, most))
-}
-
 fn spans_fit(r: Psl) -> bool
     ensures { λ x. ⌜ x ≡ spansFit r ⌝ }
 {
     let query = r.query;
     let target = r.target;
-    span_fits(query) & span_fits(target)
+    blocks::span_fits(query.start, query.end, query.size)
+        & blocks::span_fits(target.start, target.end, target.size)
 }
 
 // The count of blocks, the names by length, the strand, and the numbers of the record.
@@ -422,7 +370,8 @@ fn head_fits(r: Psl, rows: usize) -> bool
     let q = query.name;
     let t = target.name;
     blocks::count_fits(r.blockCount, rows)
-        & ((length_fits(q.length) & (length_fits(t.length) & is_told(strand))) & fields_fit(r))
+        & ((columns::length_fits(q.length) & (columns::length_fits(t.length) & strand.is_told()))
+            & fields_fit(r))
 }
 
 // All rules of a record with its rows.
@@ -435,7 +384,7 @@ fn record_fits(r: Psl, targets: &[u64], queries: &[u64], sizes: &[u64]) -> bool
     }
     let count = r.blockCount as usize;
     let counts = r.counts;
-    row_numbers_fit(targets, queries, sizes, count)
+    blocks::row_numbers_fit(targets, queries, sizes, count)
         & (spans_fit(r)
             & (rows_fit(r, targets, queries, sizes, count)
                 & counts_fit(counts, targets, queries, sizes, count)))
@@ -445,20 +394,12 @@ fn record_fits(r: Psl, targets: &[u64], queries: &[u64], sizes: &[u64]) -> bool
 pub fn check_psl(r: Psl, targets: &[u64], queries: &[u64], sizes: &[u64]) -> Check
     ensures { λ x. ⌜ x ≡ recordCheck r (now (targets .entry)) (now (queries .entry)) (now (sizes .entry)) ⌝ }
 {
-    if record_fits(r, targets, queries, sizes) {
-        return Check::Holds;
-    }
-    Check::Refused(Refusal {
-        reason: Reason::BlockRules,
-        place: 0,
-    })
-}
-
-// Whether all bytes of a name show.
-fn all_graphic(w: &[u8]) -> bool
-    ensures { λ r. ⌜ r ≡ allGraphic (now (w .entry)) ⌝ }
-{
-    w.len() <= text::scan(w, 0, Class::Graphic)
+    text::require(
+        record_fits(r, targets, queries, sizes),
+        Reason::BlockRules,
+        0,
+        Check::Holds,
+    )
 }
 
 // The names that are handed in, and the strand.
@@ -466,18 +407,8 @@ fn words_show(r: Psl, query: &[u8], target: &[u8]) -> bool
     ensures { λ x. ⌜ x ≡ wordsShow r (now (query .entry)) (now (target .entry)) ⌝ }
 {
     let strand = r.strand;
-    (length_fits(query.len()) & (length_fits(target.len()) & is_told(strand)))
-        & (all_graphic(query) & all_graphic(target))
-}
-
-// Where a test holds, the rest; else a refusal at place 0.
-fn or_refuse(test: bool, reason: Reason, rest: Check) -> Check
-    ensures { λ x. ⌜ x ≡ require test reason 0 rest ⌝ }
-{
-    if test {
-        return rest;
-    }
-    Check::Refused(Refusal { reason, place: 0 })
+    (columns::length_fits(query.len()) & (columns::length_fits(target.len()) & strand.is_told()))
+        & (columns::all_graphic(query) & columns::all_graphic(target))
 }
 
 // The numbers (5), a row's too, then the spans (7), the blocks (9) and the counts (10).
@@ -492,20 +423,23 @@ fn check_numbers(r: Psl, targets: &[u64], queries: &[u64], sizes: &[u64]) -> Che
     }
     let count = r.blockCount as usize;
     let counts = r.counts;
-    let last = or_refuse(
+    let last = text::require(
         counts_fit(counts, targets, queries, sizes, count),
         Reason::CountsDisagree,
+        0,
         Check::Holds,
     );
-    let blocks = or_refuse(
+    let blocks = text::require(
         rows_fit(r, targets, queries, sizes, count),
         Reason::BlockRules,
+        0,
         last,
     );
-    let spans = or_refuse(spans_fit(r), Reason::SpanDisagrees, blocks);
-    or_refuse(
-        row_numbers_fit(targets, queries, sizes, count),
+    let spans = text::require(spans_fit(r), Reason::SpanDisagrees, 0, blocks);
+    text::require(
+        blocks::row_numbers_fit(targets, queries, sizes, count),
         Reason::NumberOutOfRange,
+        0,
         spans,
     )
 }
@@ -524,10 +458,11 @@ fn check_write(
 {
     let rows = blocks::rows_of(targets, queries, sizes);
     let numbers = check_numbers(r, targets, queries, sizes);
-    let words = or_refuse(words_show(r, query, target), Reason::BadWord, numbers);
-    or_refuse(
+    let words = text::require(words_show(r, query, target), Reason::BadWord, 0, numbers);
+    text::require(
         blocks::count_fits(r.blockCount, rows),
         Reason::BlockRules,
+        0,
         words,
     )
 }

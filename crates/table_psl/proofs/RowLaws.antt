@@ -27,7 +27,8 @@ use Rattle.psl.specs.declared.PslAnswer.{PslAnswer}
 use Rattle.psl.specs.declared.PslAnswer.the-variants.{Accepted, Refused}
 use Rattle.psl.specs.Records.{pslTargets, pslQueries, pslSizes}
 use Rattle.psl.specs.Read.{roomCheck, rowsAfter, pslCheck, pslRead, PslRead}
-use Rattle.psl.specs.Tests.{isTold, fieldsFit, spansFit, pslValid}
+use Rattle.ledger.specs.Strands.{isTold}
+use Rattle.psl.specs.Tests.{fieldsFit, spansFit, pslValid}
 use Rattle.psl.specs.Write.{wordsShow, writeCheck, pslWords, pslText, pslWrite, PslWrote, recordCheck}
 use Rattle.psl.specs.Rows.{rowsFit, countsFit}
 use Rattle.psl.proofs.LineLaws.{accepted-targets, accepted-queries, accepted-sizes}

@@ -1,12 +1,16 @@
 -- The starts stand after the sizes in the working room. Assumes nothing.
-use Rattle.bed.proofs.ReadLaws.{blocks-good, blocks-bad}
+use Rattle.bed.proofs.ReadLaws.{blocks-checked}
 use borrow.Author.Needs.{needs}
 use Rattle.bed.proofs.check_blocks.Statement.{statement}
 use Rattle.bed.proofs.check_blocks.Tie as tie
 use Rattle.bed.proofs.check_blocks.Reads as reads
 use Rattle.bed.proofs.check_blocks.Lts as lts
-use Rattle.bed.proofs.span_of.Reads as span-of-reads
 use Rattle.blocks.proofs.blocks_fill.Reads as blocks-fill-reads
+use Rattle.blocks.proofs.less.Reads as less-reads
+use Rattle.text.proofs.require.Reads as require-reads
+
+less-requires : tie.Need-less-requires
+less-requires c κs = search needs
 
 mul-blocks-fill : tie.Need-mul-blocks-fill
 mul-blocks-fill c = search needs
@@ -20,27 +24,24 @@ part-blocks-fill-start c = search needs
 part-blocks-fill-end : tie.Need-part-blocks-fill-end
 part-blocks-fill-end c = search needs
 
-span-of-requires : tie.Need-span-of-requires
-span-of-requires c κs = search needs
-
 blocks-fill-requires : tie.Need-blocks-fill-requires
 blocks-fill-requires c κs = search needs
 
-returns : tie.Need-returns
-returns c = search (blocks-good, blocks-bad)
+require-requires : tie.Need-require-requires
+require-requires c κs = search needs
 
-returns-2 : tie.Need-returns-2
-returns-2 c = search (blocks-good, blocks-bad)
+returns : tie.Need-returns
+returns c = search blocks-checked
 
 pub check-blocks-spec : {M : Type 1} → statement M
 check-blocks-spec =
     tie.close
     (tie.spec
+    less-requires
     mul-blocks-fill
     sub-blocks-fill
     part-blocks-fill-start
     part-blocks-fill-end
-    span-of-requires
     blocks-fill-requires
-    returns
-    returns-2)
+    require-requires
+    returns)

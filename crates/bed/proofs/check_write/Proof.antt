@@ -7,8 +7,8 @@ use Rattle.bed.proofs.check_write.Reads as reads
 use Rattle.bed.proofs.check_write.Lts as lts
 use Rattle.bed.proofs.fields_fit.Reads as fields-fit-reads
 use Rattle.bed.proofs.names_show.Reads as names-show-reads
-use Rattle.bed.proofs.or_refuse.Reads as or-refuse-reads
-use Rattle.bed.proofs.row_numbers_fit.Reads as row-numbers-fit-reads
+use Rattle.text.proofs.require.Reads as require-reads
+use Rattle.blocks.proofs.row_numbers_fit.Reads as row-numbers-fit-reads
 use Rattle.bed.proofs.rows_fit.Reads as rows-fit-reads
 use Rattle.bed.proofs.spans_fit.Reads as spans-fit-reads
 use Rattle.bed.proofs.strand_fits.Reads as strand-fits-reads
@@ -21,14 +21,14 @@ rows-of-requires c κs = search needs
 rows-fit-requires : tie.Need-rows-fit-requires
 rows-fit-requires c κs = search needs
 
-or-refuse-requires : tie.Need-or-refuse-requires
-or-refuse-requires c κs = search needs
+require-requires : tie.Need-require-requires
+require-requires c κs = search needs
 
 spans-fit-requires : tie.Need-spans-fit-requires
 spans-fit-requires c κs = search needs
 
-or-refuse-requires-2 : tie.Need-or-refuse-requires-2
-or-refuse-requires-2 c κs = search needs
+require-requires-2 : tie.Need-require-requires-2
+require-requires-2 c κs = search needs
 
 fields-fit-requires : tie.Need-fields-fit-requires
 fields-fit-requires c κs = search needs
@@ -36,8 +36,8 @@ fields-fit-requires c κs = search needs
 row-numbers-fit-requires : tie.Need-row-numbers-fit-requires
 row-numbers-fit-requires c κs = search needs
 
-or-refuse-requires-3 : tie.Need-or-refuse-requires-3
-or-refuse-requires-3 c κs = search needs
+require-requires-3 : tie.Need-require-requires-3
+require-requires-3 c κs = search needs
 
 names-show-requires : tie.Need-names-show-requires
 names-show-requires c κs = search needs
@@ -45,29 +45,29 @@ names-show-requires c κs = search needs
 strand-fits-requires : tie.Need-strand-fits-requires
 strand-fits-requires c κs = search needs
 
-or-refuse-requires-4 : tie.Need-or-refuse-requires-4
-or-refuse-requires-4 c κs = search needs
+require-requires-4 : tie.Need-require-requires-4
+require-requires-4 c κs = search needs
 
 count-fits-requires : tie.Need-count-fits-requires
 count-fits-requires c κs = search needs
 
-or-refuse-requires-5 : tie.Need-or-refuse-requires-5
-or-refuse-requires-5 c κs = search needs
+require-requires-5 : tie.Need-require-requires-5
+require-requires-5 c κs = search needs
 
 returns : tie.Need-returns
 unfolding writeCheck
 returns c = rw (
-  c .or-refuse5 .ensures,
+  c .require5 .ensures,
   c .before .count-fits .ensures,
-  c .before .before .or-refuse4 .ensures,
+  c .before .before .require4 .ensures,
   c .before .before .before .strand-fits .ensures,
   c .before .before .before .before .names-show .ensures,
-  c .before .before .before .before .before .or-refuse3 .ensures,
+  c .before .before .before .before .before .require3 .ensures,
   c .before .before .before .before .before .before .row-numbers-fit .ensures,
   c .before .before .before .before .before .before .before .fields-fit .ensures,
-  c .before .before .before .before .before .before .before .before .or-refuse2 .ensures,
+  c .before .before .before .before .before .before .before .before .require2 .ensures,
   c .before .before .before .before .before .before .before .before .before .spans-fit .ensures,
-  c .before .before .before .before .before .before .before .before .before .before .or-refuse .ensures,
+  c .before .before .before .before .before .before .before .before .before .before .require .ensures,
   c .before .before .before .before .before .before .before .before .before .before .before .rows-fit .ensures,
   c .before .before .before .before .before .before .before .before .before .before .before .before .rows-of .ensures,
 )
@@ -78,15 +78,15 @@ check-write-spec =
     (tie.spec
     rows-of-requires
     rows-fit-requires
-    or-refuse-requires
+    require-requires
     spans-fit-requires
-    or-refuse-requires-2
+    require-requires-2
     fields-fit-requires
     row-numbers-fit-requires
-    or-refuse-requires-3
+    require-requires-3
     names-show-requires
     strand-fits-requires
-    or-refuse-requires-4
+    require-requires-4
     count-fits-requires
-    or-refuse-requires-5
+    require-requires-5
     returns)

@@ -5,14 +5,14 @@ use Rattle.bed.proofs.default_block.Statement.{statement}
 use Rattle.bed.proofs.default_block.Tie as tie
 use Rattle.bed.proofs.default_block.Reads as reads
 use Rattle.bed.proofs.default_block.Lts as lts
-use Rattle.bed.proofs.span_of.Reads as span-of-reads
+use Rattle.blocks.proofs.less.Reads as less-reads
 use Rattle.numbers.proofs.store.Reads as store-reads
 
 returns : tie.Need-returns
 returns c = search (block-given, block-default)
 
-span-of-requires : tie.Need-span-of-requires
-span-of-requires c κs = search needs
+less-requires : tie.Need-less-requires
+less-requires c κs = search needs
 
 store-requires : tie.Need-store-requires
 store-requires c κs = search needs
@@ -29,4 +29,4 @@ returns-2 c = search (block-given, block-default)
 pub default-block-spec : {M : Type 1} → statement M
 default-block-spec =
     tie.close
-    (tie.spec returns span-of-requires store-requires store-requires-2 same-length returns-2)
+    (tie.spec returns less-requires store-requires store-requires-2 same-length returns-2)

@@ -6,7 +6,7 @@ use Rattle.bed.proofs.names_fit.Tie as tie
 use Rattle.bed.proofs.names_fit.Reads as reads
 use Rattle.bed.proofs.names_fit.Lts as lts
 use Rattle.bed.proofs.if_there.Reads as if-there-reads
-use Rattle.bed.proofs.length_fits.Reads as length-fits-reads
+use Rattle.columns.proofs.length_fits.Reads as length-fits-reads
 
 length-fits-requires : tie.Need-length-fits-requires
 length-fits-requires c κs = search needs

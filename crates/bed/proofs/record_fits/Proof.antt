@@ -7,7 +7,7 @@ use Rattle.bed.proofs.record_fits.Reads as reads
 use Rattle.bed.proofs.record_fits.Lts as lts
 use Rattle.bed.proofs.fields_fit.Reads as fields-fit-reads
 use Rattle.bed.proofs.names_fit.Reads as names-fit-reads
-use Rattle.bed.proofs.row_numbers_fit.Reads as row-numbers-fit-reads
+use Rattle.blocks.proofs.row_numbers_fit.Reads as row-numbers-fit-reads
 use Rattle.bed.proofs.rows_fit.Reads as rows-fit-reads
 use Rattle.bed.proofs.spans_fit.Reads as spans-fit-reads
 use Rattle.bed.proofs.strand_fits.Reads as strand-fits-reads

@@ -1,6 +1,5 @@
 -- The values, names and lists make the standard text, and the line writer writes it. Assumes nothing.
-use Rattle.bed.proofs.ColumnLaws.{codes-length}
-use Rattle.bed.proofs.WriteLaws.{names-short, rows-there, text-wrote}
+use Rattle.bed.proofs.WriteLaws.{names-there, codes-there, rows-there, text-wrote}
 use borrow.Author.Needs.{needs}
 use Rattle.bed.proofs.write_text.Statement.{statement}
 use Rattle.bed.proofs.write_text.Tie as tie
@@ -8,7 +7,7 @@ use Rattle.bed.proofs.write_text.Reads as reads
 use Rattle.bed.proofs.write_text.Lts as lts
 use Rattle.bed.proofs.name_room.Reads as name-room-reads
 use Rattle.bed.proofs.put_lists.Reads as put-lists-reads
-use Rattle.bed.proofs.put_names.Reads as put-names-reads
+use Rattle.columns.proofs.put_names.Reads as put-names-reads
 use Rattle.bed.proofs.values_of.Reads as values-of-reads
 use Rattle.bed.proofs.working_room.Reads as working-room-reads
 use Rattle.columns.proofs.write_line.Reads as write-line-reads
@@ -20,7 +19,7 @@ slice-aggregate-put-names : tie.Need-slice-aggregate-put-names
 slice-aggregate-put-names c = search needs
 
 put-names-requires : tie.Need-put-names-requires
-put-names-requires c κs = search names-short
+put-names-requires c κs = search needs
 
 working-room-requires : tie.Need-working-room-requires
 working-room-requires c κs = search needs
@@ -38,7 +37,7 @@ array-share-prefix-table : tie.Need-array-share-prefix-table
 array-share-prefix-table c = search needs
 
 slice-aggregate-write-line : tie.Need-slice-aggregate-write-line
-slice-aggregate-write-line c = codes-length _ (c .before .before .before .before .before .before .before .before .before .before .before .before .before .before .before .before .pre .words)
+slice-aggregate-write-line c = codes-there _ _ _ _ _ (c .before .before .before .before .before .before .before .before .before .before .before .before .before .before .before .before .pre)
 
 slice-aggregate-write-line-2 : tie.Need-slice-aggregate-write-line-2
 slice-aggregate-write-line-2 c = search needs
@@ -56,7 +55,9 @@ same-length : tie.Need-same-length
 same-length c = search needs
 
 returns : tie.Need-returns
-returns c = text-wrote _ _ _ _ _ _ _ (c .before .before .before .before .before .before .before .before .before .before .before .before .before .before .put-names .ensures) (c .before .before .before .before .before .before .before .before .before .before .put-lists .ensures) _ _ _ _ (c .before .before .before .before .before .before .before .before .values-of .ensures) (c .before .before .before .before .before .before .before .before .before .before .before .before .before .before .before .before .before .before .before .before .before .before .pre .words) (c .before .before .write-line .ensures)
+returns c =
+    let pre = c .before .before .before .before .before .before .before .before .before .before .before .before .before .before .before .before .before .before .before .before .before .before .pre in
+    text-wrote _ _ _ _ _ _ _ (names-there _ _ _ _ _ pre _ _ (c .before .before .before .before .before .before .before .before .before .before .before .before .before .before .put-names .ensures) (c .before .before .before .before .before .before .before .before .before .before .before .before .before .before .before .before .name-room .ensures)) (c .before .before .before .before .before .before .before .before .before .before .put-lists .ensures) _ _ _ _ (c .before .before .before .before .before .before .before .before .values-of .ensures) (pre .words) (c .before .before .write-line .ensures)
 
 pub write-text-spec : {M : Type 1} → statement M
 write-text-spec =

@@ -1,11 +1,11 @@
--- The record's check decides, and the next stage goes on. Assumes nothing.
-use Rattle.psl.proofs.ReadLaws.{ready-as, line-refused, line-on}
+-- Each check decides. Assumes nothing.
+use Rattle.psl.proofs.ReadLaws.{ready-as, line-refused, rows-refused, line-accepted}
 use borrow.Author.Needs.{needs}
 use Rattle.psl.proofs.after_line.Statement.{statement}
 use Rattle.psl.proofs.after_line.Tie as tie
 use Rattle.psl.proofs.after_line.Reads as reads
 use Rattle.psl.proofs.after_line.Lts as lts
-use Rattle.psl.proofs.after_spans.Reads as after-spans-reads
+use Rattle.psl.proofs.check_rows.Reads as check-rows-reads
 use Rattle.psl.proofs.check_spans.Reads as check-spans-reads
 use Rattle.psl.proofs.record_of.Reads as record-of-reads
 
@@ -21,14 +21,23 @@ enum-known-x c = search needs
 enum-told : tie.Need-enum-told
 enum-told c = search needs
 
-after-spans-requires : tie.Need-after-spans-requires
-after-spans-requires c κs = search ready-as
+check-rows-requires : tie.Need-check-rows-requires
+check-rows-requires c κs = search ready-as
+
+enum-known-x-2 : tie.Need-enum-known-x-2
+enum-known-x-2 c = search needs
+
+enum-told-2 : tie.Need-enum-told-2
+enum-told-2 c = search needs
 
 returns : tie.Need-returns
-returns c = search (line-refused, line-on)
+returns c = search (line-refused, rows-refused, line-accepted)
 
 returns-2 : tie.Need-returns-2
-returns-2 c = search (line-refused, line-on)
+returns-2 c = search (line-refused, rows-refused, line-accepted)
+
+returns-3 : tie.Need-returns-3
+returns-3 c = search (line-refused, rows-refused, line-accepted)
 
 pub after-line-spec : {M : Type 1} → statement M
 after-line-spec =
@@ -38,6 +47,9 @@ after-line-spec =
     check-spans-requires
     enum-known-x
     enum-told
-    after-spans-requires
+    check-rows-requires
+    enum-known-x-2
+    enum-told-2
     returns
-    returns-2)
+    returns-2
+    returns-3)

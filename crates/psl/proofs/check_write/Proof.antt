@@ -1,5 +1,5 @@
 -- The tests in their order. Assumes nothing.
-use Rattle.psl.specs.Write.{writeCheck, numbersCheck}
+use Rattle.psl.specs.Write.{writeCheck}
 use borrow.Author.Needs.{needs}
 use Rattle.psl.proofs.check_write.Statement.{statement}
 use Rattle.psl.proofs.check_write.Tie as tie
@@ -8,7 +8,7 @@ use Rattle.psl.proofs.check_write.Lts as lts
 use Rattle.blocks.proofs.count_fits.Reads as count-fits-reads
 use Rattle.blocks.proofs.rows_of.Reads as rows-of-reads
 use Rattle.psl.proofs.check_numbers.Reads as check-numbers-reads
-use Rattle.psl.proofs.or_refuse.Reads as or-refuse-reads
+use Rattle.text.proofs.require.Reads as require-reads
 use Rattle.psl.proofs.words_show.Reads as words-show-reads
 
 rows-of-requires : tie.Need-rows-of-requires
@@ -20,18 +20,18 @@ check-numbers-requires c κs = search needs
 words-show-requires : tie.Need-words-show-requires
 words-show-requires c κs = search needs
 
-or-refuse-requires : tie.Need-or-refuse-requires
-or-refuse-requires c κs = search needs
+require-requires : tie.Need-require-requires
+require-requires c κs = search needs
 
 count-fits-requires : tie.Need-count-fits-requires
 count-fits-requires c κs = search needs
 
-or-refuse-requires-2 : tie.Need-or-refuse-requires-2
-or-refuse-requires-2 c κs = search needs
+require-requires-2 : tie.Need-require-requires-2
+require-requires-2 c κs = search needs
 
 returns : tie.Need-returns
-unfolding writeCheck numbersCheck
-returns c = rw (c .or-refuse2 .ensures, c .before .count-fits .ensures, c .before .before .or-refuse .ensures, c .before .before .before .words-show .ensures, c .before .before .before .before .check-numbers .ensures, c .before .before .before .before .before .rows-of .ensures)
+unfolding writeCheck
+returns c = rw (c .require2 .ensures, c .before .count-fits .ensures, c .before .before .require .ensures, c .before .before .before .words-show .ensures, c .before .before .before .before .check-numbers .ensures, c .before .before .before .before .before .rows-of .ensures)
 
 pub check-write-spec : {M : Type 1} → statement M
 check-write-spec =
@@ -40,7 +40,7 @@ check-write-spec =
     rows-of-requires
     check-numbers-requires
     words-show-requires
-    or-refuse-requires
+    require-requires
     count-fits-requires
-    or-refuse-requires-2
+    require-requires-2
     returns)

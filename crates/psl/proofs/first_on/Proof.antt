@@ -4,7 +4,7 @@ use Rattle.psl.proofs.first_on.Statement.{statement}
 use Rattle.psl.proofs.first_on.Tie as tie
 use Rattle.psl.proofs.first_on.Reads as reads
 use Rattle.psl.proofs.first_on.Lts as lts
-use Rattle.psl.proofs.less.Reads as less-reads
+use Rattle.blocks.proofs.less.Reads as less-reads
 
 enum-told : tie.Need-enum-told
 enum-told c = search needs

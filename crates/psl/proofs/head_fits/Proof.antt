@@ -7,8 +7,7 @@ use Rattle.psl.proofs.head_fits.Reads as reads
 use Rattle.psl.proofs.head_fits.Lts as lts
 use Rattle.blocks.proofs.count_fits.Reads as count-fits-reads
 use Rattle.psl.proofs.fields_fit.Reads as fields-fit-reads
-use Rattle.psl.proofs.is_told.Reads as is-told-reads
-use Rattle.psl.proofs.length_fits.Reads as length-fits-reads
+use Rattle.columns.proofs.length_fits.Reads as length-fits-reads
 
 count-fits-requires : tie.Need-count-fits-requires
 count-fits-requires c κs = search needs

@@ -8,7 +8,7 @@ use Rattle.psl.proofs.record_fits.Lts as lts
 use Rattle.blocks.proofs.rows_of.Reads as rows-of-reads
 use Rattle.psl.proofs.counts_fit.Reads as counts-fit-reads
 use Rattle.psl.proofs.head_fits.Reads as head-fits-reads
-use Rattle.psl.proofs.row_numbers_fit.Reads as row-numbers-fit-reads
+use Rattle.blocks.proofs.row_numbers_fit.Reads as row-numbers-fit-reads
 use Rattle.psl.proofs.rows_fit.Reads as rows-fit-reads
 use Rattle.psl.proofs.spans_fit.Reads as spans-fit-reads
 

@@ -5,7 +5,7 @@ use Rattle.psl.proofs.spans_fit.Statement.{statement}
 use Rattle.psl.proofs.spans_fit.Tie as tie
 use Rattle.psl.proofs.spans_fit.Reads as reads
 use Rattle.psl.proofs.spans_fit.Lts as lts
-use Rattle.psl.proofs.span_fits.Reads as span-fits-reads
+use Rattle.blocks.proofs.span_fits.Reads as span-fits-reads
 
 span-fits-requires : tie.Need-span-fits-requires
 span-fits-requires c κs = search needs

@@ -5,9 +5,8 @@ use Rattle.psl.proofs.words_show.Statement.{statement}
 use Rattle.psl.proofs.words_show.Tie as tie
 use Rattle.psl.proofs.words_show.Reads as reads
 use Rattle.psl.proofs.words_show.Lts as lts
-use Rattle.psl.proofs.all_graphic.Reads as all-graphic-reads
-use Rattle.psl.proofs.is_told.Reads as is-told-reads
-use Rattle.psl.proofs.length_fits.Reads as length-fits-reads
+use Rattle.columns.proofs.all_graphic.Reads as all-graphic-reads
+use Rattle.columns.proofs.length_fits.Reads as length-fits-reads
 
 length-fits-requires : tie.Need-length-fits-requires
 length-fits-requires c κs = search needs
