@@ -6,3 +6,4 @@ pub mod LiftLaws
 pub mod TallyLaws
 pub mod TurnLaws
 pub mod Vectors
+pub mod QuietLaws

@@ -1,5 +1,5 @@
 -- The entries of docs/DESK.md, each as a definition: what it answers and writes, for every input.
-use Prim.Native.Nat.{ℕ, suc, _+_, _-_, _*_, _≤_}
+use Prim.Native.Nat.{ℕ, suc, _+_, _-_, _*_, _%_, _≤_}
 use mathlib.Core.Path.{_≡_}
 use mathlib.Core.Bool.{Bool, true, false}
 use mathlib.Core.List.{List, [], _∷_, _++_}
@@ -213,3 +213,7 @@ turnWritten s c rows room =
 
 unfoldable pub turnedText : List ℕ → ℕ → Outcome
 turnedText s room = ofChain (chainCheck s) (λ c. turnWritten s c (chainRows s c) room)
+
+-- an answer tells a refusal: its reason, the answer's remainder by 16, is not 0
+abbrev pub Refusing : ℕ → Type 0
+Refusing r = r % 16 ≡ 0 → ⊥

@@ -4,7 +4,6 @@ use reference::chain::{self, Chain};
 use reference::ledger::{Answer, Reason, Refusal};
 use reference::lift::{self, Tally};
 use reference::rows::{self, Row};
-use reference::text::Part;
 use reference::{bed, psl};
 use tenderchock::Kind;
 
@@ -69,14 +68,6 @@ fn bed_numbers(bed: &bed::Bed) -> Vec<u64> {
 }
 
 fn psl_numbers(psl: &psl::Psl) -> Vec<u64> {
-    let Part {
-        start: q_at,
-        length: q_length,
-    } = psl.q_name;
-    let Part {
-        start: t_at,
-        length: t_length,
-    } = psl.t_name;
     vec![
         psl.matches,
         psl.mis_matches,
@@ -87,13 +78,13 @@ fn psl_numbers(psl: &psl::Psl) -> Vec<u64> {
         psl.t_inserts.number,
         psl.t_inserts.bases,
         u64::from(psl.strand.letter()),
-        q_at,
-        q_length,
+        psl.q_name.start,
+        psl.q_name.length,
         psl.q_size,
         psl.q_start,
         psl.q_end,
-        t_at,
-        t_length,
+        psl.t_name.start,
+        psl.t_name.length,
         psl.t_size,
         psl.t_start,
         psl.t_end,
@@ -102,23 +93,15 @@ fn psl_numbers(psl: &psl::Psl) -> Vec<u64> {
 }
 
 fn chain_numbers(chain: &Chain) -> Vec<u64> {
-    let Part {
-        start: t_at,
-        length: t_length,
-    } = chain.t_name;
-    let Part {
-        start: q_at,
-        length: q_length,
-    } = chain.q_name;
     vec![
         chain.score,
-        t_at,
-        t_length,
+        chain.t_name.start,
+        chain.t_name.length,
         chain.t_size,
         chain.t_start,
         chain.t_end,
-        q_at,
-        q_length,
+        chain.q_name.start,
+        chain.q_name.length,
         chain.q_size,
         u64::from(chain.q_strand.letter()),
         chain.q_start,
