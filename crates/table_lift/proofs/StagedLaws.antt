@@ -13,7 +13,8 @@ use Rattle.blocks.proofs.TableLaws.{table-back}
 use Rattle.rows.specs.Staging.{allReach, Loaded, Columns}
 use Rattle.rows.proofs.StagingLaws.{first-fronts, loaded-targets, loaded-queries, loaded-sizes, cutRows, rows-cut}
 use Rattle.chain.specs.declared.Chain.{Chain}
-use Rattle.chain.specs.Tests.{namesFit, strandFits, fieldsFit, spansFit, rowsFit, chainValid}
+use Rattle.ledger.specs.Strands.{isTold}
+use Rattle.chain.specs.Tests.{namesFit, fieldsFit, spansFit, rowsFit, chainValid}
 use Rattle.lift.specs.Accepted.{used, accepted}
 use Rattle.lift.proofs.AcceptLaws.{accepted-rules}
 use Rattle.table_lift.specs.Lifts.{stagedRows}
@@ -22,7 +23,7 @@ use Rattle.blocks.specs.Blocks.{rowNumbersFit}
 -- the chain rules, as they look at the rows in use
 abbrev rulesSeen : Chain → Bool → List ℕ → List ℕ → List ℕ → Bool
 rulesSeen c t ts qs zs =
-    t && (namesFit (c .tName .length) (c .qName .length) && (strandFits (c .qStrand) && (fieldsFit c && (rowNumbersFit ts qs zs && (spansFit c && rowsFit c ts qs zs)))))
+    t && (namesFit (c .tName .length) (c .qName .length) && (isTold (c .qStrand) && (fieldsFit c && (rowNumbersFit ts qs zs && (spansFit c && rowsFit c ts qs zs)))))
 
 -- a record is accepted with the rows that are staged exactly when it is with the table
 pub accepted-cut : (c : Chain) (rows : List Row) → accepted c (cutRows rows) ≡ accepted c rows
