@@ -113,11 +113,11 @@ fn put_standard(
     let t = text::name_in(page, d.tName);
     let q = text::name_in(page, d.qName);
     let mut buf = cases::marked_bytes();
-    let written = chain::write_chain(d, t, q, targets, queries, sizes, &mut buf);
+    let written = cases_chain::write_chain(d, t, q, targets, queries, sizes, &mut buf);
     let a = writing::put_bytes(out, at, b" text ");
     let b = cases::put_text(out, a, &buf, written);
     let c = writing::put_bytes(out, b, b" check ");
-    cases::put_check(out, c, chain::check_chain(d, targets, queries, sizes))
+    cases::put_check(out, c, cases_chain::check_chain(d, targets, queries, sizes))
 }
 
 // What a turn answers, and what it left in the tables.
