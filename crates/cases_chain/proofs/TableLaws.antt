@@ -1,28 +1,25 @@
 -- What each entry shows at its end, on plain values. Assumes nothing.
 use mathlib.Core.Path.{_≡_, sym, ap, _∙_}
-use mathlib.Core.List.{List, _++_, append-assoc, map}
-use Prim.Native.Nat.{ℕ, _≤_, min}
+use mathlib.Core.List.{List, _++_}
+use Prim.Native.Nat.{ℕ, min}
 use native.Mathlib.Omega.{arith}
-use lib.ListN.{length, take, drop, length-take, take-append-drop}
-use lib.Seq.{take-take, drop-append-le}
+use lib.ListN.{length, take, drop, length-take}
 use Rattle.ledger.specs.declared.Row.{Row}
 use Rattle.ledger.specs.Limits.{blockLimit}
 use Rattle.text.specs.declared.Check.{Check}
 use Rattle.writing.specs.declared.Writing.{Writing}
-use Rattle.blocks.specs.Rows.{tableOf, targetsOf, queriesOf, sizesOf}
-use Rattle.blocks.proofs.TableLaws.{take-map}
+use Rattle.blocks.specs.Rows.{targetsOf, queriesOf, sizesOf}
 use Rattle.rows.specs.Staging.{allReach, Loaded, storedRows, Columns, Fronts}
-use Rattle.rows.proofs.StagingLaws.{loaded-targets, loaded-queries, loaded-sizes, put-targets, put-queries, put-sizes}
 use Rattle.chain.specs.declared.Chain.{Chain}
 use Rattle.chain.specs.declared.ChainAnswer.{ChainAnswer}
 use Rattle.chain.specs.declared.ChainAnswer.the-variants.{Accepted}
 use Rattle.chain.specs.Records.{chainTargets, chainQueries, chainSizes}
 use Rattle.chain.specs.Read.{chainRead}
 use Rattle.chain.specs.Write.{recordCheck, ChainWrote}
-use Rattle.table_chain.specs.Rows.{chainRows, tableAfter, RowsRead}
+use Rattle.table_chain.specs.Rows.{tableAfter, RowsRead}
 use Rattle.table_chain.proofs.RowLaws.{counted, read-of}
 use Rattle.cases_chain.specs.Tables.{tableLimit, TableRead, TableChecked, TableWrote}
-use Rattle.cases_chain.proofs.FillLaws.{filled-targets, filled-queries, filled-sizes}
+use Rattle.cases_chain.proofs.FillLaws.{filled-targets, filled-queries, filled-sizes, copied}
 
 -- a table filled from columns
 module _ (n : ℕ) (ts qs zs : List ℕ) (marked table : List Row) (en : n ≡ min (length ts) tableLimit) (long : length marked ≡ tableLimit) (stored : table ≡ storedRows n ts qs zs marked) where
@@ -55,48 +52,12 @@ module _ (s : List ℕ) (room n : ℕ) (marked after : List Row) (ts ts′ qs qs
   answer : x ≡ chainRead s (min room blockLimit)
   answer = rw (lent, en) at (read .is)
 
-  module _ (r : Chain) (k : x ≡ Accepted r) (room-for : Columns ts qs zs) where
-    abbrev m : ℕ
-    m = r .blockCount
-
-    fits : m ≤ length (take n marked)
-    fits = read-of s (length (take n marked)) r (sym (read .is) ∙ k) .fits
-
-    abbrev xs : List ℕ
-    xs = chainTargets s r
-
-    abbrev ys : List ℕ
-    ys = chainQueries s r
-
-    abbrev ws : List ℕ
-    ws = chainSizes s r
-
-    rows-are : after ++ drop n marked ≡ tableOf xs ys ws ++ drop m marked
-    rows-are =
-        let a : after ≡ chainRows s r ++ drop m (take n marked) = read .rows ∙ ap (λ (y : ChainAnswer). tableAfter y s (take n marked)) k in
-        let b : drop m (take n marked) ++ drop n marked ≡ drop m marked = sym (drop-append-le m (take n marked) (drop n marked) fits) ∙ ap (drop m) (take-append-drop n marked) in
-        ap (λ (l : List Row). l ++ drop n marked) a ∙ append-assoc (chainRows s r) (drop m (take n marked)) (drop n marked) ∙ ap (λ (l : List Row). chainRows s r ++ l) b
-
-    within : m ≤ min (length (after ++ drop n marked)) blockLimit
-    within = omega (arith, fits, lent)
-
-    column : (g : Row → ℕ) (xs′ : List ℕ) → take (min (length (after ++ drop n marked)) blockLimit) xs′ ≡ map g (take (min (length (after ++ drop n marked)) blockLimit) (after ++ drop n marked))
-        → take m xs′ ≡ take m (map g (tableOf xs ys ws ++ drop m marked))
-    column g xs′ e =
-        let p = min (length (after ++ drop n marked)) blockLimit in
-        sym (take-take m p xs′ within) ∙ ap (take m) e ∙ ap (take m) (sym (take-map g p (after ++ drop n marked))) ∙ take-take m p (map g (after ++ drop n marked)) within ∙ ap (λ (l : List Row). take m (map g l)) rows-are
-
-    held : Fronts m (min room blockLimit) xs ys ws ts′ qs′ zs′
-    held =
-        let o = read-of s (length (take n marked)) r (sym (read .is) ∙ k) in
-        let l = counted s r (o .checked) in
-        record {
-          fits = omega (arith, fits, lent);
-          reach = omega (arith, fits, lent, room-for .targets, room-for .queries, room-for .sizes);
-          targets = column (λ (b : Row). b .target) ts′ (loaded-targets (after ++ drop n marked) ts ts′ qs qs′ zs zs′ room-for loaded) ∙ put-targets m xs ys ws marked (l .targets) (l .queries) (l .sizes);
-          queries = column (λ (b : Row). b .query) qs′ (loaded-queries (after ++ drop n marked) ts ts′ qs qs′ zs zs′ room-for loaded) ∙ put-queries m xs ys ws marked (l .targets) (l .queries) (l .sizes);
-          sizes = column (λ (b : Row). b .size) zs′ (loaded-sizes (after ++ drop n marked) ts ts′ qs qs′ zs zs′ room-for loaded) ∙ put-sizes m xs ys ws marked (l .targets) (l .queries) (l .sizes);
-        }
+  held : Columns ts qs zs → (r : Chain) → x ≡ Accepted r → Fronts (r .blockCount) (min room blockLimit) (chainTargets s r) (chainQueries s r) (chainSizes s r) ts′ qs′ zs′
+  held cols r k =
+      let o = read-of s (length (take n marked)) r (sym (read .is) ∙ k) in
+      let l = counted s r (o .checked) in
+      copied room n (r .blockCount) marked after ts ts′ qs qs′ zs zs′ _ _ _ en long (omega (arith, o .fits, lent)) (read .rows ∙ ap (λ (y : ChainAnswer). tableAfter y s (take n marked)) k)
+      (l .targets) (l .queries) (l .sizes) all loaded et eq ez cols
 
   pub table-read : TableRead s room ts ts′ qs qs′ zs zs′ x
-  table-read = record { is = answer; columns = λ room-for. record { is = answer; held = λ r k. held r k room-for } }
+  table-read = record { is = answer; columns = λ cols. record { is = answer; held = held cols } }
