@@ -109,8 +109,8 @@ pub fn turn_chain(
     newQueries: &mut [u64],
     newSizes: &mut [u64],
 ) -> TurnAnswer
-    ensures { λ x. ⌜ TableTurned c (now (targets .entry)) (now (queries .entry)) (now (sizes .entry)) room (now (newTargets .entry)) (now (newTargets .exit))
-        (now (newQueries .entry)) (now (newQueries .exit)) (now (newSizes .entry)) (now (newSizes .exit)) x ⌝ }
+    ensures { λ x. ⌜ TableTurned c (now (targets .entry)) (now (queries .entry)) (now (sizes .entry)) room (now (newTargets .entry))
+        (now (newTargets .exit)) (now (newQueries .entry)) (now (newQueries .exit)) (now (newSizes .entry)) (now (newSizes .exit)) x ⌝ }
 {
     let mark = cases::row_mark();
     let n = cases::table_rows(targets);

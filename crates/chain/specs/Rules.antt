@@ -92,7 +92,7 @@ pub record ChainRules (r : Chain) (ts qs zs : List ℕ) : Type 0 where
   pub tBlocks : Fills (r .tStart) (r .tEnd) (r .blockCount) ts zs
   pub qBlocks : Fills (r .qStart) (r .qEnd) (r .blockCount) qs zs
 
--- the record with names of these lengths: the rules of a record that is written
+-- the record with names of these lengths: what the rules are asked of where the names are handed in beside it
 abbrev pub named : Chain → List ℕ → List ℕ → Chain
 named r tName qName = record {
   score = r .score;
