@@ -1,67 +1,45 @@
 -- The standard text of a chain record that may be written reads back as that record, with the same names and the same rows. Assumes nothing.
 use mathlib.Core.Path.{_≡_, refl, sym, ap, _∙_}
-use mathlib.Core.Bool.{Bool, true, false, _&&_}
+use mathlib.Core.Bool.{true, false, _&&_}
 use mathlib.Core.List.{List, [], _∷_, _++_, append-assoc}
 use Prim.Native.Nat.{ℕ, zero, suc, _+_, _-_, _≤_, _<_, zero-le}
 use native.Mathlib.Numerals.{add-one}
 use native.Mathlib.Omega.{arith}
 use lib.ListN.{length, take, drop, getD}
-use lib.Seq.{take-length, length-take-le, drop-cons}
-use borrow.Author.Tests.{le-leb, leb-true}
+use lib.Seq.{length-take-le, drop-cons}
+use borrow.Author.Tests.{le-leb}
 use Rattle.ledger.specs.declared.Strand.{Strand}
 use Rattle.ledger.specs.declared.Strand.the-variants.{Plus, Minus, Dot}
-use Rattle.ledger.specs.Limits.{textLimit, nameLimit, largestPosition}
-use Rattle.ledger.specs.Strands.{strandLetter}
-use Rattle.text.specs.declared.Class.{Class}
+use Rattle.ledger.specs.Limits.{textLimit, largestPosition}
+use Rattle.ledger.specs.Strands.{strandLetter, isTold}
 use Rattle.text.specs.declared.Class.the-variants.{Graphic, Allowed, Line}
 use Rattle.text.specs.declared.Check.the-variants.{Holds}
-use Rattle.text.specs.declared.Extent.{Extent}
-use Rattle.text.specs.Scan.{isIn, oneMore, run, endOf}
+use Rattle.text.specs.Scan.{run}
 use Rattle.text.specs.Parts.{partBytes}
 use Rattle.text.specs.Pieces.{linesOf, lineOf, wordsOf, joined}
 use Rattle.text.specs.Words.{wordAt, bytesOf}
-use Rattle.text.proofs.TextLaws.{All, all-append, in-allowed, both}
-use Rattle.text.proofs.PieceLaws.{Worded, worded-none, worded-more, pieces-join, lines-none, joined-in-line, line-joined, words-joined, word-bytes}
+use Rattle.text.proofs.TextLaws.{All, all-append, both}
+use Rattle.text.proofs.PieceLaws.{Worded, pieces-join, lines-none, joined-in-line, line-joined, words-joined, word-bytes}
 use Rattle.writing.specs.Digits.{digits}
 use Rattle.kinds.specs.declared.Fixed.the-variants as fixed
 use Rattle.kinds.specs.declared.Range.the-variants.{Coordinate, Size, ChainScore, ChainId}
-use Rattle.kinds.specs.declared.Kind.{Kind}
-use Rattle.kinds.specs.declared.Kind.the-variants.{Name, Number, Stranded, Word}
-use Rattle.kinds.specs.Kinds.{countAfter}
+use Rattle.kinds.specs.declared.Kind.the-variants.{Number, Stranded, Word}
 use Rattle.kinds.proofs.BackLaws.{Written, written}
-use Rattle.columns.specs.Spells.{Spells, spells-none, spells-more}
+use Rattle.columns.specs.Spells.{Spells}
 use Rattle.blocks.specs.Blocks.{countFits, rowsOf, rowNumbersFit}
 use Rattle.chain.specs.declared.Chain.{Chain}
 use Rattle.chain.specs.declared.ChainAnswer.the-variants.{Accepted}
 use Rattle.chain.specs.Table.{chainColumns, blockColumns}
 use Rattle.chain.specs.Records.{chainTargets, chainQueries, chainSizes}
 use Rattle.chain.specs.Read.{roomCheck, chainCheck, chainRead}
-use Rattle.chain.specs.Tests.{namesFit, strandFits, fieldsFit, spansFit, rowsFit, chainValid}
+use Rattle.chain.specs.Tests.{namesFit, fieldsFit, spansFit, rowsFit, chainValid}
 use Rattle.chain.specs.Write.{namesShow, writeCheck, headWords, fedWords, gapTo, gapWords, blockText, chainText}
-use Rattle.chain.specs.Rules.{BlockLines, last-line, more-lines, ChainText, ChainRules, placed}
+use Rattle.chain.specs.Rules.{BlockLines, last-line, more-lines, ChainText, ChainRules, named, placed}
 use Rattle.chain.proofs.RuleLaws.{rules-of}
 use Rattle.chain.proofs.TextLaws.{text-is, text-targets, text-queries, text-sizes}
-use Rattle.ledger.specs.Parts.{partAt}
-use Rattle.columns.specs.Names.{allGraphic, partOf}
+use Rattle.columns.specs.Names.{allGraphic}
 use Rattle.columns.proofs.WordLaws.{all-graphic, and-i, name-written, row-spells, row-worded, Row, row-none, row-more, part-bytes}
-use Rattle.text.proofs.CheckLaws.{require-holds}
-
--- the record with names of these lengths
-abbrev pub named : Chain → List ℕ → List ℕ → Chain
-named r tName qName = record {
-  score = r .score;
-  tName = partAt 0 (length tName);
-  tSize = r .tSize;
-  tStart = r .tStart;
-  tEnd = r .tEnd;
-  qName = partAt 0 (length qName);
-  qSize = r .qSize;
-  qStrand = r .qStrand;
-  qStart = r .qStart;
-  qEnd = r .qEnd;
-  id = r .id;
-  blockCount = r .blockCount;
-}
+use Rattle.text.proofs.CheckLaws.{require-holds, fed-allowed}
 
 -- what the writer's checks show of a record, its names and its rows
 pub record MayWrite (r : Chain) (tName qName ts qs zs : List ℕ) : Type 0 where
@@ -75,11 +53,11 @@ unfolding writeCheck namesShow chainValid fieldsFit spansFit rowsFit rowNumbersF
 may-write r tName qName ts qs zs e =
     let n = r .blockCount in
     let count = require-holds (countFits n (rowsOf ts qs zs)) _ _ e in
-    let words = require-holds (namesShow tName qName && strandFits (r .qStrand)) _ _ (count .1) in
+    let words = require-holds (namesShow tName qName && isTold (r .qStrand)) _ _ (count .1) in
     let numbers = require-holds (fieldsFit r && rowNumbersFit (take n ts) (take n qs) (take n zs)) _ _ (words .1) in
     let spans = require-holds (spansFit r) _ _ (numbers .1) in
     let rows = require-holds (rowsFit r (take n ts) (take n qs) (take n zs)) _ _ (spans .1) in
-    let names = both (namesShow tName qName) (strandFits (r .qStrand)) (words .0) in
+    let names = both (namesShow tName qName) (isTold (r .qStrand)) (words .0) in
     let lengths = both (namesFit (length tName) (length qName)) (allGraphic tName && allGraphic qName) (names .0) in
     let shown = both (allGraphic tName) (allGraphic qName) (lengths .1) in
     let fields = both (fieldsFit r) (rowNumbersFit (take n ts) (take n qs) (take n zs)) (numbers .0) in
@@ -114,16 +92,6 @@ module _ (ws : List (List ℕ)) (k : Worded ws) where
 
   fed-words : wordsOf (joined 32 ws) ≡ ws
   fed-words = words-joined 32 ws refl k
-
-joined-allowed : (ws : List (List ℕ)) → Worded ws → All Allowed (joined 32 ws)
-unfolding joined run
-joined-allowed [] k = refl
-joined-allowed (w ∷ []) (worded-more _ l h k) = in-allowed w h
-joined-allowed (w ∷ (v ∷ ws)) (worded-more _ l h k) = all-append Allowed w (32 ∷ joined 32 (v ∷ ws)) (in-allowed w h) (ap suc (joined-allowed (v ∷ ws) k))
-
-fed-allowed : (ws : List (List ℕ)) → Worded ws → All Allowed (fedWords ws)
-unfolding run
-fed-allowed ws k = all-append Allowed (joined 32 ws) (10 ∷ []) (joined-allowed ws k) refl
 
 -- rows from number i on
 rows-cons : (k i : ℕ) (xs : List ℕ) → i < length xs → take (suc k) (drop i xs) ≡ getD xs i 0 ∷ take k (drop (suc i) xs)
@@ -200,8 +168,8 @@ module _ (r : Chain) (ts qs zs : List ℕ) (c : ChainRules r ts qs zs) where
 
   blocks-allowed : (k i : ℕ) → suc i + k ≡ n → All Allowed (blockText k i ts qs zs)
   unfolding blockText
-  blocks-allowed zero i e = fed-allowed (digits (getD zs i 0) ∷ []) (row-worded (size-row i (omega arith)))
-  blocks-allowed (suc k) i e = all-append Allowed (fedWords (gapWords i ts qs zs)) (blockText k (suc i) ts qs zs) (fed-allowed (gapWords i ts qs zs) (row-worded (gap-row i (omega arith)))) (blocks-allowed k (suc i) (omega arith))
+  blocks-allowed zero i e = fed-allowed 32 refl (digits (getD zs i 0) ∷ []) (row-worded (size-row i (omega arith)))
+  blocks-allowed (suc k) i e = all-append Allowed (fedWords (gapWords i ts qs zs)) (blockText k (suc i) ts qs zs) (fed-allowed 32 refl (gapWords i ts qs zs) (row-worded (gap-row i (omega arith)))) (blocks-allowed k (suc i) (omega arith))
 
 -- what a record that may be written reads back as
 module _ (r : Chain) (tName qName ts qs zs : List ℕ) (ok : MayWrite r tName qName ts qs zs) where
@@ -252,7 +220,7 @@ module _ (r : Chain) (tName qName ts qs zs : List ℕ) (ok : MayWrite r tName qN
 
   text-allowed : run Allowed s ≡ length s
   unfolding chainText
-  text-allowed = all-append Allowed (fedWords words) (blockText (m - 1) 0 ts qs zs) (fed-allowed words worded) (blocks-allowed (named r tName qName) ts qs zs (ok .rules) (m - 1) 0 (omega (arith, ok .rules .someBlock)))
+  text-allowed = all-append Allowed (fedWords words) (blockText (m - 1) 0 ts qs zs) (fed-allowed 32 refl words worded) (blocks-allowed (named r tName qName) ts qs zs (ok .rules) (m - 1) 0 (omega (arith, ok .rules .someBlock)))
 
   text-word : (k : ℕ) → bytesOf s (wordAt s 0 k) ≡ getD words k []
   text-word k = word-bytes s 0 k ∙ ap (λ (x : List (List ℕ)). getD x k []) text-words

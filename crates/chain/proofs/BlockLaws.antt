@@ -1,12 +1,11 @@
 -- From the table of a block line's columns to its numbers. Assumes nothing.
-use mathlib.Core.Path.{_≡_, refl, sym, ap, _∙_}
+use mathlib.Core.Path.{_≡_, refl, sym, _∙_}
 use mathlib.Core.Bool.{Bool, true, false, _||_}
-use mathlib.Core.List.{List, [], _∷_, _++_, map}
-use Prim.Native.Nat.{ℕ, zero, suc, _+_, _-_, _*_, _≤_}
+use mathlib.Core.List.{List, [], _∷_, map}
+use Prim.Native.Nat.{ℕ, zero, suc, _*_, _≤_}
 use native.Mathlib.Omega.{arith}
-use lib.ListN.{length, replicate, getD, take, drop, length-take, List·getD-append, List·getD-eq-default}
-use lib.Seq.{sets, sets-eq, take-all, getD-append-add, getD-drop}
-use lib.Dec.{leb, eqb}
+use lib.ListN.{length, replicate, getD, take, drop, List·getD-eq-default}
+use lib.Dec.{eqb}
 use borrow.Author.Tests.{eqb-true}
 use Rattle.ledger.specs.Limits.{largestPosition}
 use Rattle.ledger.specs.declared.Reason.the-variants.{NoRoom}
@@ -14,18 +13,16 @@ use Rattle.ledger.specs.declared.Refusal.{Refusal}
 use Rattle.text.specs.declared.Check.{Check}
 use Rattle.text.specs.declared.Check.the-variants.{Holds}
 use Rattle.text.specs.declared.Check.the-variants as check
-use Rattle.text.specs.Checks.{pickCheck}
+use Rattle.text.specs.Checks.{wordsCheck}
 use Rattle.text.specs.Pieces.{wordsOf, lineOf}
 use Rattle.text.specs.Words.{wordCount}
-use Rattle.text.proofs.Laws.{either}
-use Rattle.kinds.specs.declared.Kind.{Kind}
 use Rattle.kinds.specs.declared.Range.the-variants.{Coordinate, Size}
 use Rattle.kinds.specs.Kinds.{kindOf}
 use Rattle.kinds.proofs.RangeLaws.{number-spelt}
 use Rattle.columns.specs.declared.Columns.{Columns}
 use Rattle.columns.specs.declared.Columns.the-variants.{Next}
 use Rattle.columns.specs.declared.Columns.the-variants as columns
-use Rattle.columns.specs.Columns.{columnLimit, tableOf, columnsFrom, valuesFrom, ColumnsRead}
+use Rattle.columns.specs.Columns.{tableOf, columnsFrom, valuesFrom, ColumnsRead}
 use Rattle.columns.specs.Spells.{Spells, firsts}
 use Rattle.columns.proofs.SpellsLaws.{columns-spell}
 use Rattle.columns.proofs.PlaceLaws.{spelt-at, value-first, values-length}
@@ -35,17 +32,22 @@ use Rattle.chain.specs.declared.Block.the-variants as block
 use Rattle.chain.specs.Table.{blockColumns}
 use Rattle.chain.specs.Records.{lineValues, sizeAt, targetGap, queryGap}
 use Rattle.chain.specs.Read.{isBlockCount, blockWords, limitCheck, firstOf, lineCheck, blockOne, pickBlock, checkBlock, readBlock, blockIs, blockNumbers, blockLine, blockSize, blockTargetGap, blockQueryGap, LineCounted, NumbersRead, BlockRead}
-use Rattle.columns.proofs.WordLaws.{map-take, stored-at, zeros, passed}
+use Rattle.columns.proofs.TableLaws as table
+use Rattle.text.proofs.CheckLaws.{words-hold}
 
--- the codes of the table in the code
-abbrev blockCodes : List ℕ
+-- the codes of a block line's table in the code, and what the first n of them are
+abbrev pub blockCodes : List ℕ
 blockCodes = 2 ∷ 1 ∷ 1 ∷ []
 
+pub codes-same : map kindOf blockCodes ≡ blockColumns
+unfolding kindOf blockColumns
+codes-same = refl
+
+pub codes-length : (n : ℕ) → n ≤ 3 → n ≡ length (take n blockCodes)
+codes-length n h = table.codes-length blockCodes blockColumns codes-same (omega arith) n h
+
 pub table-is : (n : ℕ) → n ≤ 3 → tableOf (take n blockCodes) ≡ take n blockColumns
-unfolding tableOf kindOf blockColumns
-table-is n h =
-    let z : length (take n blockCodes) ≤ columnLimit = rw length-take (omega arith) in
-    rw (take-all columnLimit (take n blockCodes) z) (map-take kindOf n blockCodes)
+table-is n h = table.table-is blockCodes blockColumns codes-same (omega arith) n h
 
 -- a good number of words is 1 or 3
 pub count-split : (n : ℕ) → isBlockCount n ≡ true → (P : Type 0) → (n ≡ 1 → P) → (n ≡ 3 → P) → P
@@ -120,11 +122,14 @@ module _ (s : List ℕ) (line n : ℕ) (counted : LineCounted s line n) where
   numbers-few = count-most n (counted .good)
 
   pub numbers-length : n ≡ length (take n blockCodes)
-  numbers-length = rw length-take (omega (arith, numbers-few))
+  numbers-length = codes-length n numbers-few
 
 module _ (s : List ℕ) (line n : ℕ) (counted : LineCounted s line n) (b′ d d′ : List ℕ) (x : Columns) (read : ColumnsRead (tableOf (take n blockCodes)) s line (replicate 6 0) b′ d d′ x) where
+  few : n ≤ 3
+  few = count-most n (counted .good)
+
   read-is : x ≡ columnsFrom (take n blockColumns) 0 s line
-  read-is = rw (table-is n (count-most n (counted .good))) at (read .result)
+  read-is = table.read-is blockCodes blockColumns codes-same (omega arith) n few s line 6 (omega (arith, few)) b′ d d′ x read
 
   pub numbers-refused : (y : Refusal) → x ≡ columns.Refused y → NumbersRead s line n (block.Refused y)
   unfolding blockNumbers
@@ -137,12 +142,7 @@ module _ (s : List ℕ) (line n : ℕ) (counted : LineCounted s line n) (b′ d 
     next = sym read-is ∙ q
 
     values-same : (i : ℕ) → getD b′ i 0 ≡ getD (valuesFrom (take n blockColumns) 0 s line) i 0
-    unfolding blockColumns
-    values-same i =
-        let t = table-is n (count-most n (counted .good)) in
-        let st : b′ ≡ sets (replicate 6 0) 0 (valuesFrom (take n blockColumns) 0 s line) = rw (q, t) at (read .stored) in
-        let l : length (valuesFrom (take n blockColumns) 0 s line) ≤ 6 = rw (values-length (take n blockColumns) 0 s line e next, length-take) (omega (arith, count-most n (counted .good))) in
-        rw st (stored-at (replicate 6 0) (valuesFrom (take n blockColumns) 0 s line) (zeros 6) l i)
+    values-same = table.values-same blockCodes blockColumns codes-same (omega arith) n few s line 6 (omega (arith, few)) b′ d d′ x read e q
 
     block-same : blockIs n b′ ≡ blockIs n (valuesFrom (take n blockColumns) 0 s line)
     block-same = rw (values-same 0, values-same 2, values-same 4)
@@ -175,7 +175,7 @@ module _ (s : List ℕ) (line n : ℕ) (counted : LineCounted s line n) (b′ d 
 
 pub words-good : (s : List ℕ) (line n : ℕ) → blockWords s line n ≡ Holds → isBlockCount n ≡ true
 unfolding blockWords
-words-good s line n e = passed (leb n 3) (isBlockCount n) _ _ e .1
+words-good s line n e = words-hold s line n 3 (isBlockCount n) e .1
 
 -- the limit
 pub limit-reached : (line k : ℕ) → k ≡ 0 → check.Refused (record { reason = NoRoom; place = line }) ≡ limitCheck line k
@@ -211,9 +211,9 @@ pub first-refused : (a b : Check) (x : Refusal) → a ≡ check.Refused x → ch
 unfolding firstOf
 first-refused a b x e = rw e
 
-pub line-checked : (s : List ℕ) (line n k : ℕ) (a b r : Check) → a ≡ limitCheck line k → b ≡ blockWords s line n → r ≡ firstOf a b → r ≡ lineCheck s line n k
-unfolding lineCheck
-line-checked s line n k a b r ea eb er = rw (er, ea, eb)
+pub line-checked : (s : List ℕ) (line n k : ℕ) (good : Bool) (a b r : Check) → a ≡ limitCheck line k → good ≡ isBlockCount n → b ≡ wordsCheck s line n 3 good → r ≡ firstOf a b → r ≡ lineCheck s line n k
+unfolding lineCheck blockWords
+line-checked s line n k good a b r ea eg eb er = rw (er, ea, eb, eg)
 
 one-most : (r : Block) → blockOne r ≤ 1
 one-most (Last z) = omega arith

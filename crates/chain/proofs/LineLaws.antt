@@ -14,7 +14,7 @@ use Rattle.text.specs.declared.Check.{Check}
 use Rattle.text.specs.declared.Check.the-variants.{Holds}
 use Rattle.text.specs.declared.Check.the-variants as check
 use Rattle.text.specs.Scan.{run, endOf}
-use Rattle.text.specs.Checks.{lastLineCheck}
+use Rattle.text.specs.Checks.{lastLineCheck, wordsCheck}
 use Rattle.text.specs.Pieces.{linesOf, lineOf, wordsOf}
 use Rattle.text.specs.Words.{lineEnd, nextLine, wordCount}
 use Rattle.text.proofs.Laws.{either, line-last}
@@ -130,7 +130,7 @@ module _ (s : List ℕ) (line : ℕ) where
       (λ q. absurd (let k = rw q at (g .is) in let z : _≡_ {A = ℕ} 0 1 = cc in omega arith))
 
   pub spells-gap : (z dt dq : ℕ) → Spells blockColumns 0 here (z ∷ dt ∷ dq ∷ []) → blockLine s line ≡ Gap z dt dq
-  unfolding blockLine blockWords blockNumbers blockColumns wordCount
+  unfolding blockLine blockWords wordsCheck blockNumbers blockColumns wordCount
   spells-gap z dt dq sp =
       let w : length here ≡ 3 = spells-length sp .0 in
       let rd : Reads (take 3 blockColumns) 0 s line (z ∷ dt ∷ dq ∷ []) = spells-read (take 3 blockColumns) 0 s line here (z ∷ dt ∷ dq ∷ []) w refl sp in
@@ -141,7 +141,7 @@ module _ (s : List ℕ) (line : ℕ) where
       rw (w, rd .read, a, b, c)
 
   pub spells-last : (z : ℕ) → Spells (take 1 blockColumns) 0 here (z ∷ []) → blockLine s line ≡ Last z
-  unfolding blockLine blockWords blockNumbers blockColumns wordCount
+  unfolding blockLine blockWords wordsCheck blockNumbers blockColumns wordCount
   spells-last z sp =
       let w : length here ≡ 1 = spells-length sp .0 in
       let rd : Reads (take 1 blockColumns) 0 s line (z ∷ []) = spells-read (take 1 blockColumns) 0 s line here (z ∷ []) w refl sp in

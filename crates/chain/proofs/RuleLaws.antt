@@ -1,6 +1,6 @@
 -- The test of a chain record with its rows and the rules stated one by one say the same; and the test sees only the rows in use. Assumes nothing.
 use mathlib.Core.Path.{_≡_, refl}
-use mathlib.Core.Bool.{Bool, true, _&&_}
+use mathlib.Core.Bool.{true}
 use mathlib.Core.List.{List}
 use Prim.Native.Nat.{ℕ, _≤_, _<_}
 use native.Mathlib.Omega.{arith}
@@ -10,32 +10,32 @@ use lib.Dec.{leb, ltb}
 use borrow.Author.Tests.{leb-true, ltb-true, le-leb, lt-ltb}
 use Rattle.ledger.specs.declared.Strand.{Strand}
 use Rattle.ledger.specs.declared.Strand.the-variants.{Plus, Minus, Dot}
+use Rattle.ledger.specs.Strands.{isTold}
 use Rattle.ledger.specs.Limits.{blockLimit, nameLimit, largestPosition, chainScoreLimit, chainIdLimit}
 use Rattle.text.proofs.TextLaws.{both}
-use Rattle.blocks.specs.Blocks.{blocksFill, allBetween, countFits, rowsOf, rowNumbersFit}
+use Rattle.blocks.specs.Blocks.{blocksFill, allBetween, countFits, rowsOf, rowNumbersFit, spanFits}
 use Rattle.blocks.proofs.RuleLaws.{fills-of, fills-is, ranged-of, ranged-is}
 use Rattle.blocks.proofs.TakeLaws.{fills-take, fills-back, ranged-take, ranged-back}
 use Rattle.chain.specs.declared.Chain.{Chain}
-use Rattle.chain.specs.Records.{spanFits}
-use Rattle.chain.specs.Tests.{namesFit, strandFits, sizeFits, fieldsFit, spansFit, rowsFit, chainValid}
+use Rattle.chain.specs.Tests.{namesFit, sizeFits, fieldsFit, spansFit, rowsFit, chainValid}
 use Rattle.chain.specs.Rules.{ChainRules}
 use Rattle.columns.specs.Names.{lengthFits}
 use Rattle.columns.proofs.WordLaws.{and-i}
 
-strand-of : (s : Strand) → strandFits s ≡ true → s ≡ Dot → ⊥
+strand-of : (s : Strand) → isTold s ≡ true → s ≡ Dot → ⊥
 strand-of Plus e d = let z : _≡_ {A = ℕ} 0 1 = cc in omega arith
 strand-of Minus e d = let z : _≡_ {A = ℕ} 0 1 = cc in omega arith
 strand-of Dot e d = let z : _≡_ {A = ℕ} 0 1 = cc in omega arith
 
-strand-is : (s : Strand) → (s ≡ Dot → ⊥) → strandFits s ≡ true
+strand-is : (s : Strand) → (s ≡ Dot → ⊥) → isTold s ≡ true
 strand-is Plus h = refl
 strand-is Minus h = refl
 strand-is Dot h = absurd (h refl)
 
-span-of : (a b c : ℕ) → spanFits a b c ≡ true → (a < b) × (b ≤ c)
+pub span-of : (a b c : ℕ) → spanFits a b c ≡ true → (a < b) × (b ≤ c)
 span-of a b c e = let p = both (ltb a b) (leb b c) e in (ltb-true a b (p .0), leb-true b c (p .1))
 
-span-is : (a b c : ℕ) → a < b → b ≤ c → spanFits a b c ≡ true
+pub span-is : (a b c : ℕ) → a < b → b ≤ c → spanFits a b c ≡ true
 span-is a b c h k = and-i _ _ (lt-ltb a b h) (le-leb b c k)
 
 -- WHAT PASSES THE TEST OBEYS THE RULES
@@ -45,7 +45,7 @@ rules-of r ts qs zs e =
     let n = r .blockCount in
     let a = both (countFits n (rowsOf ts qs zs)) _ e in
     let b = both (namesFit (r .tName .length) (r .qName .length)) _ (a .1) in
-    let c = both (strandFits (r .qStrand)) _ (b .1) in
+    let c = both (isTold (r .qStrand)) _ (b .1) in
     let d = both (fieldsFit r) _ (c .1) in
     let f = both (rowNumbersFit (take n ts) (take n qs) (take n zs)) _ (d .1) in
     let g = both (spansFit r) (rowsFit r (take n ts) (take n qs) (take n zs)) (f .1) in

@@ -1,20 +1,18 @@
 -- The stages of reading a chain: one that refuses, and one that goes on. Assumes nothing.
 use mathlib.Core.Path.{_≡_, refl, sym, _∙_}
-use mathlib.Core.Bool.{Bool, true, false}
-use mathlib.Core.List.{List, [], _∷_}
+use mathlib.Core.List.{List, [], _∷_, map}
 use Prim.Native.Nat.{ℕ, _-_, _*_, _≤_, _<_}
 use native.Mathlib.Omega.{arith}
 use lib.ListN.{length, replicate, getD, take, drop, length-drop}
 use lib.Seq.{sets, take-all}
-use lib.Dec.{leb}
-use borrow.Author.Tests.{le-leb, lt-leb, leb-true}
+use borrow.Author.Tests.{le-leb, lt-leb}
 use Rattle.ledger.specs.Limits.{blockLimit, largestPosition}
 use Rattle.ledger.specs.declared.Reason.the-variants.{NoRoom}
 use Rattle.ledger.specs.declared.Refusal.{Refusal}
 use Rattle.text.specs.declared.Check.{Check}
 use Rattle.text.specs.declared.Check.the-variants.{Holds}
 use Rattle.text.specs.declared.Check.the-variants as check
-use Rattle.text.specs.Checks.{pickCheck, textCheck, lastLineCheck}
+use Rattle.text.specs.Checks.{textCheck, lastLineCheck}
 use Rattle.text.specs.Pieces.{wordsOf, lineOf}
 use Rattle.text.specs.Words.{nextLine, wordCount}
 use Rattle.kinds.specs.declared.Range.the-variants.{Coordinate}
@@ -26,7 +24,7 @@ use Rattle.columns.specs.declared.Columns.the-variants as columns
 use Rattle.columns.specs.Columns.{tableOf, columnsFrom, valuesFrom, ColumnsRead}
 use Rattle.columns.specs.Spells.{Spells, firsts}
 use Rattle.columns.proofs.SpellsLaws.{columns-spell}
-use Rattle.columns.proofs.PlaceLaws.{spelt-at, value-first, values-length}
+use Rattle.columns.proofs.PlaceLaws.{spelt-at, value-first}
 use Rattle.blocks.specs.Blocks.{rowsOf}
 use Rattle.chain.specs.declared.Chain.{Chain}
 use Rattle.chain.specs.declared.Ending.{Ending}
@@ -37,16 +35,22 @@ use Rattle.chain.specs.declared.ChainAnswer.{ChainAnswer}
 use Rattle.chain.specs.declared.ChainAnswer.the-variants.{Accepted, Refused}
 use Rattle.chain.specs.Table.{chainColumns}
 use Rattle.chain.specs.Records.{chainRecord, chainTargets, chainQueries, chainSizes}
-use Rattle.chain.specs.Read.{thenCheck, headCheck, spanCheck, fillCheck, roomCheck, afterLast, afterLines, afterSpans, afterColumns, afterWords, afterText, chainCheck, chainRead, Counted, Walked, Headed, Held, Staged, RowsStored, ChainRead}
-use Rattle.columns.proofs.WordLaws.{passed, stored-at, zeros}
+use Rattle.chain.specs.Read.{thenCheck, spanCheck, fillCheck, roomCheck, afterLast, afterLines, afterSpans, afterColumns, afterWords, afterText, chainCheck, chainRead, Counted, Walked, Headed, Held, Staged, RowsStored, ChainRead}
+use Rattle.columns.specs.OneLine.{countCheck}
+use Rattle.columns.proofs.OneLineLaws.{count-of}
+use Rattle.columns.proofs.TableLaws as table
 
--- the codes of the table in the code
-abbrev chainCodes : List ℕ
+-- the codes of the header's table in the code
+abbrev pub chainCodes : List ℕ
 chainCodes = 11 ∷ 4 ∷ 0 ∷ 2 ∷ 12 ∷ 1 ∷ 1 ∷ 0 ∷ 2 ∷ 9 ∷ 1 ∷ 1 ∷ 5 ∷ []
 
+pub codes-same : map kindOf chainCodes ≡ chainColumns
+unfolding kindOf chainColumns
+codes-same = refl
+
 pub table-is : tableOf chainCodes ≡ chainColumns
-unfolding tableOf kindOf chainColumns
-table-is = refl
+unfolding chainColumns
+table-is = table.table-is chainCodes chainColumns codes-same (omega arith) 13 (omega arith)
 
 -- the blocks, and a surplus line
 module _ (s vs : List ℕ) (e : Ending) (c : Check) where
@@ -159,7 +163,8 @@ module _ (s : List ℕ) (e : ℕ) (count : wordCount s 0 ≡ 13) (read : columns
 
 module _ (s rows b′ d d′ : List ℕ) (counted : Counted s rows) (x : Columns) (read : ColumnsRead (tableOf chainCodes) s 0 (replicate 26 0) b′ d d′ x) where
   read-is : x ≡ columnsFrom chainColumns 0 s 0
-  read-is = rw table-is at (read .result)
+  unfolding chainColumns
+  read-is = table.read-is chainCodes chainColumns codes-same (omega arith) 13 (omega arith) s 0 26 (omega arith) b′ d d′ x read
 
   module _ (e : ℕ) (q : x ≡ Next e) where
     next : columnsFrom chainColumns 0 s 0 ≡ Next e
@@ -167,10 +172,7 @@ module _ (s rows b′ d d′ : List ℕ) (counted : Counted s rows) (x : Columns
 
     values-same : (i : ℕ) → getD b′ i 0 ≡ getD (valuesFrom chainColumns 0 s 0) i 0
     unfolding chainColumns
-    values-same i =
-        let st : b′ ≡ sets (replicate 26 0) 0 (valuesFrom chainColumns 0 s 0) = rw (q, table-is) at (read .stored) in
-        let l : length (valuesFrom chainColumns 0 s 0) ≤ 26 = rw (values-length chainColumns 0 s 0 e next) (omega arith) in
-        rw st (stored-at (replicate 26 0) (valuesFrom chainColumns 0 s 0) (zeros 26) l i)
+    values-same = table.values-same chainCodes chainColumns codes-same (omega arith) 13 (omega arith) s 0 26 (omega arith) b′ d d′ x read e q
 
     pub words-headed : Headed b′ rows
     words-headed = record { target = rw (values-same 10) (target-low s e (counted .count) next); query = rw (values-same 20) (query-low s e (counted .count) next); long = counted .long }
@@ -185,23 +187,17 @@ module _ (s rows b′ d d′ : List ℕ) (counted : Counted s rows) (x : Columns
       let z : columnsFrom chainColumns 0 s 0 ≡ columns.Refused y = sym read-is ∙ q in
       record { is = rw z; held = λ b e. absurd (let k : _≡_ {A = ℕ} 0 1 = cc in omega arith) }
 
-pub head-count : (s : List ℕ) (n : ℕ) → headCheck s n ≡ Holds → n ≡ 13
-unfolding headCheck
-head-count s n e =
-    let p = passed (leb n 13) (leb 13 n) _ _ e in
-    omega (arith, leb-true n 13 (p .0), leb-true 13 n (p .1))
-
-module _ (s : List ℕ) (n : ℕ) (en : n ≡ wordCount s 0) (c : Check) (ec : c ≡ headCheck s n) where
+module _ (s : List ℕ) (c : Check) (ec : c ≡ countCheck s 0 13) where
   pub text-counted : (d : List ℕ) → length d ≡ 3 * blockLimit → c ≡ Holds → Counted s d
-  text-counted d l q = record { count = sym en ∙ head-count s n (sym ec ∙ q); long = l }
+  text-counted d l q = record { count = count-of s 0 13 (sym ec ∙ q); long = l }
 
   pub text-refused : (l : List ℕ) (x : Refusal) → c ≡ check.Refused x → Staged s (afterText s) l (Refused x)
   unfolding afterText
-  text-refused l x q = record { is = rw (← en, ← ec, q); held = λ b e. absurd (let k : _≡_ {A = ℕ} 0 1 = cc in omega arith) }
+  text-refused l x q = record { is = rw (← ec, q); held = λ b e. absurd (let k : _≡_ {A = ℕ} 0 1 = cc in omega arith) }
 
   pub text-on : (l : List ℕ) (a : ChainAnswer) → c ≡ Holds → Staged s (afterWords s) l a → Staged s (afterText s) l a
   unfolding afterText
-  text-on l a q h = record { is = rw (← en, ← ec, q) (h .is); held = h .held }
+  text-on l a q h = record { is = rw (← ec, q) (h .is); held = h .held }
 
 module _ (s : List ℕ) (c : Check) (ec : c ≡ textCheck s) where
   pub check-refused : (l : List ℕ) (x : Refusal) → c ≡ check.Refused x → Staged s (chainCheck s) l (Refused x)

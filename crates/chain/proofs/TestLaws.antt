@@ -1,19 +1,15 @@
 -- What the tests of a chain record show, on plain values. Assumes nothing.
 use mathlib.Core.Path.{_≡_}
-use mathlib.Core.Bool.{Bool, true, false, _&&_}
+use mathlib.Core.Bool.{Bool, _&&_}
 use mathlib.Core.List.{List}
 use Prim.Native.Nat.{ℕ}
 use lib.ListN.{length}
 use lib.Dec.{leb}
 use Rattle.ledger.specs.Limits.{largestPosition, chainScoreLimit, chainIdLimit}
-use Rattle.ledger.specs.declared.Reason.the-variants.{BlockRules}
-use Rattle.text.specs.declared.Check.the-variants.{Holds}
-use Rattle.text.specs.declared.Check.the-variants as check
-use Rattle.blocks.specs.Blocks.{blocksFill, allBetween, rowNumbersFit}
+use Rattle.blocks.specs.Blocks.{blocksFill, spanFits}
 use Rattle.chain.specs.declared.Chain.{Chain}
-use Rattle.chain.specs.Records.{spanFits}
-use Rattle.chain.specs.Tests.{namesFit, sizeFits, fieldsFit, spansFit, rowsFit, chainValid}
-use Rattle.chain.specs.Write.{namesShow, recordCheck}
+use Rattle.chain.specs.Tests.{namesFit, sizeFits, fieldsFit, spansFit, rowsFit}
+use Rattle.chain.specs.Write.{namesShow}
 use Rattle.columns.specs.Names.{lengthFits, allGraphic}
 
 module _ (a b : Bool) where
@@ -35,20 +31,6 @@ module _ (a b : Bool) where
   fields-are r e f = rw (e, f)
 
   module _ (c : Bool) where
-    pub numbers-are : (ts qs zs : List ℕ) → a ≡ allBetween 0 largestPosition ts → b ≡ allBetween 0 largestPosition qs → c ≡ allBetween 1 largestPosition zs → (a && (b && c)) ≡ rowNumbersFit ts qs zs
-    unfolding rowNumbersFit
-    numbers-are ts qs zs e f g = rw (e, f, g)
-
     pub shown-are : (t q : List ℕ) → a ≡ namesFit (length t) (length q) → b ≡ allGraphic t → c ≡ allGraphic q → (a && (b && c)) ≡ namesShow t q
     unfolding namesShow
     shown-are t q e f g = rw (e, f, g)
-
--- the record checker
-module _ (r : Chain) (ts qs zs : List ℕ) (t : Bool) (et : t ≡ chainValid r ts qs zs) where
-  pub record-good : t ≡ true → Holds ≡ recordCheck r ts qs zs
-  unfolding recordCheck
-  record-good q = rw (← et, q)
-
-  pub record-bad : t ≡ false → check.Refused (record { reason = BlockRules; place = 0 }) ≡ recordCheck r ts qs zs
-  unfolding recordCheck
-  record-bad q = rw (← et, q)

@@ -1,36 +1,33 @@
 -- A text is accepted exactly when it is a chain, and then with the record and the rows that it says. Assumes nothing.
 use mathlib.Core.Path.{_≡_, refl, sym, ap, _∙_}
-use mathlib.Core.Bool.{Bool, true, false, _||_}
-use mathlib.Core.List.{List, [], _∷_}
-use Prim.Native.Nat.{ℕ, zero, suc, _+_, _-_, _*_, _≤_, _<_}
+use mathlib.Core.Bool.{true, false}
+use mathlib.Core.List.{List}
+use Prim.Native.Nat.{ℕ, zero, suc, _+_, _-_, _*_, _<_}
 use native.Mathlib.Omega.{arith}
-use lib.ListN.{length, getD, drop, length-take}
-use lib.Dec.{leb, ltb, eqb}
-use borrow.Author.Tests.{lt-ltb, le-leb, leb-true, ltb-true, eqb-true, eq-eqb}
-use Rattle.ledger.specs.declared.Strand.{Strand}
-use Rattle.ledger.specs.Limits.{textLimit, blockLimit}
+use lib.ListN.{length, getD, drop}
+use lib.Dec.{eqb}
+use borrow.Author.Tests.{eqb-true, eq-eqb}
+use Rattle.ledger.specs.Limits.{blockLimit}
 use Rattle.ledger.specs.Strands.{strandOf, strandLetter, strandIs}
-use Rattle.ledger.proofs.Laws.{strand-of-letter}
-use Rattle.text.specs.declared.Class.{Class}
-use Rattle.text.specs.declared.Class.the-variants.{Word, Allowed}
 use Rattle.text.specs.declared.Check.{Check}
 use Rattle.text.specs.declared.Check.the-variants.{Holds}
 use Rattle.text.specs.declared.Check.the-variants as check
-use Rattle.text.specs.Scan.{isIn, oneMore, run, endOf}
 use Rattle.text.specs.Checks.{textCheck, lastLineCheck}
-use Rattle.text.specs.Pieces.{piecesOf, nonEmpty, linesOf, lineOf, wordsOf}
+use Rattle.text.specs.Pieces.{linesOf, lineOf, wordsOf}
 use Rattle.text.specs.Words.{nextLine, wordAt, wordCount, bytesOf}
-use Rattle.text.proofs.Laws.{word-ends, text-good}
 use Rattle.text.proofs.TextLaws.{both}
 use Rattle.text.proofs.PieceLaws.{word-bytes}
 use Rattle.numbers.specs.declared.Spelt.the-variants.{Means}
 use Rattle.kinds.specs.declared.Kind.the-variants.{Name}
-use Rattle.kinds.specs.Kinds.{spelt, isStrand}
+use Rattle.kinds.specs.Kinds.{spelt}
 use Rattle.kinds.proofs.RangeLaws.{name-spelt, strand-spelt}
 use Rattle.columns.specs.declared.Columns.{Columns}
 use Rattle.columns.specs.declared.Columns.the-variants.{Next}
 use Rattle.columns.specs.declared.Columns.the-variants as columns
 use Rattle.columns.specs.Columns.{columnsFrom, valuesFrom}
+use Rattle.columns.specs.OneLine.{countCheck}
+use Rattle.columns.proofs.OneLineLaws.{count-of, count-is}
+use Rattle.blocks.specs.Blocks.{spanFits}
 use Rattle.columns.specs.Spells.{firsts}
 use Rattle.columns.specs.Places.{kindAt, countBefore}
 use Rattle.columns.proofs.SpellsLaws.{Reads, spells-read, spells-length, place-is}
@@ -43,10 +40,11 @@ use Rattle.chain.specs.declared.Lines.the-variants as lines
 use Rattle.chain.specs.declared.ChainAnswer.{ChainAnswer}
 use Rattle.chain.specs.declared.ChainAnswer.the-variants.{Accepted, Refused}
 use Rattle.chain.specs.Table.{chainColumns}
-use Rattle.chain.specs.Records.{chainRecord, spanFits, sizesFrom, chainTargets, chainQueries, chainSizes}
-use Rattle.chain.specs.Read.{thenCheck, thenRead, thenLines, headCheck, spanCheck, fillCheck, linesFrom, afterLast, afterLines, afterSpans, afterColumns, afterWords, afterText, chainCheck}
+use Rattle.chain.specs.Records.{chainRecord, sizesFrom, chainTargets, chainQueries, chainSizes}
+use Rattle.chain.specs.Read.{thenCheck, thenRead, thenLines, spanCheck, fillCheck, linesFrom, afterLast, afterLines, afterSpans, afterColumns, afterWords, afterText, chainCheck}
 use Rattle.chain.specs.Rules.{BlockLines, ChainText}
-use Rattle.chain.proofs.StageLaws.{head-spells, head-count}
+use Rattle.chain.proofs.StageLaws.{head-spells}
+use Rattle.chain.proofs.RuleLaws.{span-of, span-is}
 use Rattle.chain.proofs.LineLaws.{lines-at, line-there, Ends, walk-says, Ran, lines-run}
 use Rattle.ledger.specs.Parts.{partAt}
 use Rattle.columns.specs.Names.{partOf}
@@ -61,7 +59,7 @@ headValues s = valuesFrom chainColumns 0 s 0
 -- what the row of checks found of a text that is accepted with the record r
 pub record Accepts (s : List ℕ) (r : Chain) : Type 0 where
   pub text : textCheck s ≡ Holds
-  pub head : headCheck s (wordCount s 0) ≡ Holds
+  pub head : countCheck s 0 13 ≡ Holds
   pub end : ℕ
   pub read : columnsFrom chainColumns 0 s 0 ≡ Next end
   pub spans : spanCheck (chainRecord (headValues s) 0) (headValues s) ≡ Holds
@@ -100,7 +98,7 @@ module _ (s : List ℕ) (r : Chain) where
   accepts-of e =
       let vs = headValues s in
       let a = check-then (textCheck s) (afterText s) r e in
-      let b = check-then (headCheck s (wordCount s 0)) (afterWords s) r (a .1) in
+      let b = check-then (countCheck s 0 13) (afterWords s) r (a .1) in
       let c = read-then (columnsFrom chainColumns 0 s 0) (afterColumns s vs) r (b .1) in
       let d = check-then (spanCheck (chainRecord vs 0) vs) (afterSpans s vs) r (c .on) in
       let f = lines-then (linesFrom blockLimit s (nextLine s 0) (getD vs 10 0) (getD vs 20 0)) (λ x. afterLines s vs x) r (d .1) in
@@ -113,17 +111,7 @@ module _ (s : List ℕ) (r : Chain) where
   unfolding chainCheck afterText afterWords afterColumns afterSpans afterLines afterLast
   accepts-is a = rw (a .text, a .head, a .read, a .spans, a .walk, a .line, a .fill, a .is)
 
-head-holds : (s : List ℕ) (n : ℕ) → n ≡ 13 → headCheck s n ≡ Holds
-unfolding headCheck
-head-holds s n e = rw e
-
 -- the spans
-span-pair : (a b c : ℕ) → spanFits a b c ≡ true → (a < b) × (b ≤ c)
-span-pair a b c e = let p = both (ltb a b) (leb b c) e in (ltb-true a b (p .0), leb-true b c (p .1))
-
-span-fits : (a b c : ℕ) → a < b → b ≤ c → spanFits a b c ≡ true
-span-fits a b c h k = rw (lt-ltb a b h, le-leb b c k)
-
 spans-hold : (r : Chain) (vs : List ℕ) → spanCheck r vs ≡ Holds → (spanFits (r .tStart) (r .tEnd) (r .tSize) ≡ true) × (spanFits (r .qStart) (r .qEnd) (r .qSize) ≡ true)
 unfolding spanCheck
 spans-hold r vs e =
@@ -199,7 +187,7 @@ module _ (s : List ℕ) (r : Chain) (ok : chainCheck s ≡ Accepted r) where
   us = headValues s
 
   count : wordCount s 0 ≡ 13
-  count = head-count s (wordCount s 0) (a .head)
+  count = count-of s 0 13 (a .head)
 
   ends : Ends (a .ending .target) (a .ending .query) s blockLimit (nextLine s 0) (getD us 10 0) (getD us 20 0) (a .ending .count)
   ends = walk-says s blockLimit (omega arith) (nextLine s 0) (getD us 10 0) (getD us 20 0) (a .ending) (a .walk) (a .line)
@@ -235,8 +223,8 @@ module _ (s : List ℕ) (r : Chain) (ok : chainCheck s ≡ Accepted r) where
   text-of =
       let t = textLaws.text-of s (a .text) in
       let f = spans-hold (chainRecord us 0) us (a .spans) in
-      let tSpan = span-pair (getD us 10 0) (getD us 12 0) (getD us 6 0) (f .0) in
-      let qSpan = span-pair (getD us 20 0) (getD us 22 0) (getD us 16 0) (f .1) in
+      let tSpan = span-of (getD us 10 0) (getD us 12 0) (getD us 6 0) (f .0) in
+      let qSpan = span-of (getD us 20 0) (getD us 22 0) (getD us 16 0) (f .1) in
       let i = a .is in
       record {
         short = t .0;
@@ -313,8 +301,8 @@ module _ (s vs : List ℕ) (ls : List (List ℕ)) (r : Chain) (ts qs zs : List �
   unfolding chainRecord
   spans-are =
       let us = headValues s in
-      let t : spanFits (getD us 10 0) (getD us 12 0) (getD us 6 0) ≡ true = rw (t-start, t-end, c .tSize ∙ value-at 3) at (span-fits (r .tStart) (r .tEnd) (r .tSize) (c .tSpan) (c .tInside)) in
-      let q : spanFits (getD us 20 0) (getD us 22 0) (getD us 16 0) ≡ true = rw (q-start, q-end, c .qSize ∙ value-at 8) at (span-fits (r .qStart) (r .qEnd) (r .qSize) (c .qSpan) (c .qInside)) in
+      let t : spanFits (getD us 10 0) (getD us 12 0) (getD us 6 0) ≡ true = rw (t-start, t-end, c .tSize ∙ value-at 3) at (span-is (r .tStart) (r .tEnd) (r .tSize) (c .tSpan) (c .tInside)) in
+      let q : spanFits (getD us 20 0) (getD us 22 0) (getD us 16 0) ≡ true = rw (q-start, q-end, c .qSize ∙ value-at 8) at (span-is (r .qStart) (r .qEnd) (r .qSize) (c .qSpan) (c .qInside)) in
       hold-spans (chainRecord us 0) us t q
 
   filled : fillCheck s (chainRecord (headValues s) (ran .end .count)) (ran .end) ≡ Holds
@@ -325,7 +313,7 @@ module _ (s vs : List ℕ) (ls : List (List ℕ)) (r : Chain) (ts qs zs : List �
   text-is =
       accepts-is s r (record {
         text = textLaws.text-is s (c .short) (c .allowed);
-        head = head-holds s (wordCount s 0) thirteen;
+        head = count-is s 0 13 thirteen;
         end = reads .end;
         read = reads .read;
         spans = spans-are;

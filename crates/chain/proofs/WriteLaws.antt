@@ -1,23 +1,19 @@
 -- Writing a chain: what each stage shows, on plain values. Assumes nothing.
 use mathlib.Core.Path.{_≡_, refl, sym, ap, _∙_}
-use mathlib.Core.Bool.{Bool, true, false}
 use mathlib.Core.List.{List, [], _∷_, _++_}
-use Prim.Native.Nat.{ℕ, suc, _+_, _-_, _%_, _≤_, _<_}
+use Prim.Native.Nat.{ℕ, suc, _+_, _-_, _*_, _≤_, _<_}
 use native.Mathlib.Numerals.{add-one}
 use native.Mathlib.Omega.{arith}
-use lib.ListN.{length, getD, take, length-take}
+use lib.ListN.{length, getD, take}
 use lib.Seq.{length-sets}
 use lib.Dec.{leb}
 use borrow.Author.Tests.{leb-true}
 use Rattle.ledger.specs.Limits.{nameLimit, blockLimit}
-use Rattle.ledger.specs.declared.Strand.{Strand}
-use Rattle.ledger.specs.declared.Strand.the-variants.{Plus, Minus, Dot}
 use Rattle.ledger.specs.declared.Refusal.{Refusal}
-use Rattle.ledger.specs.Strands.{strandLetter}
+use Rattle.ledger.specs.Strands.{isTold}
 use Rattle.text.specs.declared.Check.{Check}
 use Rattle.text.specs.declared.Check.the-variants.{Holds}
 use Rattle.text.specs.declared.Check.the-variants as check
-use Rattle.text.specs.Checks.{pickCheck}
 use Rattle.text.proofs.TextLaws.{both}
 use Rattle.writing.specs.Digits.{digits}
 use Rattle.writing.specs.Puts.{Put}
@@ -29,49 +25,22 @@ use Rattle.columns.specs.Columns.{tableOf}
 use Rattle.columns.specs.Lines.{lineText, fedLine}
 use Rattle.columns.specs.Ranges.{wordsFrom}
 use Rattle.columns.proofs.BackLaws.{line-joins}
-use Rattle.columns.proofs.PlaceLaws.{sets-keep, sets-there}
 use Rattle.blocks.specs.Blocks.{rowsOf}
 use Rattle.chain.specs.declared.Chain.{Chain}
 use Rattle.chain.specs.Table.{chainColumns, blockColumns}
-use Rattle.chain.specs.Tests.{namesFit, strandFits}
-use Rattle.chain.specs.Write.{namesShow, writeCheck, headWords, fedWords, gapTo, gapWords, blockText, chainText, chainValues, textOf, chainWrite, ChainWrote, NamesShort, NamesPut, Writable}
-use Rattle.chain.proofs.BlockLaws as blocks
+use Rattle.chain.specs.Tests.{namesFit}
+use Rattle.chain.specs.Write.{namesShow, writeCheck, headWords, fedWords, gapTo, gapWords, blockText, chainText, chainValues, textOf, chainWrite, ChainWrote, Writable}
+use Rattle.chain.proofs.BlockLaws.{blockCodes, table-is}
+use Rattle.chain.proofs.StageLaws.{chainCodes}
 use Rattle.chain.proofs.StageLaws as stages
-use Rattle.columns.specs.Names.{lengthFits}
+use Rattle.columns.specs.Names.{lengthFits, namesIn, NamesPut}
+use Rattle.columns.proofs.NameLaws.{names-put}
 use Rattle.columns.proofs.WordLaws.{letter-byte}
 use Rattle.text.proofs.CheckLaws.{require-holds}
 
--- the codes of the tables in the code
-abbrev blockCodes : List ℕ
-blockCodes = 2 ∷ 1 ∷ 1 ∷ []
-
-abbrev chainCodes : List ℕ
-chainCodes = 11 ∷ 4 ∷ 0 ∷ 2 ∷ 12 ∷ 1 ∷ 1 ∷ 0 ∷ 2 ∷ 9 ∷ 1 ∷ 1 ∷ 5 ∷ []
-
--- the two names
-pub names-put : (tName qName t t₁ t₂ : List ℕ) (p q : ℕ) → NamesShort tName qName t → Put tName 0 t t₁ p → Put qName nameLimit t₁ t₂ q → NamesPut tName qName t₂
-names-put tName qName t t₁ t₂ p q h f g = record {
-  tAt = rw (g .stored) (sets-keep t₁ nameLimit qName 0 (length tName) (omega (arith, h .tShort)) ∙ rw (f .stored) (sets-there t 0 tName (omega (arith, h .tShort, h .long))));
-  qAt = rw (g .stored) (sets-there t₁ nameLimit qName (rw (f .stored, length-sets) (omega (arith, h .qShort, h .long))));
-}
-
--- the gap after a block
-module _ (a z next : ℕ) where
-  pub gap-before : next < a → 0 ≡ gapTo a z next
-  gap-before h = omega arith
-
-  pub gap-within : a ≤ next → next - a < z → 0 ≡ gapTo a z next
-  gap-within h k = omega arith
-
-  pub gap-is : a ≤ next → z ≤ next - a → next - a - z ≡ gapTo a z next
-  gap-is h k = omega arith
-
 -- a block line
-pub block-codes : (n : ℕ) → n ≤ 3 → n ≡ length (take n blockCodes)
-block-codes n h = rw length-take (omega arith)
-
 pub block-put : (n at r : ℕ) (names vs ls b b′ : List ℕ) → n ≤ 3 → Put (fedLine (tableOf (take n blockCodes)) 32 names vs ls) at b b′ r → Put (fedLine (take n blockColumns) 32 names vs ls) at b b′ r
-block-put n at r names vs ls b b′ h f = rw (blocks.table-is n h) at f
+block-put n at r names vs ls b b′ h f = rw (table-is n h) at f
 
 module _ (z dt dq : ℕ) where
   fed-three : fedLine (take 3 blockColumns) 32 [] (z ∷ 0 ∷ dt ∷ 0 ∷ dq ∷ 0 ∷ []) [] ≡ fedWords (digits z ∷ digits dt ∷ digits dq ∷ [])
@@ -135,11 +104,15 @@ text-put names vs ts qs zs n p r b b₁ b₂ f g = put-then (rw (stages.table-is
 module _ (r : Chain) (tName qName names : List ℕ) (put : NamesPut tName qName names) where
   head-is : fedLine chainColumns 32 names (chainValues r (length tName) (length qName)) [] ≡ fedWords (headWords r tName qName)
   unfolding fedLine lineText chainColumns wordsFrom chainValues headWords
-  head-is = rw (line-joins 32 names (chainValues r (length tName) (length qName)) [] chainColumns, put .tAt, put .qAt, letter-byte (r .qStrand))
+  head-is = rw (line-joins 32 names (chainValues r (length tName) (length qName)) [] chainColumns, put .firstAt, put .secondAt, letter-byte (r .qStrand))
 
   pub text-wrote : (ts qs zs vs b b′ : List ℕ) (x : Writing) → vs ≡ chainValues r (length tName) (length qName) → Wrote (textOf names vs (r .blockCount) ts qs zs) b b′ x → Wrote (chainText r tName qName ts qs zs) b b′ x
   unfolding textOf chainText
   text-wrote ts qs zs vs b b′ x ev w = rw (ev, head-is) at w
+
+-- the names of a record that passed the checks stand in their text
+pub names-there : (r : Chain) (tName qName ts qs zs t names : List ℕ) → Writable r tName qName ts qs zs → names ≡ namesIn tName qName t → length t ≡ 2 * nameLimit → NamesPut tName qName names
+names-there r tName qName ts qs zs t names w e l = names-put tName qName t names e l (w .tShort) (w .qShort)
 
 -- a record that passes the checks can be written
 pub check-writable : (r : Chain) (tName qName ts qs zs : List ℕ) → writeCheck r tName qName ts qs zs ≡ Holds → Writable r tName qName ts qs zs
@@ -150,7 +123,7 @@ check-writable r tName qName ts qs zs e =
     let count = both (leb 1 (r .blockCount)) _ (a .0) in
     let few = both (leb (r .blockCount) blockLimit) (leb (r .blockCount) (rowsOf ts qs zs)) (count .1) in
     let rows = leb-true (r .blockCount) (rowsOf ts qs zs) (few .1) in
-    let names = both (namesFit (length tName) (length qName)) _ (both (namesShow tName qName) (strandFits (r .qStrand)) (b .0) .0) .0 in
+    let names = both (namesFit (length tName) (length qName)) _ (both (namesShow tName qName) (isTold (r .qStrand)) (b .0) .0) .0 in
     let both-names = both (lengthFits (length tName)) (lengthFits (length qName)) names in
     record {
       tShort = leb-true (length tName) nameLimit (both (leb 1 (length tName)) (leb (length tName) nameLimit) (both-names .0) .1);

@@ -2,7 +2,7 @@
 use Prim.Native.Nat.{ℕ, zero, suc, _+_, _-_, _*_, _≤_}
 use mathlib.Core.Path.{_≡_}
 use mathlib.Core.Bool.{Bool, true, false, _&&_, _||_}
-use mathlib.Core.List.{List, []}
+use mathlib.Core.List.{List}
 use lib.ListN.{length, take, drop, getD}
 use lib.Seq.{sets}
 use lib.Dec.{leb, ltb, eqb}
@@ -11,13 +11,14 @@ use Rattle.ledger.specs.Limits.{blockLimit, largestPosition}
 use Rattle.text.specs.declared.Check.{Check}
 use Rattle.text.specs.declared.Check.the-variants.{Holds}
 use Rattle.text.specs.declared.Check.the-variants as check
-use Rattle.text.specs.Checks.{require, textCheck, lastLineCheck}
-use Rattle.text.specs.Words.{lineEnd, nextLine, wordAt, wordCount}
+use Rattle.text.specs.Checks.{require, textCheck, lastLineCheck, wordsCheck}
+use Rattle.text.specs.Words.{nextLine, wordCount}
 use Rattle.columns.specs.declared.Columns.{Columns}
 use Rattle.columns.specs.declared.Columns.the-variants.{Next}
 use Rattle.columns.specs.declared.Columns.the-variants as columns
 use Rattle.columns.specs.Columns.{columnsFrom, valuesFrom}
-use Rattle.blocks.specs.Blocks.{rowsOf}
+use Rattle.columns.specs.OneLine.{countCheck}
+use Rattle.blocks.specs.Blocks.{rowsOf, spanFits}
 use Rattle.chain.specs.declared.Chain.{Chain}
 use Rattle.chain.specs.declared.Block.{Block}
 use Rattle.chain.specs.declared.Block.the-variants.{Last, Gap}
@@ -29,7 +30,7 @@ use Rattle.chain.specs.declared.Lines.the-variants as lines
 use Rattle.chain.specs.declared.ChainAnswer.{ChainAnswer}
 use Rattle.chain.specs.declared.ChainAnswer.the-variants.{Accepted, Refused}
 use Rattle.chain.specs.Table.{chainColumns, blockColumns}
-use Rattle.chain.specs.Records.{chainRecord, spanFits, targetGap, queryGap, targetsFrom, queriesFrom, sizesFrom, chainTargets, chainQueries, chainSizes}
+use Rattle.chain.specs.Records.{chainRecord, targetsFrom, queriesFrom, sizesFrom, chainTargets, chainQueries, chainSizes}
 
 -- where a check holds go on, else stop with its refusal
 abbrev pub thenCheck : Check → ChainAnswer → ChainAnswer
@@ -39,12 +40,6 @@ thenCheck (check.Refused x) rest = Refused x
 abbrev pub thenRead : Columns → ChainAnswer → ChainAnswer
 thenRead (Next e) rest = rest
 thenRead (columns.Refused x) rest = Refused x
-
--- the header has 13 words: more at the fourteenth, fewer at the line's end (2)
-unfoldable pub headCheck : List ℕ → ℕ → Check
-headCheck s n =
-    require (leb n 13) WrongCount (wordAt s 0 13 .start)
-    (require (leb 13 n) WrongCount (lineEnd s 0) Holds)
 
 -- the spans (7): the target's at its end's word, then the query's at its end's word
 unfoldable pub spanCheck : Chain → List ℕ → Check
@@ -58,9 +53,7 @@ isBlockCount n = eqb n 1 || eqb n 3
 
 -- a block line's words: more than 3 at the fourth, any other wrong number at the line's end (2)
 unfoldable pub blockWords : List ℕ → ℕ → ℕ → Check
-blockWords s line n =
-    require (leb n 3) WrongCount (wordAt s line 3 .start)
-    (require (isBlockCount n) WrongCount (lineEnd s line) Holds)
+blockWords s line n = wordsCheck s line n 3 (isBlockCount n)
 
 -- where k blocks may still come, a line past the last allowed one is refused at its first byte (11)
 unfoldable pub limitCheck : ℕ → ℕ → Check
@@ -159,9 +152,9 @@ afterColumns s vs = thenCheck (spanCheck (chainRecord vs 0) vs) (afterSpans s vs
 unfoldable pub afterWords : List ℕ → ChainAnswer
 afterWords s = thenRead (columnsFrom chainColumns 0 s 0) (afterColumns s (valuesFrom chainColumns 0 s 0))
 
--- after the text's length and bytes: the header's number of words (2)
+-- after the text's length and bytes: the header's 13 words (2)
 unfoldable pub afterText : List ℕ → ChainAnswer
-afterText s = thenCheck (headCheck s (wordCount s 0)) (afterWords s)
+afterText s = thenCheck (countCheck s 0 13) (afterWords s)
 
 -- THE TEXT CHECKER: the reader without room
 unfoldable pub chainCheck : List ℕ → ChainAnswer

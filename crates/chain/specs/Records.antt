@@ -1,14 +1,7 @@
 -- The record of a chain, and the rows of its block lines.
-use Prim.Native.Nat.{ℕ, zero, suc, _+_, _-_}
-use mathlib.Core.Bool.{Bool, _&&_}
+use Prim.Native.Nat.{ℕ, zero, suc, _+_}
 use mathlib.Core.List.{List, [], _∷_}
-use lib.ListN.{length, take, getD}
-use lib.Dec.{leb, ltb}
-use Rattle.ledger.specs.declared.Part.{Part}
-use Rattle.ledger.specs.declared.Strand.{Strand}
-use Rattle.ledger.specs.declared.Strand.the-variants.{Dot}
-use Rattle.ledger.specs.declared.Lettered.{Lettered}
-use Rattle.ledger.specs.declared.Lettered.the-variants.{Is, NoStrand}
+use lib.ListN.{take, getD}
 use Rattle.ledger.specs.declared.Row.{Row}
 use Rattle.ledger.specs.Strands.{strandOf, strandIs}
 use Rattle.text.specs.Words.{nextLine, wordCount}
@@ -34,10 +27,6 @@ chainRecord vs n = record {
   id = getD vs 24 0;
   blockCount = n;
 }
-
--- start < end ≤ size
-abbrev pub spanFits : ℕ → ℕ → ℕ → Bool
-spanFits start end size = ltb start end && leb end size
 
 -- what the block line at a place holds, two numbers a column; of a size alone the gaps are 0
 unfoldable pub lineValues : List ℕ → ℕ → List ℕ

@@ -1,14 +1,13 @@
 -- What a chain's text and a chain record are: the rules of the UCSC page and of 01, one field for each, with no order of checks in them.
-use Prim.Native.Nat.{ℕ, _+_, _-_, _≤_, _<_}
+use Prim.Native.Nat.{ℕ, _+_, _≤_, _<_}
 use mathlib.Core.Path.{_≡_}
 use mathlib.Core.List.{List, [], _∷_}
 use lib.ListN.{length, take, getD}
-use Rattle.ledger.specs.declared.Part.{Part}
+use Rattle.ledger.specs.Parts.{partAt}
 use Rattle.ledger.specs.declared.Strand.the-variants.{Dot}
 use Rattle.ledger.specs.Limits.{textLimit, nameLimit, blockLimit, largestPosition, chainScoreLimit, chainIdLimit}
 use Rattle.ledger.specs.Strands.{strandLetter}
 use Rattle.text.specs.declared.Class.the-variants.{Allowed}
-use Rattle.text.specs.declared.Extent.{Extent}
 use Rattle.text.specs.Scan.{run}
 use Rattle.text.specs.Pieces.{linesOf, lineOf, wordsOf}
 use Rattle.text.specs.Words.{wordAt}
@@ -92,6 +91,23 @@ pub record ChainRules (r : Chain) (ts qs zs : List ℕ) : Type 0 where
   -- the blocks
   pub tBlocks : Fills (r .tStart) (r .tEnd) (r .blockCount) ts zs
   pub qBlocks : Fills (r .qStart) (r .qEnd) (r .blockCount) qs zs
+
+-- the record with names of these lengths: what the rules are asked of where the names are handed in beside it
+abbrev pub named : Chain → List ℕ → List ℕ → Chain
+named r tName qName = record {
+  score = r .score;
+  tName = partAt 0 (length tName);
+  tSize = r .tSize;
+  tStart = r .tStart;
+  tEnd = r .tEnd;
+  qName = partAt 0 (length qName);
+  qSize = r .qSize;
+  qStrand = r .qStrand;
+  qStart = r .qStart;
+  qEnd = r .qEnd;
+  id = r .id;
+  blockCount = r .blockCount;
+}
 
 -- the record with its names where they stand in a text: what the reader makes of the record's standard text
 unfoldable pub placed : List ℕ → Chain → Chain

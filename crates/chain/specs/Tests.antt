@@ -1,28 +1,18 @@
 -- The rules of a chain record with its rows, as tests. The record checker asks for all of them; the writer asks for them in its order.
 use Prim.Native.Nat.{ℕ}
-use mathlib.Core.Bool.{Bool, true, false, _&&_}
+use mathlib.Core.Bool.{Bool, _&&_}
 use mathlib.Core.List.{List}
 use lib.ListN.{length, take}
 use lib.Dec.{leb}
-use Rattle.ledger.specs.declared.Strand.{Strand}
-use Rattle.ledger.specs.declared.Strand.the-variants.{Plus, Minus, Dot}
-use Rattle.ledger.specs.Limits.{nameLimit, largestPosition, chainScoreLimit, chainIdLimit}
-use Rattle.text.specs.declared.Class.the-variants.{Graphic}
-use Rattle.text.specs.Scan.{endOf}
-use Rattle.blocks.specs.Blocks.{blocksFill, allBetween, countFits, rowsOf, rowNumbersFit}
+use Rattle.ledger.specs.Strands.{isTold}
+use Rattle.ledger.specs.Limits.{largestPosition, chainScoreLimit, chainIdLimit}
+use Rattle.blocks.specs.Blocks.{blocksFill, countFits, rowsOf, rowNumbersFit, spanFits}
 use Rattle.chain.specs.declared.Chain.{Chain}
-use Rattle.chain.specs.Records.{spanFits}
-use Rattle.columns.specs.Names.{allGraphic, lengthFits}
+use Rattle.columns.specs.Names.{lengthFits}
 
 -- the two names by their lengths
 unfoldable pub namesFit : ℕ → ℕ → Bool
 namesFit t q = lengthFits t && lengthFits q
-
--- the query's strand is `+` or `-`
-abbrev pub strandFits : Strand → Bool
-strandFits Plus = true
-strandFits Minus = true
-strandFits Dot = false
 
 -- a sequence's size is at least 1
 abbrev pub sizeFits : ℕ → Bool
@@ -47,7 +37,7 @@ unfoldable pub chainValid : Chain → List ℕ → List ℕ → List ℕ → Boo
 chainValid r ts qs zs =
     countFits (r .blockCount) (rowsOf ts qs zs)
     && (namesFit (r .tName .length) (r .qName .length)
-    && (strandFits (r .qStrand)
+    && (isTold (r .qStrand)
     && (fieldsFit r
     && (rowNumbersFit (take (r .blockCount) ts) (take (r .blockCount) qs) (take (r .blockCount) zs)
     && (spansFit r

@@ -1,20 +1,18 @@
 -- Writing a chain: the writers' refusals in their order, and the standard text.
-use Prim.Native.Nat.{ℕ, zero, suc, _+_, _-_, _*_, _≤_}
+use Prim.Native.Nat.{ℕ, zero, suc, _+_, _-_, _≤_}
 use mathlib.Core.Path.{_≡_}
 use mathlib.Core.Bool.{Bool, _&&_}
 use mathlib.Core.List.{List, [], _∷_, _++_}
-use lib.ListN.{length, take, drop, getD}
+use lib.ListN.{length, take, getD}
 use Rattle.ledger.specs.declared.Reason.the-variants.{NumberOutOfRange, BadWord, SpanDisagrees, BlockRules}
 use Rattle.ledger.specs.Limits.{nameLimit, blockLimit}
-use Rattle.ledger.specs.Strands.{strandLetter}
+use Rattle.ledger.specs.Strands.{strandLetter, isTold}
 use Rattle.text.specs.declared.Check.{Check}
 use Rattle.text.specs.declared.Check.the-variants.{Holds}
-use Rattle.text.specs.declared.Check.the-variants as check
 use Rattle.text.specs.Checks.{require}
 use Rattle.text.specs.Pieces.{joined}
 use Rattle.writing.specs.Digits.{digits}
 use Rattle.writing.specs.declared.Writing.{Writing}
-use Rattle.writing.specs.declared.Writing.the-variants as writing
 use Rattle.writing.specs.Answers.{roomAnswer, leftAfter}
 use Rattle.kinds.specs.declared.Fixed.the-variants as fixed
 use Rattle.kinds.specs.Kinds.{fixedText}
@@ -22,7 +20,7 @@ use Rattle.blocks.specs.Blocks.{countFits, rowsOf, rowNumbersFit}
 use Rattle.columns.specs.Lines.{fedLine, thenWrite}
 use Rattle.chain.specs.declared.Chain.{Chain}
 use Rattle.chain.specs.Table.{chainColumns}
-use Rattle.chain.specs.Tests.{namesFit, strandFits, fieldsFit, spansFit, rowsFit, chainValid}
+use Rattle.chain.specs.Tests.{namesFit, fieldsFit, spansFit, rowsFit, chainValid}
 use Rattle.columns.specs.Names.{allGraphic}
 
 -- the names that are handed in: their lengths, and that all their bytes show
@@ -33,7 +31,7 @@ namesShow tName qName = namesFit (length tName) (length qName) && (allGraphic tN
 unfoldable pub writeCheck : Chain → List ℕ → List ℕ → List ℕ → List ℕ → List ℕ → Check
 writeCheck r tName qName ts qs zs =
     require (countFits (r .blockCount) (rowsOf ts qs zs)) BlockRules 0
-    (require (namesShow tName qName && strandFits (r .qStrand)) BadWord 0
+    (require (namesShow tName qName && isTold (r .qStrand)) BadWord 0
     (require (fieldsFit r && rowNumbersFit (take (r .blockCount) ts) (take (r .blockCount) qs) (take (r .blockCount) zs)) NumberOutOfRange 0
     (require (spansFit r) SpanDisagrees 0
     (require (rowsFit r (take (r .blockCount) ts) (take (r .blockCount) qs) (take (r .blockCount) zs)) BlockRules 0
@@ -90,16 +88,7 @@ pub record ChainWrote (r : Chain) (tName qName ts qs zs before after : List ℕ)
 unfoldable pub recordCheck : Chain → List ℕ → List ℕ → List ℕ → Check
 recordCheck r ts qs zs = require (chainValid r ts qs zs) BlockRules 0 Holds
 
--- the stages of writing a record that passed the checks: two names in a text of their own, and the rows in use
-pub record NamesShort (tName qName names : List ℕ) : Type 0 where
-  pub long : length names ≡ 2 * nameLimit
-  pub tShort : length tName ≤ nameLimit
-  pub qShort : length qName ≤ nameLimit
-
-pub record NamesPut (tName qName names : List ℕ) : Type 0 where
-  pub tAt : take (length tName) (drop 0 names) ≡ tName
-  pub qAt : take (length qName) (drop nameLimit names) ≡ qName
-
+-- the rows in use, and the names, of a record that passed the checks
 pub record RowsThere (n : ℕ) (ts qs zs : List ℕ) : Type 0 where
   pub some : 1 ≤ n
   pub few : n ≤ blockLimit

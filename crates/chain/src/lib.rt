@@ -3,14 +3,12 @@ ghost use mathlib.Core.Path.{_≡_};
 ghost use Prim.Native.Nat.{_+_, _-_, _*_, _≤_, _<_};
 ghost use lib.ListN.{length, set, take};
 ghost use Rattle.ledger.specs.Limits.{nameLimit, blockLimit};
-ghost use Rattle.ledger.specs.Strands.{strandOf, strandIs};
-ghost use Rattle.text.specs.Checks.{require};
 ghost use Rattle.writing.specs.Puts.{Put};
 ghost use Rattle.writing.specs.Answers.{Wrote};
-ghost use Rattle.chain.specs.Records.{chainRecord, spanFits};
-ghost use Rattle.chain.specs.Read.{headCheck, spanCheck, isBlockCount, blockWords, limitCheck, firstOf, lineCheck, blockIs, fillCheck, afterLast, afterLines, afterSpans, afterColumns, afterWords, afterText, chainCheck, LineCounted, NumbersRead, BlockRead, Counted, Begins, Walked, Headed, Staged, Held, RowsStored, ChainRead};
-ghost use Rattle.chain.specs.Tests.{namesFit, strandFits, sizeFits, fieldsFit, spansFit, rowsFit, chainValid};
-ghost use Rattle.chain.specs.Write.{namesShow, writeCheck, fedWords, gapTo, gapWords, blockText, chainText, chainValues, textOf, ChainWrote, recordCheck, NamesShort, NamesPut, RowsThere, Writable};
+ghost use Rattle.chain.specs.Records.{chainRecord};
+ghost use Rattle.chain.specs.Read.{spanCheck, isBlockCount, limitCheck, firstOf, lineCheck, blockIs, fillCheck, afterLast, afterLines, afterSpans, afterColumns, afterWords, afterText, chainCheck, LineCounted, NumbersRead, BlockRead, Counted, Begins, Walked, Headed, Staged, Held, RowsStored, ChainRead};
+ghost use Rattle.chain.specs.Tests.{namesFit, sizeFits, fieldsFit, spansFit, rowsFit, chainValid};
+ghost use Rattle.chain.specs.Write.{namesShow, writeCheck, fedWords, gapWords, blockText, chainText, chainValues, textOf, ChainWrote, recordCheck, RowsThere, Writable};
 ghost use Rattle.chain.specs.Table.{blockColumns};
 ghost use Rattle.columns.specs.Lines.{fedLine};
 ghost use mathlib.Core.List.{[], _∷_};
@@ -20,11 +18,7 @@ use ledger::Reason;
 use ledger::Refusal;
 use ledger::Strand;
 use text::Check;
-use text::Class;
 use writing::Writing;
-ghost use Rattle.ledger.specs.Parts.{partAt};
-ghost use Rattle.columns.specs.Names.{lengthFits, allGraphic};
-ghost use Rattle.blocks.specs.Blocks.{rowNumbersFit};
 
 // The record of a chain. A name is a part of the text; with `-`, qStart and qEnd count on the reversed query.
 pub struct Chain {
@@ -73,63 +67,19 @@ const CHAIN: [u8; 13] = [11, 4, 0, 2, 12, 1, 1, 0, 2, 9, 1, 1, 5];
 
 const BLOCK: [u8; 3] = [2, 1, 1];
 
-// The header's number of words (2).
-fn check_head(text: &[u8], n: usize) -> Check
-    ensures { λ r. ⌜ r ≡ headCheck (now (text .entry)) n ⌝ }
-{
-    if 13 < n {
-        let w = text::word_at(text, 0, 13);
-        return Check::Refused(Refusal {
-            reason: Reason::WrongCount,
-            place: w.start,
-        });
-    }
-    if n < 13 {
-        let e = text::line_end(text, 0);
-        return Check::Refused(Refusal {
-            reason: Reason::WrongCount,
-            place: e,
-        });
-    }
-    Check::Holds
-}
-
-// The strand of a letter.
-fn strand_of(v: u64) -> Strand
-    ensures { λ r. ⌜ r ≡ strandIs (strandOf v) ⌝ }
-{
-    if v == 43 {
-        return Strand::Plus;
-    }
-    if v == 45 {
-        return Strand::Minus;
-    }
-    Strand::Dot
-}
-
-// A name by its first byte and length.
-fn part_of(start: u64, length: u64) -> Part
-    ensures { λ r. ⌜ r ≡ partAt start length ⌝ }
-{
-    Part {
-        start: start as usize,
-        length: length as usize,
-    }
-}
-
 // The record of a header, from its columns' values, with so many blocks.
 fn record_of(values: &[u64], count: u64) -> Chain
     ensures { λ r. ⌜ r ≡ chainRecord (now (values .entry)) count ⌝ }
 {
     Chain {
         score: columns::value_at(values, 2),
-        tName: part_of(columns::value_at(values, 5), columns::value_at(values, 4)),
+        tName: Part::of_values(columns::value_at(values, 5), columns::value_at(values, 4)),
         tSize: columns::value_at(values, 6),
         tStart: columns::value_at(values, 10),
         tEnd: columns::value_at(values, 12),
-        qName: part_of(columns::value_at(values, 15), columns::value_at(values, 14)),
+        qName: Part::of_values(columns::value_at(values, 15), columns::value_at(values, 14)),
         qSize: columns::value_at(values, 16),
-        qStrand: strand_of(columns::value_at(values, 18)),
+        qStrand: Strand::of_value(columns::value_at(values, 18)),
         qStart: columns::value_at(values, 20),
         qEnd: columns::value_at(values, 22),
         id: columns::value_at(values, 24),
@@ -137,32 +87,22 @@ fn record_of(values: &[u64], count: u64) -> Chain
     }
 }
 
-// start < end ≤ size
-fn span_fits(start: u64, end: u64, size: u64) -> bool
-    ensures { λ r. ⌜ r ≡ spanFits start end size ⌝ }
-{
-    (start < end) & (end <= size)
-}
-
 // The spans (7).
 fn check_spans(r: Chain, values: &[u64]) -> Check
     ensures { λ x. ⌜ x ≡ spanCheck r (now (values .entry)) ⌝ }
 {
-    if !span_fits(r.tStart, r.tEnd, r.tSize) {
-        let end = columns::value_at(values, 13) as usize;
-        return Check::Refused(Refusal {
-            reason: Reason::SpanDisagrees,
-            place: end,
-        });
-    }
-    if !span_fits(r.qStart, r.qEnd, r.qSize) {
-        let end = columns::value_at(values, 23) as usize;
-        return Check::Refused(Refusal {
-            reason: Reason::SpanDisagrees,
-            place: end,
-        });
-    }
-    Check::Holds
+    let query = text::require(
+        blocks::span_fits(r.qStart, r.qEnd, r.qSize),
+        Reason::SpanDisagrees,
+        columns::value_at(values, 23) as usize,
+        Check::Holds,
+    );
+    text::require(
+        blocks::span_fits(r.tStart, r.tEnd, r.tSize),
+        Reason::SpanDisagrees,
+        columns::value_at(values, 13) as usize,
+        query,
+    )
 }
 
 // Whether a block line may have so many words.
@@ -170,27 +110,6 @@ fn is_block_count(n: usize) -> bool
     ensures { λ r. ⌜ r ≡ isBlockCount n ⌝ }
 {
     (n == 1) | (n == 3)
-}
-
-// A block line's number of words (2).
-fn check_count(text: &[u8], line: usize, n: usize) -> Check
-    ensures { λ r. ⌜ r ≡ blockWords (now (text .entry)) line n ⌝ }
-{
-    if 3 < n {
-        let w = text::word_at(text, line, 3);
-        return Check::Refused(Refusal {
-            reason: Reason::WrongCount,
-            place: w.start,
-        });
-    }
-    if !is_block_count(n) {
-        let e = text::line_end(text, line);
-        return Check::Refused(Refusal {
-            reason: Reason::WrongCount,
-            place: e,
-        });
-    }
-    Check::Holds
 }
 
 // The limit (11), where so many blocks may still come.
@@ -221,7 +140,7 @@ fn check_line(text: &[u8], line: usize, n: usize, left: u64) -> Check
     ensures { λ r. ⌜ r ≡ lineCheck (now (text .entry)) line n left ⌝ }
 {
     let limit = check_limit(line, left);
-    let words = check_count(text, line, n);
+    let words = text::check_words(text, line, n, 3, is_block_count(n));
     first_of(limit, words)
 }
 
@@ -319,13 +238,8 @@ fn walk_lines(text: &[u8], from: usize, target: u64, query: u64, rows: &mut [u64
 fn check_fill(text: &[u8], r: Chain, e: Ending) -> Check
     ensures { λ x. ⌜ x ≡ fillCheck (now (text .entry)) r e ⌝ }
 {
-    if (e.target == r.tEnd) & (e.query == r.qEnd) {
-        return Check::Holds;
-    }
-    Check::Refused(Refusal {
-        reason: Reason::BlockRules,
-        place: text.len(),
-    })
+    let ends = (e.target == r.tEnd) & (e.query == r.qEnd);
+    text::require(ends, Reason::BlockRules, text.len(), Check::Holds)
 }
 
 // The record, and the blocks.
@@ -393,8 +307,7 @@ fn after_text(text: &[u8], rows: &mut [u64]) -> ChainAnswer
     requires { ⌜ length (now rows) ≡ 3 * blockLimit ⌝ }
     ensures { λ x. ⌜ Staged (now (text .entry)) (afterText (now (text .entry))) (now (rows .exit)) x ⌝ }
 {
-    let n = text::count_words(text, 0);
-    match check_head(text, n) {
+    match columns::check_count(text, 0, 13) {
         Check::Refused(x) => ChainAnswer::Refused(x),
         Check::Holds => after_words(text, rows),
     }
@@ -473,27 +386,11 @@ pub fn read_chain(
     }
 }
 
-fn length_fits(n: usize) -> bool
-    ensures { λ r. ⌜ r ≡ lengthFits n ⌝ }
-{
-    (1 <= n) & (n <= ledger::NAME_LIMIT)
-}
-
 // The two names by their lengths.
 fn names_fit(t: usize, q: usize) -> bool
     ensures { λ r. ⌜ r ≡ namesFit t q ⌝ }
 {
-    length_fits(t) & length_fits(q)
-}
-
-fn strand_fits(s: Strand) -> bool
-    ensures { λ r. ⌜ r ≡ strandFits s ⌝ }
-{
-    match s {
-        Strand::Plus => true,
-        Strand::Minus => true,
-        Strand::Dot => false,
-    }
+    columns::length_fits(t) & columns::length_fits(q)
 }
 
 fn size_fits(n: u64) -> bool
@@ -516,21 +413,10 @@ fn fields_fit(r: Chain) -> bool
                             & ((r.qEnd <= most) & (r.id <= ledger::CHAIN_ID_LIMIT)))))))
 }
 
-// The numbers of the used rows.
-fn row_numbers_fit(targets: &[u64], queries: &[u64], sizes: &[u64], count: usize) -> bool
-    ensures { λ x. ⌜ x ≡ rowNumbersFit (take count (now (targets .entry))) (take count (now (queries .entry))) (take count (now
-        (sizes .entry))) ⌝ }
-{
-    let most = ledger::Position::LARGEST;
-    blocks::all_between(targets, count, 0, most)
-        & (blocks::all_between(queries, count, 0, most)
-            & blocks::all_between(sizes, count, 1, most))
-}
-
 fn spans_fit(r: Chain) -> bool
     ensures { λ x. ⌜ x ≡ spansFit r ⌝ }
 {
-    span_fits(r.tStart, r.tEnd, r.tSize) & span_fits(r.qStart, r.qEnd, r.qSize)
+    blocks::span_fits(r.tStart, r.tEnd, r.tSize) & blocks::span_fits(r.qStart, r.qEnd, r.qSize)
 }
 
 // The blocks of the used rows.
@@ -551,9 +437,9 @@ fn record_fits(r: Chain, targets: &[u64], queries: &[u64], sizes: &[u64]) -> boo
     let strand = r.qStrand;
     blocks::count_fits(r.blockCount, rows)
         & (names_fit(r.tName.length, r.qName.length)
-            & (strand_fits(strand)
+            & (strand.is_told()
                 & (fields_fit(r)
-                    & (row_numbers_fit(targets, queries, sizes, count)
+                    & (blocks::row_numbers_fit(targets, queries, sizes, count)
                         & (spans_fit(r) & rows_fit(r, targets, queries, sizes, count))))))
 }
 
@@ -561,37 +447,20 @@ fn record_fits(r: Chain, targets: &[u64], queries: &[u64], sizes: &[u64]) -> boo
 pub fn check_chain(r: Chain, targets: &[u64], queries: &[u64], sizes: &[u64]) -> Check
     ensures { λ x. ⌜ x ≡ recordCheck r (now (targets .entry)) (now (queries .entry)) (now (sizes .entry)) ⌝ }
 {
-    if record_fits(r, targets, queries, sizes) {
-        return Check::Holds;
-    }
-    Check::Refused(Refusal {
-        reason: Reason::BlockRules,
-        place: 0,
-    })
-}
-
-// Whether all bytes of a name show.
-fn all_graphic(w: &[u8]) -> bool
-    ensures { λ r. ⌜ r ≡ allGraphic (now (w .entry)) ⌝ }
-{
-    w.len() <= text::scan(w, 0, Class::Graphic)
+    text::require(
+        record_fits(r, targets, queries, sizes),
+        Reason::BlockRules,
+        0,
+        Check::Holds,
+    )
 }
 
 // The names that are handed in.
 fn names_show(tName: &[u8], qName: &[u8]) -> bool
     ensures { λ x. ⌜ x ≡ namesShow (now (tName .entry)) (now (qName .entry)) ⌝ }
 {
-    names_fit(tName.len(), qName.len()) & (all_graphic(tName) & all_graphic(qName))
-}
-
-// Where a test holds, the rest; else a refusal at place 0.
-fn or_refuse(test: bool, reason: Reason, rest: Check) -> Check
-    ensures { λ x. ⌜ x ≡ require test reason 0 rest ⌝ }
-{
-    if test {
-        return rest;
-    }
-    Check::Refused(Refusal { reason, place: 0 })
+    names_fit(tName.len(), qName.len())
+        & (columns::all_graphic(tName) & columns::all_graphic(qName))
 }
 
 // The writers' refusals in their order.
@@ -609,25 +478,29 @@ fn check_write(
     let count = r.blockCount as usize;
     let rows = blocks::rows_of(targets, queries, sizes);
     let strand = r.qStrand;
-    let blocks = or_refuse(
+    let blocks = text::require(
         rows_fit(r, targets, queries, sizes, count),
         Reason::BlockRules,
+        0,
         Check::Holds,
     );
-    let spans = or_refuse(spans_fit(r), Reason::SpanDisagrees, blocks);
-    let numbers = or_refuse(
-        fields_fit(r) & row_numbers_fit(targets, queries, sizes, count),
+    let spans = text::require(spans_fit(r), Reason::SpanDisagrees, 0, blocks);
+    let numbers = text::require(
+        fields_fit(r) & blocks::row_numbers_fit(targets, queries, sizes, count),
         Reason::NumberOutOfRange,
+        0,
         spans,
     );
-    let words = or_refuse(
-        names_show(tName, qName) & strand_fits(strand),
+    let words = text::require(
+        names_show(tName, qName) & strand.is_told(),
         Reason::BadWord,
+        0,
         numbers,
     );
-    or_refuse(
+    text::require(
         blocks::count_fits(r.blockCount, rows),
         Reason::BlockRules,
+        0,
         words,
     )
 }
@@ -668,33 +541,11 @@ fn values_of(r: Chain, tName: usize, qName: usize) -> [u64; 26]
     ]
 }
 
-// The names one after the other, in a text of their own.
-fn put_names(tName: &[u8], qName: &[u8], names: &mut [u8])
-    requires { ⌜ NamesShort (now tName) (now qName) (now names) ⌝ }
-    ensures { λ _. ⌜ NamesPut (now (tName .entry)) (now (qName .entry)) (now (names .exit)) ⌝ }
-{
-    writing::put_bytes(names, 0, tName);
-    writing::put_bytes(names, ledger::NAME_LIMIT, qName);
-}
-
 // Room for two names.
 fn name_room() -> [u8; 128]
     ensures { λ r. ⌜ length r ≡ 2 * nameLimit ⌝ }
 {
     [0; 128]
-}
-
-// From the end of a block to the next one's start; 0 where that lies before it.
-fn gap_to(a: u64, z: u64, next: u64) -> u64
-    ensures { λ r. ⌜ r ≡ gapTo a z next ⌝ }
-{
-    if next < a {
-        return 0;
-    }
-    if next - a < z {
-        return 0;
-    }
-    next - a - z
 }
 
 // A block line of 3 words, or of 1.
@@ -724,12 +575,12 @@ fn put_gap(
         (now (buf .exit)) r ⌝ }
 {
     let z = columns::value_at(sizes, i);
-    let dt = gap_to(
+    let dt = blocks::gap_after(
         columns::value_at(targets, i),
         z,
         columns::value_at(targets, i + 1),
     );
-    let dq = gap_to(
+    let dq = blocks::gap_after(
         columns::value_at(queries, i),
         z,
         columns::value_at(queries, i + 1),
@@ -825,7 +676,7 @@ fn write_text(
         (now (sizes .entry))) (now (buf .entry)) (now (buf .exit)) x ⌝ }
 {
     let mut names = name_room();
-    put_names(tName, qName, &mut names);
+    columns::put_names(tName, qName, &mut names);
     let values = values_of(r, tName.len(), qName.len());
     let count = r.blockCount as usize;
     write_lines(buf, &names, &values, count, targets, queries, sizes)

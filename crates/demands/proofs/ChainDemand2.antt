@@ -1,21 +1,18 @@
 -- Demand 2 holds of chains. Assumes nothing.
-use mathlib.Core.Path.{_≡_, refl, sym, ap, ap₂, _∙_}
-use mathlib.Core.Bool.{Bool, true, false, _&&_}
-use mathlib.Core.Logic.{_↔_}
-use mathlib.Core.List.{List, [], _∷_}
-use Prim.Native.Nat.{ℕ, _+_, _-_, _≤_, _<_}
+use mathlib.Core.Path.{_≡_, refl, sym, ap, _∙_}
+use mathlib.Core.Bool.{Bool, true, false}
+use mathlib.Core.List.{List}
+use Prim.Native.Nat.{ℕ, _≤_}
 use native.Mathlib.Omega.{arith}
 use lib.ListN.{length, take, drop}
-use lib.Dec.{leb, ltb}
+use lib.Dec.{leb}
 use borrow.Author.Tests.{le-leb, leb-true}
 use Rattle.ledger.specs.declared.Row.{Row}
 use Rattle.ledger.specs.declared.Reason.the-variants.{NoRoom}
 use Rattle.ledger.specs.Limits.{textLimit}
-use Rattle.text.specs.declared.Check.{Check}
 use Rattle.text.specs.declared.Check.the-variants.{Holds}
 use Rattle.text.specs.declared.Class.the-variants.{Graphic}
 use Rattle.text.specs.Checks.{require}
-use Rattle.text.specs.Scan.{run, endOf}
 use Rattle.text.specs.Words.{wordAt, nextLine, bytesOf}
 use Rattle.text.specs.Pieces.{linesOf}
 use Rattle.columns.specs.Columns.{valuesFrom}
@@ -32,19 +29,20 @@ use Rattle.chain.specs.declared.ChainAnswer.the-variants.{Accepted, Refused}
 use Rattle.chain.specs.Records.{chainTargets, chainQueries, chainSizes, chainRows}
 use Rattle.chain.specs.Read.{chainCheck, chainRead, roomCheck, thenCheck, thenRoom}
 use Rattle.chain.specs.Table.{chainColumns}
-use Rattle.chain.specs.Rules.{ChainText, ChainRules, placed}
-use Rattle.chain.specs.Tests.{namesFit, strandFits, fieldsFit, spansFit, rowsFit, chainValid}
+use Rattle.chain.specs.Rules.{ChainText, ChainRules, named, placed}
+use Rattle.ledger.specs.Strands.{isTold}
+use Rattle.chain.specs.Tests.{namesFit, fieldsFit, spansFit, rowsFit, chainValid}
 use Rattle.chain.specs.Write.{namesShow, writeCheck, chainText, chainWrite}
 use Rattle.chain.proofs.TextLaws.{text-of, text-is, text-targets, text-queries, text-sizes}
 use Rattle.chain.proofs.ValidLaws.{lines-target-count, lines-query-count, accepted-valid}
 use Rattle.chain.proofs.RuleLaws.{rules-of, rules-is}
 use Rattle.chain.proofs.BackLaws.{back-target-name, back-query-name, back-targets, back-queries, back-sizes, back-read}
-use Rattle.demands.specs.Formats.{Names, Format}
-use Rattle.demands.specs.Demand2.{ReadsBack, Demand2}
-use Rattle.demands.specs.Chain.{ChainSpells, chainNames, named, ChainValid, SameChain, chain}
+use Rattle.demands.specs.Formats.{Names}
+use Rattle.demands.specs.Demand2.{Demand2}
+use Rattle.demands.specs.Chain.{chainNames, ChainValid, SameChain, chain}
 use Rattle.demands.proofs.NameLaws.{word-shows}
 use Rattle.demands.proofs.RowLaws.{Flat, flat, rows-taken}
-use Rattle.columns.specs.Names.{partOf, allGraphic}
+use Rattle.columns.specs.Names.{partOf}
 use Rattle.columns.proofs.WordLaws.{word-length, graphic-all}
 
 -- the reader is the text checker with room
@@ -65,22 +63,22 @@ unfolding chainRead roomCheck
 read-is s room r e h = rw (e, le-leb (r .blockCount) room h)
 
 -- the test of a record sees only the lengths of its names
-valid-named : (r : Chain) (ns : Names) (ts qs zs : List ℕ) → length (ns .first) ≡ r .tName .length → length (ns .second) ≡ r .qName .length → chainValid r ts qs zs ≡ true → chainValid (named r ns) ts qs zs ≡ true
+valid-named : (r : Chain) (ns : Names) (ts qs zs : List ℕ) → length (ns .first) ≡ r .tName .length → length (ns .second) ≡ r .qName .length → chainValid r ts qs zs ≡ true → chainValid (named r (ns .first) (ns .second)) ts qs zs ≡ true
 unfolding chainValid fieldsFit spansFit rowsFit
 valid-named r ns ts qs zs e f h = rw (e, f) h
 
 -- a valid record passes the writer's checks
-passes : (r : Chain) (ns : Names) (ts qs zs : List ℕ) → ChainRules (named r ns) ts qs zs → All Graphic (ns .first) → All Graphic (ns .second) → writeCheck r (ns .first) (ns .second) ts qs zs ≡ Holds
+passes : (r : Chain) (ns : Names) (ts qs zs : List ℕ) → ChainRules (named r (ns .first) (ns .second)) ts qs zs → All Graphic (ns .first) → All Graphic (ns .second) → writeCheck r (ns .first) (ns .second) ts qs zs ≡ Holds
 unfolding writeCheck namesShow chainValid fieldsFit spansFit rowsFit
 passes r ns ts qs zs k c d =
     let n = r .blockCount in
-    let v = rules-is (named r ns) ts qs zs k in
+    let v = rules-is (named r (ns .first) (ns .second)) ts qs zs k in
     let count = both (countFits n (rowsOf ts qs zs)) _ v in
     let names = both (namesFit (length (ns .first)) (length (ns .second))) _ (count .1) in
-    let strand = both (strandFits (r .qStrand)) _ (names .1) in
-    let fields = both (fieldsFit (named r ns)) _ (strand .1) in
+    let strand = both (isTold (r .qStrand)) _ (names .1) in
+    let fields = both (fieldsFit (named r (ns .first) (ns .second))) _ (strand .1) in
     let numbers = both (rowNumbersFit (take n ts) (take n qs) (take n zs)) _ (fields .1) in
-    let spans = both (spansFit (named r ns)) (rowsFit (named r ns) (take n ts) (take n qs) (take n zs)) (numbers .1) in
+    let spans = both (spansFit (named r (ns .first) (ns .second))) (rowsFit (named r (ns .first) (ns .second)) (take n ts) (take n qs) (take n zs)) (numbers .1) in
     rw (count .0, names .0, graphic-all (ns .first) c, graphic-all (ns .second) d, strand .0, fields .0, numbers .0, spans .0, spans .1)
 
 -- ---- an accepted text: its names, and its rows
@@ -107,7 +105,7 @@ module _ (s : List ℕ) (r : Chain) (ok : chainCheck s ≡ Accepted r) where
       let w = accepted-flat in
       let v : chainValid r (targetsOf (chainRows s r)) (queriesOf (chainRows s r)) (sizesOf (chainRows s r)) ≡ true = rw (w .targets, w .queries, w .sizes) (accepted-valid s r ok) in
       record {
-        rules = rules-of (named r (chainNames s r)) _ _ _ (valid-named r (chainNames s r) _ _ _ (target-shows .1) (query-shows .1) v);
+        rules = rules-of (named r (chainNames s r .first) (chainNames s r .second)) _ _ _ (valid-named r (chainNames s r) _ _ _ (target-shows .1) (query-shows .1) v);
         targetShows = target-shows .0;
         queryShows = query-shows .0;
       }

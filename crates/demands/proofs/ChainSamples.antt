@@ -6,16 +6,17 @@ use Rattle.ledger.specs.Limits.{blockLimit}
 use Rattle.text.specs.Scan.{run, endOf}
 use Rattle.text.specs.Pieces.{piecesOf, linesOf, nonEmpty, wordsOf, lineOf}
 use Rattle.text.specs.Words.{lineEnd, nextLine, nextWord, wordAt, wordCount, bytesOf}
-use Rattle.text.specs.Checks.{textCheck, lastLineCheck}
+use Rattle.text.specs.Checks.{textCheck, lastLineCheck, wordsCheck}
 use Rattle.text.specs.Parts.{partBytes}
 use Rattle.numbers.specs.Numbers.{wellSpelt, valueFrom, value, numberOf}
 use Rattle.kinds.specs.Kinds.{sameBytes, nameOf, strandOf, fixedOf, spelt}
 use Rattle.columns.specs.Columns.{fieldFrom, columnsFrom, valuesFrom}
+use Rattle.columns.specs.OneLine.{countCheck}
 use Rattle.blocks.specs.Blocks.{orderFrom, blocksFill, allBetween, rowNumbersFit}
 use Rattle.blocks.specs.Rows.{tableOf}
 use Rattle.chain.specs.Table.{chainColumns, blockColumns}
 use Rattle.chain.specs.Records.{chainRecord, lineValues, sizeAt, targetGap, queryGap, targetsFrom, queriesFrom, sizesFrom, chainTargets, chainQueries, chainSizes, chainRows}
-use Rattle.chain.specs.Read.{headCheck, spanCheck, blockWords, blockNumbers, blockLine, linesFrom, fillCheck, roomCheck, afterLast, afterLines, afterSpans, afterColumns, afterWords, afterText, chainCheck, chainRead}
+use Rattle.chain.specs.Read.{spanCheck, blockWords, blockNumbers, blockLine, linesFrom, fillCheck, roomCheck, afterLast, afterLines, afterSpans, afterColumns, afterWords, afterText, chainCheck, chainRead}
 use Rattle.chain.proofs.Vectors.{chainA as recordA, rowsA}
 use Rattle.chain.specs.Tests.{namesFit, fieldsFit, spansFit, rowsFit, chainValid}
 use Rattle.chain.specs.Write.{headWords, gapWords, blockText, chainText}
@@ -27,12 +28,12 @@ use Rattle.lift.specs.Pairs.{blockPairs, pairsOf, pairs, partnerOf}
 use Rattle.lift.specs.Positions.{liftPosition}
 use Rattle.region.specs.Regions.{countOf, kept, dropped, partnersIn, least, bound, inside, carried, liftRegion}
 use Rattle.turn.specs.Turns.{turnedRows, turned, turn}
-use Rattle.demands.specs.Samples.{Asked, position-of, region-of, turned-text, read-chain, Outcome, lifted, lifted-region, bytes, refused, answerTo, ofChain, chainA, chainTurned, chainLong}
+use Rattle.demands.specs.Samples.{position-of, region-of, turned-text, read-chain, Outcome, lifted, lifted-region, bytes, refused, answerTo, chainA, chainTurned, chainLong}
 use Rattle.demands.specs.Samples as samples
 
 -- what the reader makes of chain A
 read-a : chainRead chainA blockLimit ≡ chain.Accepted recordA
-unfolding run endOf piecesOf linesOf nonEmpty wordsOf lineOf lineEnd nextLine nextWord wordAt wordCount bytesOf textCheck lastLineCheck wellSpelt valueFrom value numberOf sameBytes nameOf strandOf fixedOf spelt fieldFrom columnsFrom valuesFrom chainColumns blockColumns chainRecord lineValues headCheck spanCheck blockWords blockNumbers blockLine linesFrom fillCheck roomCheck afterLast afterLines afterSpans afterColumns afterWords afterText chainCheck chainRead
+unfolding run endOf piecesOf linesOf nonEmpty wordsOf lineOf lineEnd nextLine nextWord wordAt wordCount bytesOf textCheck lastLineCheck wellSpelt valueFrom value numberOf sameBytes nameOf strandOf fixedOf spelt fieldFrom columnsFrom valuesFrom chainColumns blockColumns chainRecord lineValues wordsCheck countCheck spanCheck blockWords blockNumbers blockLine linesFrom fillCheck roomCheck afterLast afterLines afterSpans afterColumns afterWords afterText chainCheck chainRead
 read-a = refl
 
 rows-a : chainRows chainA recordA ≡ rowsA
@@ -76,5 +77,5 @@ pub read-ok : answerTo chainA read-chain ≡ samples.accepted
 read-ok = rw read-a
 
 pub long-a : answerTo chainLong read-chain ≡ refused 9 56
-unfolding run endOf piecesOf linesOf nonEmpty wordsOf lineOf lineEnd nextLine nextWord wordAt wordCount bytesOf textCheck lastLineCheck wellSpelt valueFrom value numberOf sameBytes nameOf strandOf fixedOf spelt fieldFrom columnsFrom valuesFrom chainColumns blockColumns chainRecord lineValues headCheck spanCheck blockWords blockNumbers blockLine linesFrom fillCheck roomCheck afterLast afterLines afterSpans afterColumns afterWords afterText chainCheck chainRead
+unfolding run endOf piecesOf linesOf nonEmpty wordsOf lineOf lineEnd nextLine nextWord wordAt wordCount bytesOf textCheck lastLineCheck wellSpelt valueFrom value numberOf sameBytes nameOf strandOf fixedOf spelt fieldFrom columnsFrom valuesFrom chainColumns blockColumns chainRecord lineValues wordsCheck countCheck spanCheck blockWords blockNumbers blockLine linesFrom fillCheck roomCheck afterLast afterLines afterSpans afterColumns afterWords afterText chainCheck chainRead
 long-a = refl

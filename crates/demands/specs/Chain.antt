@@ -4,7 +4,6 @@ use mathlib.Core.Path.{_≡_}
 use mathlib.Core.List.{List}
 use lib.ListN.{length}
 use Rattle.ledger.specs.declared.Row.{Row}
-use Rattle.ledger.specs.Parts.{partAt}
 use Rattle.text.specs.declared.Class.the-variants.{Graphic}
 use Rattle.text.specs.Scan.{run}
 use Rattle.text.specs.Parts.{partBytes}
@@ -13,7 +12,7 @@ use Rattle.chain.specs.declared.Chain.{Chain}
 use Rattle.chain.specs.declared.ChainAnswer.{ChainAnswer}
 use Rattle.chain.specs.declared.ChainAnswer.the-variants.{Accepted}
 use Rattle.chain.specs.Read.{chainRead}
-use Rattle.chain.specs.Rules.{ChainText, ChainRules}
+use Rattle.chain.specs.Rules.{ChainText, ChainRules, named}
 use Rattle.chain.specs.Write.{chainText, chainWrite}
 use Rattle.chain.specs.Records.{chainRows}
 use Rattle.demands.specs.Formats.{Names, Format}
@@ -32,25 +31,8 @@ pub record ChainSpells (s : List ℕ) (r : Chain) (rows : List Row) : Type 0 whe
 abbrev pub chainNames : List ℕ → Chain → Names
 chainNames s r = record { first = partBytes s (r .tName); second = partBytes s (r .qName) }
 
--- the record with names of these lengths
-abbrev pub named : Chain → Names → Chain
-named r ns = record {
-  score = r .score;
-  tName = partAt 0 (length (ns .first));
-  tSize = r .tSize;
-  tStart = r .tStart;
-  tEnd = r .tEnd;
-  qName = partAt 0 (length (ns .second));
-  qSize = r .qSize;
-  qStrand = r .qStrand;
-  qStart = r .qStart;
-  qEnd = r .qEnd;
-  id = r .id;
-  blockCount = r .blockCount;
-}
-
 pub record ChainValid (r : Chain) (ns : Names) (table : List Row) : Type 0 where
-  pub rules : ChainRules (named r ns) (targetsOf table) (queriesOf table) (sizesOf table)
+  pub rules : ChainRules (named r (ns .first) (ns .second)) (targetsOf table) (queriesOf table) (sizesOf table)
   pub targetShows : run Graphic (ns .first) ≡ length (ns .first)
   pub queryShows : run Graphic (ns .second) ≡ length (ns .second)
 

@@ -1,5 +1,4 @@
 // A text read as a chain.
-use crate::tables;
 use chain::Chain;
 use chain::ChainAnswer;
 
@@ -45,7 +44,7 @@ fn put_standard(
     let t = text::name_in(s, r.tName);
     let q = text::name_in(s, r.qName);
     let mut buf = cases::marked_bytes();
-    let written = tables::write_chain(r, t, q, targets, queries, sizes, &mut buf);
+    let written = cases_chain::write_chain(r, t, q, targets, queries, sizes, &mut buf);
     let a = writing::put_bytes(out, at, b" text ");
     cases::put_text(out, a, &buf, written)
 }
@@ -60,7 +59,7 @@ fn put_record_check(
     sizes: &[u64],
 ) -> usize {
     let a = writing::put_bytes(out, at, b" check ");
-    cases::put_check(out, a, tables::check_chain(r, targets, queries, sizes))
+    cases::put_check(out, a, cases_chain::check_chain(r, targets, queries, sizes))
 }
 
 // A record's columns, and its rows; whether the rows past them were kept.
@@ -118,7 +117,7 @@ fn read_case(s: &[u8], room: usize, out: &mut [u8], at: usize) -> usize {
     let mut targets = cases::marked_rows();
     let mut queries = cases::marked_rows();
     let mut sizes = cases::marked_rows();
-    let answer = tables::read_chain(s, room, &mut targets, &mut queries, &mut sizes);
+    let answer = cases_chain::read_chain(s, room, &mut targets, &mut queries, &mut sizes);
     put_read(out, at, s, answer, &targets, &queries, &sizes)
 }
 

@@ -1,7 +1,6 @@
 // A record handed to the record checker and the writer. The line's words are score, tSize, tStart, tEnd, qSize, qStrand, qStart, qEnd, id,
 // blockCount, the room of the buffer, `=` and a name twice (the target's, the query's), and the rows of the table, three numbers each.
 // Only the names are escaped.
-use crate::tables;
 use chain::Chain;
 use ledger::Part;
 use writing::Writing;
@@ -42,7 +41,7 @@ fn write_within(
     room: usize,
 ) -> Writing {
     let m = cases::least(room, buf.len());
-    tables::write_chain(r, target, query, targets, queries, sizes, &mut buf[0..m])
+    cases_chain::write_chain(r, target, query, targets, queries, sizes, &mut buf[0..m])
 }
 
 // What the writer answers.
@@ -77,7 +76,7 @@ fn put_answers(
 ) -> usize {
     let r = record_at(line, target.len(), query.len());
     let a = writing::put_bytes(out, at, b"check ");
-    let b = cases::put_check(out, a, tables::check_chain(r, targets, queries, sizes));
+    let b = cases::put_check(out, a, cases_chain::check_chain(r, targets, queries, sizes));
     let room = cases::number_at(line, 10) as usize;
     put_writing(out, b, r, target, query, targets, queries, sizes, room)
 }

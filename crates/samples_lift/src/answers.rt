@@ -1,6 +1,5 @@
 // The questions about a chain handed in, and their answers as bytes.
 use crate::drifts;
-use crate::tables;
 use chain::Chain;
 use ledger::Part;
 use lift::PositionAnswer;
@@ -55,7 +54,7 @@ fn tally_case(
         kept: columns::value_at(tally, 1),
         dropped: columns::value_at(tally, 2),
     };
-    let done = tables::tally_region(before, c, targets, queries, sizes, start, end);
+    let done = cases_chain::tally_region(before, c, targets, queries, sizes, start, end);
     let answer = done.answer;
     let after = done.tally;
     keep_tally(tally, after.asked, after.kept, after.dropped);
@@ -113,11 +112,11 @@ fn put_standard(
     let t = text::name_in(page, d.tName);
     let q = text::name_in(page, d.qName);
     let mut buf = cases::marked_bytes();
-    let written = chain::write_chain(d, t, q, targets, queries, sizes, &mut buf);
+    let written = cases_chain::write_chain(d, t, q, targets, queries, sizes, &mut buf);
     let a = writing::put_bytes(out, at, b" text ");
     let b = cases::put_text(out, a, &buf, written);
     let c = writing::put_bytes(out, b, b" check ");
-    cases::put_check(out, c, chain::check_chain(d, targets, queries, sizes))
+    cases::put_check(out, c, cases_chain::check_chain(d, targets, queries, sizes))
 }
 
 // What a turn answers, and what it left in the tables.
@@ -161,7 +160,7 @@ fn turn_case(
     let mut t = cases::marked_rows();
     let mut q = cases::marked_rows();
     let mut z = cases::marked_rows();
-    let answer = tables::turn_chain(c, targets, queries, sizes, room, &mut t, &mut q, &mut z);
+    let answer = cases_chain::turn_chain(c, targets, queries, sizes, room, &mut t, &mut q, &mut z);
     put_turn(out, at, answer, page, &t, &q, &z)
 }
 
@@ -184,12 +183,12 @@ pub(crate) fn answer(
         b'p' => put_position(
             out,
             at,
-            tables::lift_position(c, targets, queries, sizes, first),
+            cases_chain::lift_position(c, targets, queries, sizes, first),
         ),
         b'g' => put_region(
             out,
             at,
-            tables::lift_region(c, targets, queries, sizes, first, second),
+            cases_chain::lift_region(c, targets, queries, sizes, first, second),
         ),
         b'u' => turn_case(line, c, page, targets, queries, sizes, out, at),
         b'm' => tally_case(first, second, c, targets, queries, sizes, tally, out, at),

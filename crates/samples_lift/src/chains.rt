@@ -61,7 +61,7 @@ fn from_words(
     Given::Chain(c, rows)
 }
 
-// A text, unescaped to a page and read into tables.
+// A text, unescaped to a page and read into a table of 512 rows.
 fn from_text(
     escaped: &[u8],
     page: &mut [u8],
@@ -70,8 +70,8 @@ fn from_text(
     sizes: &mut [u64],
 ) -> Given {
     let n = cases::unescape(escaped, page);
-    match chain::read_chain(&page[0..n], targets, queries, sizes) {
-        ChainAnswer::Accepted(c) => Given::Chain(c, targets.len()),
+    match cases_chain::read_chain(&page[0..n], rows::ROOM, targets, queries, sizes) {
+        ChainAnswer::Accepted(c) => Given::Chain(c, rows::ROOM),
         ChainAnswer::Refused(x) => Given::Refused(x),
     }
 }

@@ -6,7 +6,6 @@
 mod answers;
 mod chains;
 mod drifts;
-mod tables;
 
 use chains::Given;
 

@@ -28,7 +28,8 @@ use Rattle.chain.specs.declared.ChainAnswer.{ChainAnswer}
 use Rattle.chain.specs.declared.ChainAnswer.the-variants.{Accepted, Refused}
 use Rattle.chain.specs.Records.{chainTargets, chainQueries, chainSizes}
 use Rattle.chain.specs.Read.{roomCheck, rowsAfter, chainCheck, chainRead, ChainRead}
-use Rattle.chain.specs.Tests.{namesFit, strandFits, fieldsFit, spansFit, rowsFit, chainValid}
+use Rattle.ledger.specs.Strands.{isTold}
+use Rattle.chain.specs.Tests.{namesFit, fieldsFit, spansFit, rowsFit, chainValid}
 use Rattle.chain.specs.Write.{namesShow, writeCheck, headWords, fedWords, gapTo, gapWords, blockText, chainText, chainWrite, ChainWrote, recordCheck}
 use Rattle.chain.proofs.TextLaws.{text-of}
 use Rattle.chain.proofs.ValidLaws.{lines-target-count, lines-query-count}
@@ -83,7 +84,7 @@ filled-accepted a r e = rw e
 -- THE RECORD CHECKER, as it looks at the rows in use
 abbrev pub checkSeen : Chain → Bool → List ℕ → List ℕ → List ℕ → Check
 checkSeen r t ts qs zs =
-    require (t && (namesFit (r .tName .length) (r .qName .length) && (strandFits (r .qStrand) && (fieldsFit r && (rowNumbersFit ts qs zs && (spansFit r && rowsFit r ts qs zs)))))) BlockRules 0 Holds
+    require (t && (namesFit (r .tName .length) (r .qName .length) && (isTold (r .qStrand) && (fieldsFit r && (rowNumbersFit ts qs zs && (spansFit r && rowsFit r ts qs zs)))))) BlockRules 0 Holds
 
 check-cut : (r : Chain) (rows : List Row) → recordCheck r (targetsOf (cutRows rows)) (queriesOf (cutRows rows)) (sizesOf (cutRows rows)) ≡ recordCheck r (targetsOf rows) (queriesOf rows) (sizesOf rows)
 unfolding recordCheck chainValid
@@ -117,7 +118,7 @@ module _ (r : Chain) (tName qName : List ℕ) where
   -- the checks after the count of rows
   abbrev rest : List ℕ → List ℕ → List ℕ → Check
   rest ts qs zs =
-      require (namesShow tName qName && strandFits (r .qStrand)) BadWord 0
+      require (namesShow tName qName && isTold (r .qStrand)) BadWord 0
       (require (fieldsFit r && rowNumbersFit ts qs zs) NumberOutOfRange 0 (require (spansFit r) SpanDisagrees 0 (require (rowsFit r ts qs zs) BlockRules 0 Holds)))
 
   wrote-cut : (rows : List Row) (before after : List ℕ) (x : Writing) → ChainWrote r tName qName (targetsOf (cutRows rows)) (queriesOf (cutRows rows)) (sizesOf (cutRows rows)) before after x

@@ -6,14 +6,10 @@ use Rattle.chain.proofs.after_text.Tie as tie
 use Rattle.chain.proofs.after_text.Reads as reads
 use Rattle.chain.proofs.after_text.Lts as lts
 use Rattle.chain.proofs.after_words.Reads as after-words-reads
-use Rattle.chain.proofs.check_head.Reads as check-head-reads
-use Rattle.text.proofs.count_words.Reads as count-words-reads
+use Rattle.columns.proofs.check_count.Reads as check-count-reads
 
-count-words-requires : tie.Need-count-words-requires
-count-words-requires c κs = search needs
-
-check-head-requires : tie.Need-check-head-requires
-check-head-requires c κs = search needs
+check-count-requires : tie.Need-check-count-requires
+check-count-requires c κs = search needs
 
 enum-known-x : tie.Need-enum-known-x
 enum-known-x c = search needs
@@ -37,8 +33,7 @@ pub after-text-spec : {M : Type 1} → statement M
 after-text-spec =
     tie.close
     (tie.spec
-    count-words-requires
-    check-head-requires
+    check-count-requires
     enum-known-x
     enum-told
     after-words-requires

@@ -1,15 +1,18 @@
 -- The last block's ends. Assumes nothing.
-use Rattle.chain.proofs.ReadLaws.{fill-good, fill-bad}
+use Rattle.chain.specs.Read.{fillCheck}
+use borrow.Author.Needs.{needs}
 use Rattle.chain.proofs.check_fill.Statement.{statement}
 use Rattle.chain.proofs.check_fill.Tie as tie
 use Rattle.chain.proofs.check_fill.Reads as reads
 use Rattle.chain.proofs.check_fill.Lts as lts
+use Rattle.text.proofs.require.Reads as require-reads
+
+require-requires : tie.Need-require-requires
+require-requires c κs = search needs
 
 returns : tie.Need-returns
-returns c = search (fill-good, fill-bad)
-
-returns-2 : tie.Need-returns-2
-returns-2 c = search (fill-good, fill-bad)
+unfolding fillCheck
+returns c = c .require .ensures
 
 pub check-fill-spec : {M : Type 1} → statement M
-check-fill-spec = tie.close (tie.spec returns returns-2)
+check-fill-spec = tie.close (tie.spec require-requires returns)

@@ -5,7 +5,7 @@ use Rattle.chain.proofs.names_fit.Statement.{statement}
 use Rattle.chain.proofs.names_fit.Tie as tie
 use Rattle.chain.proofs.names_fit.Reads as reads
 use Rattle.chain.proofs.names_fit.Lts as lts
-use Rattle.chain.proofs.length_fits.Reads as length-fits-reads
+use Rattle.columns.proofs.length_fits.Reads as length-fits-reads
 
 length-fits-requires : tie.Need-length-fits-requires
 length-fits-requires c κs = search needs

@@ -5,7 +5,7 @@ use Rattle.chain.proofs.names_show.Statement.{statement}
 use Rattle.chain.proofs.names_show.Tie as tie
 use Rattle.chain.proofs.names_show.Reads as reads
 use Rattle.chain.proofs.names_show.Lts as lts
-use Rattle.chain.proofs.all_graphic.Reads as all-graphic-reads
+use Rattle.columns.proofs.all_graphic.Reads as all-graphic-reads
 use Rattle.chain.proofs.names_fit.Reads as names-fit-reads
 
 names-fit-requires : tie.Need-names-fit-requires

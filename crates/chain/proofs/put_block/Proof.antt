@@ -1,5 +1,6 @@
 -- The table's columns are a block line's first n. Assumes nothing.
-use Rattle.chain.proofs.WriteLaws.{block-codes, block-put}
+use Rattle.chain.proofs.BlockLaws.{codes-length}
+use Rattle.chain.proofs.WriteLaws.{block-put}
 use borrow.Author.Needs.{needs}
 use Rattle.chain.proofs.put_block.Statement.{statement}
 use Rattle.chain.proofs.put_block.Tie as tie
@@ -11,7 +12,7 @@ array-share-prefix-table : tie.Need-array-share-prefix-table
 array-share-prefix-table c = search needs
 
 slice-aggregate-put-line : tie.Need-slice-aggregate-put-line
-slice-aggregate-put-line c = search block-codes
+slice-aggregate-put-line c = search codes-length
 
 slice-aggregate-put-line-2 : tie.Need-slice-aggregate-put-line-2
 slice-aggregate-put-line-2 c = search needs

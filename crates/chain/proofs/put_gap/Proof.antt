@@ -5,7 +5,7 @@ use Rattle.chain.proofs.put_gap.Statement.{statement}
 use Rattle.chain.proofs.put_gap.Tie as tie
 use Rattle.chain.proofs.put_gap.Reads as reads
 use Rattle.chain.proofs.put_gap.Lts as lts
-use Rattle.chain.proofs.gap_to.Reads as gap-to-reads
+use Rattle.blocks.proofs.gap_after.Reads as gap-after-reads
 use Rattle.chain.proofs.put_block.Reads as put-block-reads
 use Rattle.columns.proofs.value_at.Reads as value-at-reads
 
@@ -21,8 +21,8 @@ add-value-at c = search needs
 value-at-requires-3 : tie.Need-value-at-requires-3
 value-at-requires-3 c κs = search needs
 
-gap-to-requires : tie.Need-gap-to-requires
-gap-to-requires c κs = search needs
+gap-after-requires : tie.Need-gap-after-requires
+gap-after-requires c κs = search needs
 
 value-at-requires-4 : tie.Need-value-at-requires-4
 value-at-requires-4 c κs = search needs
@@ -33,8 +33,8 @@ add-value-at-2 c = search needs
 value-at-requires-5 : tie.Need-value-at-requires-5
 value-at-requires-5 c κs = search needs
 
-gap-to-requires-2 : tie.Need-gap-to-requires-2
-gap-to-requires-2 c κs = search needs
+gap-after-requires-2 : tie.Need-gap-after-requires-2
+gap-after-requires-2 c κs = search needs
 
 put-block-requires : tie.Need-put-block-requires
 put-block-requires c κs = search needs
@@ -53,11 +53,11 @@ put-gap-spec =
     value-at-requires-2
     add-value-at
     value-at-requires-3
-    gap-to-requires
+    gap-after-requires
     value-at-requires-4
     add-value-at-2
     value-at-requires-5
-    gap-to-requires-2
+    gap-after-requires-2
     put-block-requires
     same-length
     returns)

@@ -5,8 +5,8 @@ use Rattle.chain.proofs.record_of.Statement.{statement}
 use Rattle.chain.proofs.record_of.Tie as tie
 use Rattle.chain.proofs.record_of.Reads as reads
 use Rattle.chain.proofs.record_of.Lts as lts
-use Rattle.chain.proofs.part_of.Reads as part-of-reads
-use Rattle.chain.proofs.strand_of.Reads as strand-of-reads
+use Rattle.ledger.proofs.Part.of_values.Reads as of-values-reads
+use Rattle.ledger.proofs.Strand.of_value.Reads as of-value-reads
 use Rattle.columns.proofs.value_at.Reads as value-at-reads
 
 value-at-requires : tie.Need-value-at-requires
@@ -18,8 +18,8 @@ value-at-requires-2 c κs = search needs
 value-at-requires-3 : tie.Need-value-at-requires-3
 value-at-requires-3 c κs = search needs
 
-part-of-requires : tie.Need-part-of-requires
-part-of-requires c κs = search needs
+of-values-requires : tie.Need-of-values-requires
+of-values-requires c κs = search needs
 
 value-at-requires-4 : tie.Need-value-at-requires-4
 value-at-requires-4 c κs = search needs
@@ -36,8 +36,8 @@ value-at-requires-7 c κs = search needs
 value-at-requires-8 : tie.Need-value-at-requires-8
 value-at-requires-8 c κs = search needs
 
-part-of-requires-2 : tie.Need-part-of-requires-2
-part-of-requires-2 c κs = search needs
+of-values-requires-2 : tie.Need-of-values-requires-2
+of-values-requires-2 c κs = search needs
 
 value-at-requires-9 : tie.Need-value-at-requires-9
 value-at-requires-9 c κs = search needs
@@ -45,8 +45,8 @@ value-at-requires-9 c κs = search needs
 value-at-requires-10 : tie.Need-value-at-requires-10
 value-at-requires-10 c κs = search needs
 
-strand-of-requires : tie.Need-strand-of-requires
-strand-of-requires c κs = search needs
+of-value-requires : tie.Need-of-value-requires
+of-value-requires c κs = search needs
 
 value-at-requires-11 : tie.Need-value-at-requires-11
 value-at-requires-11 c κs = search needs
@@ -63,16 +63,16 @@ returns c =
     (c .before .before .before .before .before .before .before .before .before .before .before .before .before .before .before .value-at .ensures)
     (c .before .before .before .before .before .before .before .before .before .before .before .before .before .before .value-at2 .ensures)
     (c .before .before .before .before .before .before .before .before .before .before .before .before .before .value-at3 .ensures)
-    (c .before .before .before .before .before .before .before .before .before .before .before .before .part-of .ensures)
+    (c .before .before .before .before .before .before .before .before .before .before .before .before .of-values .ensures)
     (c .before .before .before .before .before .before .before .before .before .before .before .value-at4 .ensures)
     (c .before .before .before .before .before .before .before .before .before .before .value-at5 .ensures)
     (c .before .before .before .before .before .before .before .before .before .value-at6 .ensures)
     (c .before .before .before .before .before .before .before .before .value-at7 .ensures)
     (c .before .before .before .before .before .before .before .value-at8 .ensures)
-    (c .before .before .before .before .before .before .part-of2 .ensures)
+    (c .before .before .before .before .before .before .of-values2 .ensures)
     (c .before .before .before .before .before .value-at9 .ensures)
     (c .before .before .before .before .value-at10 .ensures)
-    (c .before .before .before .strand-of .ensures)
+    (c .before .before .before .of-value .ensures)
     (c .before .before .value-at11 .ensures)
     (c .before .value-at12 .ensures)
     (c .value-at13 .ensures)
@@ -84,16 +84,16 @@ record-of-spec =
     value-at-requires
     value-at-requires-2
     value-at-requires-3
-    part-of-requires
+    of-values-requires
     value-at-requires-4
     value-at-requires-5
     value-at-requires-6
     value-at-requires-7
     value-at-requires-8
-    part-of-requires-2
+    of-values-requires-2
     value-at-requires-9
     value-at-requires-10
-    strand-of-requires
+    of-value-requires
     value-at-requires-11
     value-at-requires-12
     value-at-requires-13

@@ -5,7 +5,7 @@ use Rattle.chain.proofs.spans_fit.Statement.{statement}
 use Rattle.chain.proofs.spans_fit.Tie as tie
 use Rattle.chain.proofs.spans_fit.Reads as reads
 use Rattle.chain.proofs.spans_fit.Lts as lts
-use Rattle.chain.proofs.span_fits.Reads as span-fits-reads
+use Rattle.blocks.proofs.span_fits.Reads as span-fits-reads
 
 span-fits-requires : tie.Need-span-fits-requires
 span-fits-requires c κs = search needs

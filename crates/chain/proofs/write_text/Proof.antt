@@ -1,14 +1,14 @@
 -- The names and the values, then the lines. Assumes nothing.
-use Rattle.chain.proofs.WriteLaws.{text-wrote}
+use Rattle.chain.proofs.WriteLaws.{names-there, text-wrote}
 use borrow.Author.Needs.{needs}
 use Rattle.chain.proofs.write_text.Statement.{statement}
 use Rattle.chain.proofs.write_text.Tie as tie
 use Rattle.chain.proofs.write_text.Reads as reads
 use Rattle.chain.proofs.write_text.Lts as lts
 use Rattle.chain.proofs.name_room.Reads as name-room-reads
-use Rattle.chain.proofs.put_names.Reads as put-names-reads
 use Rattle.chain.proofs.values_of.Reads as values-of-reads
 use Rattle.chain.proofs.write_lines.Reads as write-lines-reads
+use Rattle.columns.proofs.put_names.Reads as put-names-reads
 
 name-room-requires : tie.Need-name-room-requires
 name-room-requires c κs = search needs
@@ -35,7 +35,7 @@ same-length : tie.Need-same-length
 same-length c = search needs
 
 returns : tie.Need-returns
-returns c = search text-wrote
+returns c = search (text-wrote, names-there)
 
 pub write-text-spec : {M : Type 1} → statement M
 write-text-spec =

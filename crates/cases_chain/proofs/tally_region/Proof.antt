@@ -1,4 +1,4 @@
--- `samples_lift::tally_region` meets its contract: a walk of its MIR.
+-- `cases_chain::tally_region` meets its contract: a walk of its MIR.
 -- Assumes nothing.
 use mathlib.Core.Path.{_≡_, refl, sym, _∙_}
 use Prim.Native.Nat.{ℕ, _<_, _^_}
@@ -40,16 +40,17 @@ use denote.Triple.Entry.{Vals, Args, onEntry}
 use denote.Triple.Statement.{Contract, Triple}
 use denote.Triple.Spec.{Meets, tripleOf}
 use denote.Triple.Table.{entered, cited}
-use denote.Triple.Walked.{Stays, stay-none, stay-none-slice, walkOf, AllGo, goes-none, goes-none-slice, Walks, ends-at, walked, walk-meets}
+use denote.Triple.Walked.{says, Stays, stay-none, stay-none-slice, walkOf, AllGo, goes-none, goes-none-slice, Walks, ends-at, walked, walk-meets}
 use denote.Exit.{yes}
 use Prim.Native.Nat.{min}
 use Rattle.cases.specs.Marks.{markedRow}
 use Rattle.rows.specs.Staging.{storedRows}
 use Rattle.table_lift.specs.Lifts.{RegionTallied}
 use Rattle.rows.proofs.Arrays.{row, filled, room-of, stage, unstage, lend-mut, back-mut, lend-shr, back-shr, front, mend}
-use Rattle.samples_lift.proofs.Lending.{lend-tally, back-tally}
-use Rattle.rows.proofs.Walk.{Datum, unit, uint, struct, enum, is-at, no-need, enters, answered, known, anew, silent}
+use Rattle.cases_chain.proofs.Lending.{lend-tally, back-tally}
+use Rattle.rows.proofs.Walk.{Datum, unit, uint, struct, enum, is-at, no-need, enters, answered, known, anew}
 use Rattle.ledger.specs.declared.Row.{Row}
+use Rattle.cases_chain.proofs.LiftLaws.{region-counted}
 use Rattle.ledger.proofs.Row as Row-t
 use Rattle.ledger.proofs.Row.Laws as Row-l
 use Rattle.chain.specs.declared.Chain.{Chain}
@@ -78,14 +79,14 @@ use Rattle.table_lift.proofs.tally_region as tally-region-f
 use Rattle.table_lift.proofs.tally_region.Symbol as tally-region-def
 use Rattle.table_lift.proofs.tally_region.Symbol.{name as #tally-region}
 use Rattle.table_lift.proofs.tally_region.Met as tally-region-thm
-use Rattle.samples_lift.proofs.tables.tallied as tallied-f
-use Rattle.samples_lift.proofs.tables.tallied.Symbol as tallied-def
-use Rattle.samples_lift.proofs.tables.tallied.Symbol.{name as #tallied}
-use Rattle.samples_lift.proofs.tables.tallied.Met as tallied-thm
-use Rattle.samples_lift.proofs.tables.tally_region.Key.{name as #key}
-use Rattle.samples_lift.proofs.tables.tally_region as f
-use Rattle.samples_lift.proofs.tables.tally_region.Statement as stated
-use Rattle.samples_lift.proofs.tables.tally_region.Code as code
+use Rattle.cases_chain.proofs.tallied as tallied-f
+use Rattle.cases_chain.proofs.tallied.Symbol as tallied-def
+use Rattle.cases_chain.proofs.tallied.Symbol.{name as #tallied}
+use Rattle.cases_chain.proofs.tallied.Met as tallied-thm
+use Rattle.cases_chain.proofs.tally_region.Key.{name as #key}
+use Rattle.cases_chain.proofs.tally_region as f
+use Rattle.cases_chain.proofs.tally_region.Statement as stated
+use Rattle.cases_chain.proofs.tally_region.Code as code
 
 abbrev rcol : Mutability → Ty
 rcol m = sliceTy (tyRef erased m (pointee (Row-t.the-row .written)))
@@ -210,7 +211,7 @@ module _ {M : Type 1} (𝓤 : URA M) (H : Heap 𝓤) (A : Atoms 𝓤) (W : Given
         move ! (20 ∷ 21 ∷ []) $ free1 ! $ move ! (18 ∷ 19 ∷ []) $ free1 ! $ move ! (16 ∷ 17 ∷ []) $ free1 ! $ move ! (14 ∷ 15 ∷ []) $ free1 ! $
         move ! (12 ∷ 13 ∷ []) $ free1 ! $ move ! (10 ∷ 11 ∷ []) $ free1 ! $ move ! (8 ∷ 9 ∷ []) $ free1 ! $ move ! (6 ∷ 7 ∷ []) $ free1 ! $ free0 ! $
         keep ! (2 ∷ 5 ∷ 1 ∷ 4 ∷ 0 ∷ 3 ∷ []) $
-        suffices ! _ (ends-at 𝓤 H A f.ended stayed (f.clauses 𝓤 H A mem run) W in-bound (D-Tallied .val r₅) r₅ (tt, (tt, (tt, (tt, (tt, (tt, (tt, tt))))))) (tt, (tt, (tt, (tt, (tt, (tt, (tt, tt)))))))) $ silent ! $
+        suffices ! _ (ends-at 𝓤 H A f.ended stayed (f.clauses 𝓤 H A mem run) W in-bound (D-Tallied .val r₅) r₅ (tt, (tt, (tt, (tt, (tt, (tt, (tt, tt))))))) (tt, (tt, (tt, (tt, (tt, (tt, (tt, tt)))))))) $ says ! (region-counted r₂ ts qs zs ys₁₀ (ws₃ .0) e₂ len₁₀ e₃ rec tl (ws₄ .0) sa ea r₄ r₅ e₄ e₅) $
         nothing ! $ move ! (5 ∷ 0 ∷ []) $ join ! $ move ! (3 ∷ 0 ∷ []) $ join ! $ move ! (1 ∷ 0 ∷ []) $ join ! $ nothing ! $
         anew ! (uint w64) ea (vint w64 ea) (refl, g-ea) $ fjoin ! $ anew ! (uint w64) sa (vint w64 sa) (refl, g-sa) $ fjoin ! $ move ! (4 ∷ 0 ∷ []) $ fjoin ! $
         move ! (3 ∷ 0 ∷ []) $ fjoin ! $ move ! (2 ∷ 0 ∷ []) $ fjoin ! $ anew ! D-Chain rec (D-Chain .val rec) g-rec $ fjoin ! $
@@ -240,4 +241,4 @@ tally-region-spec 𝓤 H 𝓜 𝓖 𝓡 =
     (cited 𝓤 H (Of-table-rows 𝓤 H (𝓖 .A) (𝓜 .mem) (𝓡 .run)) 𝓜 𝓡 code.env #table-rows table-rows-def.routine code.calls-cases·table-rows (table-rows-thm.met 𝓤 H 𝓜 𝓖 𝓡))
     (cited 𝓤 H (Of-store-rows 𝓤 H (𝓖 .A) (𝓜 .mem) (𝓡 .run)) 𝓜 𝓡 code.env #store-rows store-rows-def.routine code.calls-rows·store-rows (store-rows-thm.met 𝓤 H 𝓜 𝓖 𝓡))
     (cited 𝓤 H (Of-tally-region 𝓤 H (𝓖 .A) (𝓜 .mem) (𝓡 .run)) 𝓜 𝓡 code.env #tally-region tally-region-def.routine code.calls-table-lift·tally-region (tally-region-thm.met 𝓤 H 𝓜 𝓖 𝓡))
-    (cited 𝓤 H (Of-tallied 𝓤 H (𝓖 .A) (𝓜 .mem) (𝓡 .run)) 𝓜 𝓡 code.env #tallied tallied-def.routine code.calls-samples-lift·tables·tallied (tallied-thm.met 𝓤 H 𝓜 𝓖 𝓡)))
+    (cited 𝓤 H (Of-tallied 𝓤 H (𝓖 .A) (𝓜 .mem) (𝓡 .run)) 𝓜 𝓡 code.env #tallied tallied-def.routine code.calls-cases-chain·tallied (tallied-thm.met 𝓤 H 𝓜 𝓖 𝓡)))

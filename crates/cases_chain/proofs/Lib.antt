@@ -1,0 +1,4 @@
+pub mod FillLaws
+pub mod TableLaws
+pub mod LiftLaws
+pub mod Lending
