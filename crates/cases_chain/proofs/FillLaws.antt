@@ -10,9 +10,9 @@ use Rattle.ledger.specs.declared.Row.{Row}
 use Rattle.ledger.specs.Limits.{blockLimit}
 use Rattle.text.proofs.Laws.{either}
 use Rattle.blocks.specs.Rows.{tableOf, targetsOf, queriesOf, sizesOf}
-use Rattle.blocks.proofs.TableLaws.{table-length, take-map}
+use Rattle.blocks.proofs.TableLaws.{table-length, table-take, take-map}
 use Rattle.rows.specs.Staging.{allReach, Loaded, firstRows, storedRows, Columns, Fronts}
-use Rattle.rows.proofs.StagingLaws.{first-fronts, fronts-stored, loaded-targets, loaded-queries, loaded-sizes, put-targets, put-queries, put-sizes}
+use Rattle.rows.proofs.StagingLaws.{fronts-stored, loaded-targets, loaded-queries, loaded-sizes, put-targets, put-queries, put-sizes}
 use Rattle.cases_chain.specs.Tables.{tableLimit, Even}
 
 -- so many first numbers of a column, and at most as many as it has
@@ -50,7 +50,7 @@ module _ (n : ℕ) (ts qs zs : List ℕ) (marked table : List Row) (en : n ≡ m
       let c : take n (tableOf (take n ts) (take n qs) (take n zs) ++ drop n marked) ≡ tableOf (take n ts) (take n qs) (take n zs) =
       take-append-le n (tableOf (take n ts) (take n qs) (take n zs)) (drop n marked) (omega arith) ∙ take-all n (tableOf (take n ts) (take n qs) (take n zs)) (omega arith) in
       ap (take n) (stored ∙ fronts-stored n _ _ _ ts qs zs marked fronts) ∙ c
-      ∙ rw (take-least n ts ts en refl, take-least n ts qs en (even .queries), take-least n ts zs en (even .sizes)) (sym (first-fronts tableLimit ts qs zs))
+      ∙ rw (take-least n ts ts en refl, take-least n ts qs en (even .queries), take-least n ts zs en (even .sizes)) (sym (table-take tableLimit ts qs zs))
 
   column : (g : Row → ℕ) → map g (take n table) ≡ take n (map g (storedRows n ts qs zs marked))
   column g = sym (take-map g n table) ∙ ap (λ (t : List Row). take n (map g t)) stored

@@ -17,7 +17,8 @@ use Rattle.chain.specs.Records.{chainTargets, chainQueries, chainSizes}
 use Rattle.chain.specs.Read.{chainRead}
 use Rattle.chain.specs.Write.{recordCheck, ChainWrote}
 use Rattle.table_chain.specs.Rows.{tableAfter, RowsRead}
-use Rattle.table_chain.proofs.RowLaws.{counted, read-of}
+use Rattle.rows.proofs.ReaderLaws.{Reads, read-of}
+use Rattle.table_chain.proofs.RowLaws.{chain-reads}
 use Rattle.cases_chain.specs.Tables.{tableLimit, TableRead, TableChecked, TableWrote}
 use Rattle.cases_chain.proofs.FillLaws.{filled-targets, filled-queries, filled-sizes, copied}
 
@@ -54,10 +55,10 @@ module _ (s : List ℕ) (room n : ℕ) (marked after : List Row) (ts ts′ qs qs
 
   held : Columns ts qs zs → (r : Chain) → x ≡ Accepted r → Fronts (r .blockCount) (min room blockLimit) (chainTargets s r) (chainQueries s r) (chainSizes s r) ts′ qs′ zs′
   held cols r k =
-      let o = read-of s (length (take n marked)) r (sym (read .is) ∙ k) in
-      let l = counted s r (o .checked) in
-      copied room n (r .blockCount) marked after ts ts′ qs qs′ zs zs′ _ _ _ en long (omega (arith, o .fits, lent)) (read .rows ∙ ap (λ (y : ChainAnswer). tableAfter y s (take n marked)) k)
-      (l .targets) (l .queries) (l .sizes) all loaded et eq ez cols
+      let l = chain-reads s in
+      let o = read-of l (length (take n marked)) r (sym (read .is) ∙ k) in
+      copied room n (r .blockCount) marked after ts ts′ qs qs′ zs zs′ _ _ _ en long (omega (arith, o .1, lent)) (read .rows ∙ ap (λ (y : ChainAnswer). tableAfter y s (take n marked)) k)
+      (l .targets r (o .0)) (l .queries r (o .0)) (l .sizes r (o .0)) all loaded et eq ez cols
 
   pub table-read : TableRead s room ts ts′ qs qs′ zs zs′ x
   table-read = record { is = answer; columns = λ cols. record { is = answer; held = held cols } }
