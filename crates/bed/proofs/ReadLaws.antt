@@ -4,8 +4,7 @@ use mathlib.Core.Bool.{Bool, true, false}
 use mathlib.Core.List.{List, [], _∷_}
 use Prim.Native.Nat.{ℕ, zero, suc, _+_, _-_, _*_, _≤_, _<_}
 use native.Mathlib.Omega.{arith}
-use lib.ListN.{length, set, getD, take, drop, length-drop, length-set}
-use lib.Seq.{take-all}
+use lib.ListN.{length, set, getD, take, drop, length-set}
 use lib.Dec.{eqb}
 use borrow.Author.Tests.{le-leb, lt-leb, lt-ltb, le-ltb, ne-eqb, eq-eqb, eqb-true, eqb-false}
 use Rattle.ledger.specs.Limits.{blockLimit}
@@ -19,6 +18,7 @@ use Rattle.text.specs.declared.Check.the-variants.{Holds}
 use Rattle.text.specs.declared.Check.the-variants as check
 use Rattle.text.specs.Checks.{require, lastLineCheck}
 use Rattle.blocks.specs.Blocks.{blocksFill}
+use Rattle.blocks.proofs.TakeLaws.{part-all}
 use Rattle.bed.specs.declared.Bed.{Bed}
 use Rattle.bed.specs.declared.BedAnswer.{BedAnswer}
 use Rattle.bed.specs.declared.BedAnswer.the-variants.{Accepted, Refused}
@@ -57,10 +57,6 @@ module _ (r : Bed) (l : List ℕ) where
 
   pub block-default : (v : ℕ) (l₁ l₂ : List ℕ) → (r .words ≡ 12 → ⊥) → v ≡ r .chromEnd - r .chromStart → l₁ ≡ set l 0 v → l₂ ≡ set l₁ blockLimit 0 → l₂ ≡ withDefault r l
   block-default v l₁ l₂ h e e₁ e₂ = rw (ne-eqb (r .words) 12 h, e₂, e₁, e)
-
--- a part of the working room from a place on is what stands there
-pub part-all : (l : List ℕ) (b : ℕ) → take (length l - b) (drop b l) ≡ drop b l
-part-all l b = take-all (length l - b) (drop b l) (rw length-drop (omega arith))
 
 -- the blocks, tested in the working room
 module _ (s : List ℕ) (r : Bed) (l : List ℕ) (held : Blocked s r l) (t : Bool) (v : ℕ) (ev : v ≡ r .chromEnd - r .chromStart)

@@ -16,7 +16,7 @@ use Rattle.bed.specs.declared.BedAnswer.{BedAnswer}
 use Rattle.bed.specs.declared.BedAnswer.the-variants.{Accepted, Refused}
 use Rattle.bed.specs.Records.{bedSizes, bedStarts, bedTargets, bedQueries}
 use Rattle.bed.specs.Read.{roomCheck, bedCheck, bedRead, Staged, Stored, RowsStored, BedRead}
-use Rattle.bed.proofs.ReadLaws.{part-all}
+use Rattle.blocks.proofs.TakeLaws.{part-all}
 use Rattle.bed.proofs.AcceptLaws.{accepted-fills, accepted-span}
 use Rattle.bed.proofs.ValidLaws.{accepted-end}
 

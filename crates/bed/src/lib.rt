@@ -460,15 +460,6 @@ fn put_lists(r: Bed, targets: &[u64], sizes: &[u64], lists: &mut [u64])
     blocks::put_subtracted(targets, count, r.chromStart, &mut lists[b..]);
 }
 
-// Room for two names.
-const NAMES: usize = 2 * ledger::NAME_LIMIT;
-
-fn name_room() -> [u8; NAMES]
-    ensures { λ r. ⌜ length r ≡ 2 * nameLimit ⌝ }
-{
-    [0; NAMES]
-}
-
 // Writes the standard text of a record that passed the checks.
 fn write_text(
     r: Bed,
@@ -482,7 +473,7 @@ fn write_text(
     ensures { λ x. ⌜ Wrote (bedText r (now (chrom .entry)) (now (name .entry)) (now (targets .entry)) (now (sizes .entry)))
         (now (buf .entry)) (now (buf .exit)) x ⌝ }
 {
-    let mut names = name_room();
+    let mut names = columns::name_room();
     columns::put_names(chrom, name, &mut names);
     let mut lists = working_room();
     put_lists(r, targets, sizes, &mut lists);

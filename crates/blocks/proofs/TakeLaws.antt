@@ -3,8 +3,8 @@ use mathlib.Core.Path.{_≡_, sym}
 use mathlib.Core.List.{List}
 use Prim.Native.Nat.{ℕ, _+_, _-_, _≤_, _<_}
 use native.Mathlib.Omega.{arith}
-use lib.ListN.{getD, take}
-use lib.Seq.{getD-take}
+use lib.ListN.{length, getD, take, drop, length-drop}
+use lib.Seq.{getD-take, take-all}
 use Rattle.blocks.specs.Rules.{Fills, Sums, Ranged}
 
 -- lists that agree in their first n numbers
@@ -50,3 +50,7 @@ ranged-take least most n vs = ranged-same n vs (take n vs) (fewer n vs) least mo
 
 pub ranged-back : (least most n : ℕ) (vs : List ℕ) → Ranged least most n (take n vs) → Ranged least most n vs
 ranged-back least most n vs = ranged-same n (take n vs) vs (more n vs) least most
+
+-- a list from a place on, lent as a part to its end, is whole
+pub part-all : (l : List ℕ) (b : ℕ) → take (length l - b) (drop b l) ≡ drop b l
+part-all l b = take-all (length l - b) (drop b l) (rw length-drop (omega arith))

@@ -1,9 +1,9 @@
 // The rules of blocks over flat slices: order, span, sums and ranges; and moving blocks between tables.
 ghost use mathlib.Core.Path.{_≡_};
-ghost use Prim.Native.Nat.{_+_, _-_, min};
-ghost use lib.ListN.{take};
+ghost use Prim.Native.Nat.{_+_, _-_, _*_, min};
+ghost use lib.ListN.{length, take};
 ghost use lib.Seq.{sets};
-ghost use Rattle.ledger.specs.Limits.{largestNumber};
+ghost use Rattle.ledger.specs.Limits.{blockLimit, largestNumber};
 ghost use Rattle.blocks.specs.Blocks.{blocksFill, areSums, sumsWithin, shiftedWithin, subtracted, capped, sumOf, gapCount, gapBases, allBetween, rowNumbersFit, spanFits, countFits, rowsOf};
 
 // How many of the first so many rows a slice of some length has.
@@ -199,6 +199,15 @@ pub fn rows_of(targets: &[u64], queries: &[u64], sizes: &[u64]) -> usize
         return a;
     }
     c
+}
+
+// Working room for three lists of a record's blocks.
+pub const ROOM: usize = 3 * ledger::BLOCK_LIMIT as usize;
+
+pub fn working_room() -> [u64; ROOM]
+    ensures { λ r. ⌜ length r ≡ 3 * blockLimit ⌝ }
+{
+    [0; ROOM]
 }
 
 // Whether a count of blocks is one: 1 to the limit, and not past the table.

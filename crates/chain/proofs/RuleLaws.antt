@@ -8,9 +8,8 @@ use lib.ListN.{length, take}
 use lib.Seq.{length-take-le}
 use lib.Dec.{leb, ltb}
 use borrow.Author.Tests.{leb-true, ltb-true, le-leb, lt-ltb}
-use Rattle.ledger.specs.declared.Strand.{Strand}
-use Rattle.ledger.specs.declared.Strand.the-variants.{Plus, Minus, Dot}
 use Rattle.ledger.specs.Strands.{isTold}
+use Rattle.ledger.proofs.Laws.{told-of, told-is}
 use Rattle.ledger.specs.Limits.{blockLimit, nameLimit, largestPosition, chainScoreLimit, chainIdLimit}
 use Rattle.text.proofs.TextLaws.{both}
 use Rattle.blocks.specs.Blocks.{blocksFill, allBetween, countFits, rowsOf, rowNumbersFit, spanFits}
@@ -21,16 +20,6 @@ use Rattle.chain.specs.Tests.{namesFit, sizeFits, fieldsFit, spansFit, r
 use Rattle.chain.specs.Rules.{ChainRules}
 use Rattle.columns.specs.Names.{lengthFits}
 use Rattle.columns.proofs.WordLaws.{and-i}
-
-strand-of : (s : Strand) → isTold s ≡ true → s ≡ Dot → ⊥
-strand-of Plus e d = let z : _≡_ {A = ℕ} 0 1 = cc in omega arith
-strand-of Minus e d = let z : _≡_ {A = ℕ} 0 1 = cc in omega arith
-strand-of Dot e d = let z : _≡_ {A = ℕ} 0 1 = cc in omega arith
-
-strand-is : (s : Strand) → (s ≡ Dot → ⊥) → isTold s ≡ true
-strand-is Plus h = refl
-strand-is Minus h = refl
-strand-is Dot h = absurd (h refl)
 
 pub span-of : (a b c : ℕ) → spanFits a b c ≡ true → (a < b) × (b ≤ c)
 span-of a b c e = let p = both (ltb a b) (leb b c) e in (ltb-true a b (p .0), leb-true b c (p .1))
@@ -83,7 +72,7 @@ rules-of r ts qs zs e =
       tNameShort = leb-true _ _ (tName .1);
       qNameSome = leb-true _ _ (qName .0);
       qNameShort = leb-true _ _ (qName .1);
-      stranded = strand-of (r .qStrand) (c .0);
+      stranded = told-of (r .qStrand) (c .0);
       scoreRange = leb-true _ _ (score .0);
       tSizeSome = leb-true _ _ (tSizes .0);
       tSizeRange = leb-true _ _ (tSizes .1);
@@ -129,7 +118,7 @@ rules-is r ts qs zs b =
     let tBlocks = fills-is _ _ n (take n ts) (take n zs) lt lz (fills-take _ _ n ts zs (b .tBlocks)) in
     let qBlocks = fills-is _ _ n (take n qs) (take n zs) lq lz (fills-take _ _ n qs zs (b .qBlocks)) in
     let rows : rowsFit r (take n ts) (take n qs) (take n zs) ≡ true = and-i _ _ tBlocks qBlocks in
-    and-i _ _ counts (and-i _ _ (and-i _ _ tName qName) (and-i _ _ (strand-is (r .qStrand) (b .stranded)) (and-i _ _ fields (and-i _ _ numbers (and-i _ _ spans rows)))))
+    and-i _ _ counts (and-i _ _ (and-i _ _ tName qName) (and-i _ _ (told-is (r .qStrand) (b .stranded)) (and-i _ _ fields (and-i _ _ numbers (and-i _ _ spans rows)))))
 
 -- THE TEST SEES ONLY THE ROWS IN USE
 module _ (r : Chain) (ts ts′ qs qs′ zs zs′ : List ℕ) where

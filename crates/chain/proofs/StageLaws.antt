@@ -3,8 +3,8 @@ use mathlib.Core.Path.{_≡_, refl, sym, _∙_}
 use mathlib.Core.List.{List, [], _∷_, map}
 use Prim.Native.Nat.{ℕ, _-_, _*_, _≤_, _<_}
 use native.Mathlib.Omega.{arith}
-use lib.ListN.{length, replicate, getD, take, drop, length-drop}
-use lib.Seq.{sets, take-all}
+use lib.ListN.{length, replicate, getD, take, drop}
+use lib.Seq.{sets}
 use borrow.Author.Tests.{le-leb, lt-leb}
 use Rattle.ledger.specs.Limits.{blockLimit, largestPosition}
 use Rattle.ledger.specs.declared.Reason.the-variants.{NoRoom}
@@ -26,6 +26,7 @@ use Rattle.columns.specs.Spells.{Spells, firsts}
 use Rattle.columns.proofs.SpellsLaws.{columns-spell}
 use Rattle.columns.proofs.PlaceLaws.{spelt-at, value-first}
 use Rattle.blocks.specs.Blocks.{rowsOf}
+use Rattle.blocks.proofs.TakeLaws.{part-all}
 use Rattle.chain.specs.declared.Chain.{Chain}
 use Rattle.chain.specs.declared.Ending.{Ending}
 use Rattle.chain.specs.declared.Lines.{Lines}
@@ -214,9 +215,6 @@ module _ (s : List ℕ) (r : Chain) (l ts qs zs : List ℕ) (held : Held s r l) 
   unfolding roomCheck
   rows-short h = record { is = rw (← er, lt-leb (r .blockCount) room h); targets = refl; queries = refl; sizes = refl }
 
-  rest-all : (k : ℕ) → take (length l - k) (drop k l) ≡ drop k l
-  rest-all k = take-all (length l - k) (drop k l) (rw length-drop (omega arith))
-
   pub rows-stored : (ts′ qs′ zs′ : List ℕ) → r .blockCount ≤ room → ts′ ≡ sets ts 0 (take (r .blockCount) l)
       → qs′ ≡ sets qs 0 (take (r .blockCount) (take (length l - blockLimit) (drop blockLimit l)))
       → zs′ ≡ sets zs 0 (take (r .blockCount) (take (length l - 2 * blockLimit) (drop (2 * blockLimit) l))) → RowsStored s r ts ts′ qs qs′ zs zs′ (Accepted r)
@@ -224,8 +222,8 @@ module _ (s : List ℕ) (r : Chain) (l ts qs zs : List ℕ) (held : Held s r l) 
   rows-stored ts′ qs′ zs′ h et eq ez = record {
     is = rw (← er, le-leb (r .blockCount) room h);
     targets = rw (et, held .targets);
-    queries = rw (eq, rest-all blockLimit, held .queries);
-    sizes = rw (ez, rest-all (2 * blockLimit), held .sizes);
+    queries = rw (eq, part-all l blockLimit, held .queries);
+    sizes = rw (ez, part-all l (2 * blockLimit), held .sizes);
   }
 
 -- the reader: the checks, then the rows

@@ -324,18 +324,11 @@ fn stage(text: &[u8], rows: &mut [u64]) -> ChainAnswer
     }
 }
 
-// Working room for the rows of a record: targets, queries, sizes.
-fn working_room() -> [u64; 1536]
-    ensures { λ r. ⌜ length r ≡ 3 * blockLimit ⌝ }
-{
-    [0; 1536]
-}
-
 // THE TEXT CHECKER: what the reader answers, given room.
 pub fn check_chain_text(text: &[u8]) -> ChainAnswer
     ensures { λ r. ⌜ r ≡ chainCheck (now (text .entry)) ⌝ }
 {
-    let mut rows = working_room();
+    let mut rows = blocks::working_room();
     stage(text, &mut rows)
 }
 
@@ -379,7 +372,7 @@ pub fn read_chain(
     ensures { λ x. ⌜ ChainRead (now (text .entry)) (now (targets .entry)) (now (targets .exit)) (now (queries .entry))
         (now (queries .exit)) (now (sizes .entry)) (now (sizes .exit)) x ⌝ }
 {
-    let mut rows = working_room();
+    let mut rows = blocks::working_room();
     match stage(text, &mut rows) {
         ChainAnswer::Refused(x) => ChainAnswer::Refused(x),
         ChainAnswer::Accepted(r) => store_rows(text, r, &rows, targets, queries, sizes),
@@ -541,13 +534,6 @@ fn values_of(r: Chain, tName: usize, qName: usize) -> [u64; 26]
     ]
 }
 
-// Room for two names.
-fn name_room() -> [u8; 128]
-    ensures { λ r. ⌜ length r ≡ 2 * nameLimit ⌝ }
-{
-    [0; 128]
-}
-
 // A block line of 3 words, or of 1.
 fn put_block(buf: &mut [u8], at: usize, n: usize, z: u64, dt: u64, dq: u64) -> usize
     requires { ⌜ n ≤ 3 ⌝ }
@@ -675,7 +661,7 @@ fn write_text(
     ensures { λ x. ⌜ Wrote (chainText r (now (tName .entry)) (now (qName .entry)) (now (targets .entry)) (now (queries .entry))
         (now (sizes .entry))) (now (buf .entry)) (now (buf .exit)) x ⌝ }
 {
-    let mut names = name_room();
+    let mut names = columns::name_room();
     columns::put_names(tName, qName, &mut names);
     let values = values_of(r, tName.len(), qName.len());
     let count = r.blockCount as usize;

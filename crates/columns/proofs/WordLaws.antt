@@ -9,7 +9,6 @@ use lib.ListN.{length, take, drop, getD, replicate, length-take, List·getD-appe
 use lib.Seq.{sets, sets-eq, take-all, take-length, getD-append-add, getD-drop}
 use lib.Dec.{leb, eqb}
 use borrow.Author.Tests.{le-leb, leb-true, eqb-true}
-use Rattle.ledger.specs.declared.Refusal.{Refusal}
 use Rattle.ledger.specs.declared.Strand.{Strand}
 use Rattle.ledger.specs.declared.Strand.the-variants.{Plus, Minus, Dot}
 use Rattle.ledger.specs.Limits.{nameLimit}
@@ -17,10 +16,6 @@ use Rattle.ledger.specs.Strands.{strandLetter, strandOf, strandIs}
 use Rattle.ledger.proofs.Laws.{strand-of-letter}
 use Rattle.text.specs.declared.Class.the-variants.{Word, Graphic}
 use Rattle.text.specs.declared.Extent.{Extent}
-use Rattle.text.specs.declared.Check.{Check}
-use Rattle.text.specs.declared.Check.the-variants.{Holds}
-use Rattle.text.specs.declared.Check.the-variants as check
-use Rattle.text.specs.Checks.{pickCheck}
 use Rattle.text.specs.Scan.{run, endOf}
 use Rattle.text.specs.Words.{wordAt, bytesOf}
 use Rattle.text.specs.Parts.{partBytes}
@@ -40,12 +35,6 @@ use Rattle.columns.specs.Spells.{Spells, spells-none, spells-more}
 
 pub and-i : (a b : Bool) → a ≡ true → b ≡ true → (a && b) ≡ true
 and-i a b h k = rw (h, k)
-
--- two checks that hold
-pub passed : (a b : Bool) (x y : Refusal) → pickCheck a (pickCheck b Holds (check.Refused x)) (check.Refused y) ≡ Holds → (a ≡ true) × (b ≡ true)
-passed true true x y e = (refl, refl)
-passed true false x y e = absurd (let q : _≡_ {A = ℕ} 0 1 = cc in omega arith)
-passed false b x y e = absurd (let q : _≡_ {A = ℕ} 0 1 = cc in omega arith)
 
 -- ---- words, and the parts they stand in
 pub word-length : (s : List ℕ) (k : ℕ) → length (bytesOf s (wordAt s 0 k)) ≡ wordAt s 0 k .end - wordAt s 0 k .start

@@ -3,7 +3,7 @@ ghost use mathlib.Core.Path.{_≡_};
 ghost use Prim.Native.Nat.{_+_, _*_, _≤_, min};
 ghost use mathlib.Core.List.{map};
 ghost use lib.ListN.{length, set, getD};
-ghost use Rattle.ledger.specs.Limits.{blockLimit};
+ghost use Rattle.ledger.specs.Limits.{nameLimit, blockLimit};
 ghost use Rattle.text.specs.Words.{bytesOf};
 ghost use Rattle.writing.specs.Puts.{Put};
 ghost use Rattle.writing.specs.Answers.{Wrote};
@@ -276,6 +276,15 @@ pub fn read_line(text: &[u8], table: &[u8], out: &mut [u64], lists: &mut [u64]) 
             Check::Holds => read_counted(text, table, out, lists),
         },
     }
+}
+
+// Room for two names.
+pub const NAMES: usize = 2 * ledger::NAME_LIMIT;
+
+pub fn name_room() -> [u8; NAMES]
+    ensures { λ r. ⌜ length r ≡ 2 * nameLimit ⌝ }
+{
+    [0; NAMES]
 }
 
 // Puts two names into a text of their own, as far as it reaches.

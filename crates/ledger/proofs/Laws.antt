@@ -3,6 +3,7 @@ use mathlib.Core.Path.{_≡_, refl, sym, ap, _∙_}
 use mathlib.Core.List.{List, [], _∷_}
 use mathlib.Core.Bool.{Bool, true, false}
 use Prim.Native.Nat.{ℕ}
+use native.Mathlib.Omega.{arith}
 use lib.Dec.{eqb}
 use borrow.Author.Tests.{ne-eqb}
 use lib.ListN.{getD}
@@ -13,7 +14,7 @@ use Rattle.ledger.specs.declared.Strand.the-variants.{Plus, Minus, Dot}
 use Rattle.ledger.specs.declared.Lettered.{Lettered}
 use Rattle.ledger.specs.declared.Lettered.the-variants.{Is, NoStrand}
 use Rattle.ledger.specs.Reasons.{reasonNumber}
-use Rattle.ledger.specs.Strands.{strandOpposite, strandLetter, pickLettered, strandOf, strandIs}
+use Rattle.ledger.specs.Strands.{strandOpposite, strandLetter, pickLettered, strandOf, strandIs, isTold}
 
 pub opposite-twice : (s : Strand) → strandOpposite (strandOpposite s) ≡ s
 opposite-twice Plus = refl
@@ -75,3 +76,14 @@ module _ (v : ℕ) where
       go : (t : Bool) → Dot ≡ strandIs (pickLettered t (Is Dot) NoStrand)
       go true = refl
       go false = refl
+
+-- a strand is told exactly where it is not `.`
+pub told-of : (s : Strand) → isTold s ≡ true → s ≡ Dot → ⊥
+told-of Plus h e = let z : _≡_ {A = ℕ} 0 1 = cc in omega arith
+told-of Minus h e = let z : _≡_ {A = ℕ} 0 1 = cc in omega arith
+told-of Dot h e = let z : _≡_ {A = ℕ} 0 1 = cc in omega arith
+
+pub told-is : (s : Strand) → (s ≡ Dot → ⊥) → isTold s ≡ true
+told-is Plus h = refl
+told-is Minus h = refl
+told-is Dot h = absurd (h refl)

@@ -39,7 +39,7 @@ use Rattle.psl.specs.declared.PslAnswer.the-variants.{Accepted, Refused}
 use Rattle.psl.specs.Table.{pslColumns}
 use Rattle.psl.specs.Records.{countsOf, pslRecord, pslSizes, pslQueries, pslTargets}
 use Rattle.psl.specs.Read.{thenCheck, roomCheck, spanCheck, rowCheck, afterLine, pslCheck, pslRead, CountsRange, Listed, Ready, Staged, RowsStored, PslRead}
-use Rattle.psl.proofs.ReadLaws.{part-all}
+use Rattle.blocks.proofs.TakeLaws.{part-all}
 
 -- the codes of the table in the code
 abbrev pub pslCodes : List ℕ

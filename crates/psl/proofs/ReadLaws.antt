@@ -4,8 +4,7 @@ use mathlib.Core.Bool.{Bool, _&&_}
 use mathlib.Core.List.{List}
 use Prim.Native.Nat.{ℕ, _+_, _-_, _*_}
 use native.Mathlib.Omega.{arith}
-use lib.ListN.{length, take, drop, length-drop}
-use lib.Seq.{take-all}
+use lib.ListN.{length, take, drop}
 use lib.Dec.{eqb}
 use Rattle.ledger.specs.declared.Reason.the-variants.{BlockRules, CountsDisagree}
 use Rattle.ledger.specs.declared.Refusal.{Refusal}
@@ -16,6 +15,7 @@ use Rattle.text.specs.Checks.{require}
 use Rattle.ledger.specs.Limits.{blockLimit}
 use Rattle.blocks.specs.Blocks.{capped, sumOf, gapCount, gapBases}
 use Rattle.blocks.proofs.GapLaws.{capped-eq}
+use Rattle.blocks.proofs.TakeLaws.{part-all}
 use Rattle.psl.specs.declared.Counts.{Counts}
 use Rattle.psl.specs.declared.Psl.{Psl}
 use Rattle.psl.specs.declared.PslAnswer.the-variants.{Accepted, Refused}
@@ -40,10 +40,6 @@ module _ (c : Counts) (range : CountsRange c) (ts qs zs : List ℕ) (sum qGaps q
     capped-eq (gapBases qs zs) (c .qBaseInsert) (omega (arith, range .qBaseInsert)),
     capped-eq (gapBases ts zs) (c .tBaseInsert) (omega (arith, range .tBaseInsert)),
   )
-
--- a part of the working room from a place on is what stands there
-pub part-all : (l : List ℕ) (b : ℕ) → take (length l - b) (drop b l) ≡ drop b l
-part-all l b = take-all (length l - b) (drop b l) (rw length-drop (omega arith))
 
 -- the rows, tested in the working room
 module _ (s : List ℕ) (r : Psl) (l : List ℕ) (ready : Ready s r l) where

@@ -8,9 +8,8 @@ use lib.ListN.{length, take}
 use lib.Seq.{length-take-le}
 use lib.Dec.{leb, ltb}
 use borrow.Author.Tests.{leb-true, ltb-true, eqb-true, le-leb, lt-ltb, eq-eqb}
-use Rattle.ledger.specs.declared.Strand.{Strand}
-use Rattle.ledger.specs.declared.Strand.the-variants.{Plus, Minus, Dot}
 use Rattle.ledger.specs.Strands.{isTold}
+use Rattle.ledger.proofs.Laws.{told-of, told-is}
 use Rattle.ledger.specs.Limits.{blockLimit, nameLimit, largestPosition}
 use Rattle.text.proofs.TextLaws.{both}
 use Rattle.blocks.specs.Blocks.{countFits, rowsOf, rowNumbersFit, spanFits}
@@ -24,17 +23,6 @@ use Rattle.psl.specs.Tests.{sideFits, countNumbersFit, fieldsFit, spansF
 use Rattle.psl.specs.Rules.{SpanIn, CountRules, SideRange, PslRules}
 use Rattle.columns.specs.Names.{lengthFits}
 use Rattle.columns.proofs.WordLaws.{and-i}
-
--- a strand that is told
-pub told-of : (t : Strand) → isTold t ≡ true → t ≡ Dot → ⊥
-told-of Plus h e = let z : _≡_ {A = ℕ} 0 1 = cc in omega arith
-told-of Minus h e = let z : _≡_ {A = ℕ} 0 1 = cc in omega arith
-told-of Dot h e = let z : _≡_ {A = ℕ} 0 1 = cc in omega arith
-
-pub told-is : (t : Strand) → (t ≡ Dot → ⊥) → isTold t ≡ true
-told-is Plus h = refl
-told-is Minus h = refl
-told-is Dot h = absurd (h refl)
 
 -- a span
 pub span-of : (x : Side) → spanFits (x .start) (x .end) (x .size) ≡ true → SpanIn x

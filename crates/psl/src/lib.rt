@@ -255,20 +255,11 @@ fn stage(text: &[u8], lists: &mut [u64]) -> PslAnswer
     }
 }
 
-// Working room for the sizes and the starts of a record's blocks.
-const ROOM: usize = 3 * ledger::BLOCK_LIMIT as usize;
-
-fn working_room() -> [u64; ROOM]
-    ensures { λ r. ⌜ length r ≡ 3 * blockLimit ⌝ }
-{
-    [0; ROOM]
-}
-
 // THE TEXT CHECKER: what the reader answers, given room.
 pub fn check_psl_text(text: &[u8]) -> PslAnswer
     ensures { λ r. ⌜ r ≡ pslCheck (now (text .entry)) ⌝ }
 {
-    let mut lists = working_room();
+    let mut lists = blocks::working_room();
     stage(text, &mut lists)
 }
 
@@ -312,7 +303,7 @@ pub fn read_psl(
     ensures { λ x. ⌜ PslRead (now (text .entry)) (now (targets .entry)) (now (targets .exit)) (now (queries .entry))
         (now (queries .exit)) (now (sizes .entry)) (now (sizes .exit)) x ⌝ }
 {
-    let mut lists = working_room();
+    let mut lists = blocks::working_room();
     match stage(text, &mut lists) {
         PslAnswer::Refused(x) => PslAnswer::Refused(x),
         PslAnswer::Accepted(r) => store_rows(text, r, &lists, targets, queries, sizes),
@@ -535,15 +526,6 @@ fn values_of(r: Psl, query: usize, target: usize) -> [u64; 42]
     ]
 }
 
-// Room for two names.
-const NAMES: usize = 2 * ledger::NAME_LIMIT;
-
-fn name_room() -> [u8; NAMES]
-    ensures { λ r. ⌜ length r ≡ 2 * nameLimit ⌝ }
-{
-    [0; NAMES]
-}
-
 // Writes the standard text of a record that passed the checks.
 fn write_text(
     r: Psl,
@@ -558,9 +540,9 @@ fn write_text(
     ensures { λ x. ⌜ Wrote (pslText r (now (query .entry)) (now (target .entry)) (now (targets .entry))
         (now (queries .entry)) (now (sizes .entry))) (now (buf .entry)) (now (buf .exit)) x ⌝ }
 {
-    let mut names = name_room();
+    let mut names = columns::name_room();
     columns::put_names(query, target, &mut names);
-    let mut lists = working_room();
+    let mut lists = blocks::working_room();
     put_lists(r.blockCount as usize, targets, queries, sizes, &mut lists);
     let values = values_of(r, query.len(), target.len());
     let table = PSL;

@@ -5,7 +5,7 @@ use Rattle.bed.proofs.write_text.Statement.{statement}
 use Rattle.bed.proofs.write_text.Tie as tie
 use Rattle.bed.proofs.write_text.Reads as reads
 use Rattle.bed.proofs.write_text.Lts as lts
-use Rattle.bed.proofs.name_room.Reads as name-room-reads
+use Rattle.columns.proofs.name_room.Reads as name-room-reads
 use Rattle.bed.proofs.put_lists.Reads as put-lists-reads
 use Rattle.columns.proofs.put_names.Reads as put-names-reads
 use Rattle.bed.proofs.values_of.Reads as values-of-reads

@@ -7,7 +7,7 @@ use Rattle.chain.proofs.read_chain.Reads as reads
 use Rattle.chain.proofs.read_chain.Lts as lts
 use Rattle.chain.proofs.stage.Reads as stage-reads
 use Rattle.chain.proofs.store_rows.Reads as store-rows-reads
-use Rattle.chain.proofs.working_room.Reads as working-room-reads
+use Rattle.blocks.proofs.working_room.Reads as working-room-reads
 
 working-room-requires : tie.Need-working-room-requires
 working-room-requires c κs = search needs

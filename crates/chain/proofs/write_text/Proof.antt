@@ -5,7 +5,7 @@ use Rattle.chain.proofs.write_text.Statement.{statement}
 use Rattle.chain.proofs.write_text.Tie as tie
 use Rattle.chain.proofs.write_text.Reads as reads
 use Rattle.chain.proofs.write_text.Lts as lts
-use Rattle.chain.proofs.name_room.Reads as name-room-reads
+use Rattle.columns.proofs.name_room.Reads as name-room-reads
 use Rattle.chain.proofs.values_of.Reads as values-of-reads
 use Rattle.chain.proofs.write_lines.Reads as write-lines-reads
 use Rattle.columns.proofs.put_names.Reads as put-names-reads

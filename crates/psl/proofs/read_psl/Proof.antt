@@ -7,7 +7,7 @@ use Rattle.psl.proofs.read_psl.Reads as reads
 use Rattle.psl.proofs.read_psl.Lts as lts
 use Rattle.psl.proofs.stage.Reads as stage-reads
 use Rattle.psl.proofs.store_rows.Reads as store-rows-reads
-use Rattle.psl.proofs.working_room.Reads as working-room-reads
+use Rattle.blocks.proofs.working_room.Reads as working-room-reads
 
 working-room-requires : tie.Need-working-room-requires
 working-room-requires c κs = search needs

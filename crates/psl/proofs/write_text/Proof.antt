@@ -7,10 +7,10 @@ use Rattle.psl.proofs.write_text.Reads as reads
 use Rattle.psl.proofs.write_text.Lts as lts
 use Rattle.columns.proofs.put_names.Reads as put-names-reads
 use Rattle.columns.proofs.write_line.Reads as write-line-reads
-use Rattle.psl.proofs.name_room.Reads as name-room-reads
+use Rattle.columns.proofs.name_room.Reads as name-room-reads
 use Rattle.psl.proofs.put_lists.Reads as put-lists-reads
 use Rattle.psl.proofs.values_of.Reads as values-of-reads
-use Rattle.psl.proofs.working_room.Reads as working-room-reads
+use Rattle.blocks.proofs.working_room.Reads as working-room-reads
 
 name-room-requires : tie.Need-name-room-requires
 name-room-requires c κs = search needs
