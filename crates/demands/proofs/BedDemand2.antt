@@ -40,27 +40,12 @@ use Rattle.bed.proofs.BackLaws.{back-chrom, back-name, back-targets, back-queri
 use Rattle.demands.specs.Formats.{Names}
 use Rattle.demands.specs.Demand2.{Demand2}
 use Rattle.demands.specs.Bed.{bedNames, BedValid, SameBed, bed}
-use Rattle.demands.proofs.NameLaws.{word-shows}
-use Rattle.demands.proofs.RowLaws.{Flat, flat, rows-taken}
+use Rattle.rows.proofs.ReaderLaws.{Reads, read-of}
+use Rattle.table_bed.proofs.RowLaws.{bed-reads}
+use Rattle.demands.proofs.NameLaws.{part-shows}
+use Rattle.demands.proofs.RowLaws.{Flat, read-flat, rows-taken, passed-written}
 use Rattle.columns.specs.Names.{partOf}
 use Rattle.columns.proofs.WordLaws.{word-length, graphic-all}
-
--- the reader is the text checker with room
-read-of : (s : List ℕ) (room : ℕ) (r : Bed) → bedRead s room ≡ Accepted r → (bedCheck s ≡ Accepted r) × (r .blockCount ≤ room)
-unfolding bedRead roomCheck
-read-of s room r e = go (bedCheck s) refl e
-  where
-    go : (x : BedAnswer) → bedCheck s ≡ x → thenRoom x s room ≡ Accepted r → (bedCheck s ≡ Accepted r) × (r .blockCount ≤ room)
-    go (Refused y) k h = absurd (let z : _≡_ {A = ℕ} 0 1 = cc in omega arith)
-    go (Accepted b) k h = fits (leb (b .blockCount) room) refl h
-      where
-        fits : (t : Bool) → leb (b .blockCount) room ≡ t → thenCheck (require t NoRoom (length s) Holds) (Accepted b) ≡ Accepted r → (bedCheck s ≡ Accepted r) × (r .blockCount ≤ room)
-        fits true l m = let z : b ≡ r = cc in (k ∙ ap Accepted z, rw (← z) (leb-true (b .blockCount) room l))
-        fits false l m = absurd (let z : _≡_ {A = ℕ} 0 1 = cc in omega arith)
-
-read-is : (s : List ℕ) (room : ℕ) (r : Bed) → bedCheck s ≡ Accepted r → r .blockCount ≤ room → bedRead s room ≡ Accepted r
-unfolding bedRead roomCheck
-read-is s room r e h = rw (e, le-leb (r .blockCount) room h)
 
 -- the test of a record sees only the lengths of its names
 valid-named : (r : Bed) (ns : Names) (ts qs zs : List ℕ) → length (ns .first) ≡ r .chrom .length → length (ns .second) ≡ r .name .length → bedValid r ts qs zs ≡ true → bedValid (named r (ns .first) (ns .second)) ts qs zs ≡ true
@@ -86,26 +71,19 @@ module _ (s : List ℕ) (r : Bed) (ok : bedCheck s ≡ Accepted r) where
   said : BedLine s (firsts (valuesFrom (take (wordCount s 0) bedColumns) 0 s 0)) r
   said = line-of s r ok
 
-  part-shows : (k : ℕ) → (All Graphic (partBytes s (partOf (wordAt s 0 k)))) × (length (partBytes s (partOf (wordAt s 0 k))) ≡ partOf (wordAt s 0 k) .length)
-  unfolding partBytes
-  part-shows k = unfold bytesOf in (word-shows s 0 k (said .allowed), word-length s k)
-
   chrom-shows : (All Graphic (partBytes s (r .chrom))) × (length (partBytes s (r .chrom)) ≡ r .chrom .length)
-  chrom-shows = rw (said .chrom) (part-shows 0)
+  chrom-shows = rw (said .chrom) (part-shows s (said .allowed) 0)
 
   none-shows : (All Graphic (partBytes s (record { start = length s; length = 0 }))) × (length (partBytes s (record { start = length s; length = 0 })) ≡ 0)
   unfolding partBytes run
   none-shows = (refl, refl)
 
   name-shows : (All Graphic (partBytes s (r .name))) × (length (partBytes s (r .name)) ≡ r .name .length)
-  name-shows = either (r .words) 3 _ (λ h. rw (said .noName h) none-shows) (λ h. rw (said .name h) (part-shows 3))
-
-  accepted-flat : Flat (bedTargets s r) (bedQueries s r) (bedSizes s r)
-  accepted-flat = let w = accepted-rows s r ok in flat (bedTargets s r) (bedQueries s r) (bedSizes s r) (w .queries ∙ sym (w .targets)) (w .sizes ∙ sym (w .targets))
+  name-shows = either (r .words) 3 _ (λ h. rw (said .noName h) none-shows) (λ h. rw (said .name h) (part-shows s (said .allowed) 3))
 
   accepted-named : BedValid r (bedNames s r) (bedRows s r)
   accepted-named =
-      let w = accepted-flat in
+      let w = read-flat (bed-reads s) r ok in
       let v : bedValid r (targetsOf (bedRows s r)) (queriesOf (bedRows s r)) (sizesOf (bedRows s r)) ≡ true = rw (w .targets, w .queries, w .sizes) (accepted-valid s r ok) in
       record {
         rules = rules-of (named r (bedNames s r .first) (bedNames s r .second)) _ _ _ (valid-named r (bedNames s r) _ _ _ (chrom-shows .1) (name-shows .1) v);
@@ -131,8 +109,8 @@ module _ (r : Bed) (ns : Names) (table : List Row) (ok : BedValid r ns table) (s
   may = passes r ns ts qs zs (ok .rules) (ok .chromShows) (ok .nameShows)
 
   is-written : (room : ℕ) → length text ≤ room → bedWrite r (ns .first) (ns .second) ts qs zs room ≡ Written (length text)
-  unfolding bedWrite roomAnswer
-  is-written room h = rw (may, le-leb (length text) textLimit short, le-leb (length text) room h)
+  unfolding bedWrite
+  is-written room h = passed-written _ text room may short h
 
   same : SameBed r (placed text r)
   unfolding placed
@@ -151,10 +129,10 @@ module _ (r : Bed) (ns : Names) (table : List Row) (ok : BedValid r ns table) (s
 pub bed-demand2 : Demand2 bed
 unfolding bed
 bed-demand2 = record {
-  acceptedExactly = λ s room r. (λ e. let k = read-of s room r e in (record { values = _; line = line-of s r (k .0); rowsSaid = refl }, k .1), λ p. read-is s room r (line-is s r (p .0 .values) (p .0 .line)) (p .1));
+  acceptedExactly = λ s room r. (λ e. let k = read-of (bed-reads s) room r e in (record { values = _; line = line-of s r (k .0); rowsSaid = refl }, k .1), λ p. bed-reads s .roomy r room (line-is s r (p .0 .values) (p .0 .line)) (p .1));
   oneRecord = λ s r r′ rows rows′ p q. let u = line-is s r (p .values) (p .line) in let v = line-is s r′ (q .values) (q .line) in let w : Accepted r ≡ Accepted r′ = sym u ∙ v in cc;
   justRows = λ s r rows p. p .rowsSaid;
-  acceptedValid = λ s room r e. accepted-named s r (read-of s room r e .0);
+  acceptedValid = λ s room r e. accepted-named s r (read-of (bed-reads s) room r e .0);
   written = λ r ns table ok short room h. is-written r ns table ok short room h;
   readsBack = λ r ns table ok short. record {
     record′ = placed (text r ns table ok short) r;

@@ -40,27 +40,12 @@ use Rattle.chain.proofs.BackLaws.{back-target-name, back-query-name, back-targe
 use Rattle.demands.specs.Formats.{Names}
 use Rattle.demands.specs.Demand2.{Demand2}
 use Rattle.demands.specs.Chain.{chainNames, ChainValid, SameChain, chain}
-use Rattle.demands.proofs.NameLaws.{word-shows}
-use Rattle.demands.proofs.RowLaws.{Flat, flat, rows-taken}
+use Rattle.rows.proofs.ReaderLaws.{Reads, read-of}
+use Rattle.table_chain.proofs.RowLaws.{chain-reads}
+use Rattle.demands.proofs.NameLaws.{part-shows}
+use Rattle.demands.proofs.RowLaws.{Flat, read-flat, rows-taken, passed-written}
 use Rattle.columns.specs.Names.{partOf}
 use Rattle.columns.proofs.WordLaws.{word-length, graphic-all}
-
--- the reader is the text checker with room
-read-of : (s : List ℕ) (room : ℕ) (r : Chain) → chainRead s room ≡ Accepted r → (chainCheck s ≡ Accepted r) × (r .blockCount ≤ room)
-unfolding chainRead roomCheck
-read-of s room r e = go (chainCheck s) refl e
-  where
-    go : (x : ChainAnswer) → chainCheck s ≡ x → thenRoom x s room ≡ Accepted r → (chainCheck s ≡ Accepted r) × (r .blockCount ≤ room)
-    go (Refused y) k h = absurd (let z : _≡_ {A = ℕ} 0 1 = cc in omega arith)
-    go (Accepted b) k h = fits (leb (b .blockCount) room) refl h
-      where
-        fits : (t : Bool) → leb (b .blockCount) room ≡ t → thenCheck (require t NoRoom (length s) Holds) (Accepted b) ≡ Accepted r → (chainCheck s ≡ Accepted r) × (r .blockCount ≤ room)
-        fits true l m = let z : b ≡ r = cc in (k ∙ ap Accepted z, rw (← z) (leb-true (b .blockCount) room l))
-        fits false l m = absurd (let z : _≡_ {A = ℕ} 0 1 = cc in omega arith)
-
-read-is : (s : List ℕ) (room : ℕ) (r : Chain) → chainCheck s ≡ Accepted r → r .blockCount ≤ room → chainRead s room ≡ Accepted r
-unfolding chainRead roomCheck
-read-is s room r e h = rw (e, le-leb (r .blockCount) room h)
 
 -- the test of a record sees only the lengths of its names
 valid-named : (r : Chain) (ns : Names) (ts qs zs : List ℕ) → length (ns .first) ≡ r .tName .length → length (ns .second) ≡ r .qName .length → chainValid r ts qs zs ≡ true → chainValid (named r (ns .first) (ns .second)) ts qs zs ≡ true
@@ -86,23 +71,15 @@ module _ (s : List ℕ) (r : Chain) (ok : chainCheck s ≡ Accepted r) where
   said : ChainText s (firsts (valuesFrom chainColumns 0 s 0)) (linesOf (drop (nextLine s 0) s)) r (chainTargets s r) (chainQueries s r) (chainSizes s r)
   said = text-of s r ok
 
-  part-shows : (k : ℕ) → (All Graphic (partBytes s (partOf (wordAt s 0 k)))) × (length (partBytes s (partOf (wordAt s 0 k))) ≡ partOf (wordAt s 0 k) .length)
-  unfolding partBytes
-  part-shows k = unfold bytesOf in (word-shows s 0 k (said .allowed), word-length s k)
-
   target-shows : (All Graphic (partBytes s (r .tName))) × (length (partBytes s (r .tName)) ≡ r .tName .length)
-  target-shows = rw (said .tName) (part-shows 2)
+  target-shows = rw (said .tName) (part-shows s (said .allowed) 2)
 
   query-shows : (All Graphic (partBytes s (r .qName))) × (length (partBytes s (r .qName)) ≡ r .qName .length)
-  query-shows = rw (said .qName) (part-shows 7)
-
-  accepted-flat : Flat (chainTargets s r) (chainQueries s r) (chainSizes s r)
-  accepted-flat = flat (chainTargets s r) (chainQueries s r) (chainSizes s r)
-      (lines-query-count (said .blocks) ∙ sym (lines-target-count (said .blocks))) (sym (lines-target-count (said .blocks)))
+  query-shows = rw (said .qName) (part-shows s (said .allowed) 7)
 
   accepted-named : ChainValid r (chainNames s r) (chainRows s r)
   accepted-named =
-      let w = accepted-flat in
+      let w = read-flat (chain-reads s) r ok in
       let v : chainValid r (targetsOf (chainRows s r)) (queriesOf (chainRows s r)) (sizesOf (chainRows s r)) ≡ true = rw (w .targets, w .queries, w .sizes) (accepted-valid s r ok) in
       record {
         rules = rules-of (named r (chainNames s r .first) (chainNames s r .second)) _ _ _ (valid-named r (chainNames s r) _ _ _ (target-shows .1) (query-shows .1) v);
@@ -128,8 +105,8 @@ module _ (r : Chain) (ns : Names) (table : List Row) (ok : ChainValid r ns table
   may = passes r ns ts qs zs (ok .rules) (ok .targetShows) (ok .queryShows)
 
   is-written : (room : ℕ) → length text ≤ room → chainWrite r (ns .first) (ns .second) ts qs zs room ≡ Written (length text)
-  unfolding chainWrite roomAnswer
-  is-written room h = rw (may, le-leb (length text) textLimit short, le-leb (length text) room h)
+  unfolding chainWrite
+  is-written room h = passed-written _ text room may short h
 
   same : SameChain r (placed text r)
   unfolding placed
@@ -151,10 +128,10 @@ same-table ts ts′ qs qs′ zs zs′ a b c = λ i. tableOf (a i) (b i) (c i)
 pub chain-demand2 : Demand2 chain
 unfolding chain
 chain-demand2 = record {
-  acceptedExactly = λ s room r. (λ e. let k = read-of s room r e in (record { values = _; blockLines = _; targets = _; queries = _; sizes = _; text = text-of s r (k .0); rowsSaid = refl }, k .1), λ p. read-is s room r (text-is s _ _ r _ _ _ (p .0 .text)) (p .1));
+  acceptedExactly = λ s room r. (λ e. let k = read-of (chain-reads s) room r e in (record { values = _; blockLines = _; targets = _; queries = _; sizes = _; text = text-of s r (k .0); rowsSaid = refl }, k .1), λ p. chain-reads s .roomy r room (text-is s _ _ r _ _ _ (p .0 .text)) (p .1));
   oneRecord = λ s r r′ rows rows′ p q. let u = text-is s _ _ r _ _ _ (p .text) in let v = text-is s _ _ r′ _ _ _ (q .text) in let w : Accepted r ≡ Accepted r′ = sym u ∙ v in cc;
   justRows = λ s r rows p. p .rowsSaid ∙ same-table (p .targets) (chainTargets s r) (p .queries) (chainQueries s r) (p .sizes) (chainSizes s r) (text-targets s _ _ r _ _ _ (p .text)) (text-queries s _ _ r _ _ _ (p .text)) (text-sizes s _ _ r _ _ _ (p .text));
-  acceptedValid = λ s room r e. accepted-named s r (read-of s room r e .0);
+  acceptedValid = λ s room r e. accepted-named s r (read-of (chain-reads s) room r e .0);
   written = λ r ns table ok short room h. is-written r ns table ok short room h;
   readsBack = λ r ns table ok short. record {
     record′ = placed (text r ns table ok short) r;

@@ -12,8 +12,11 @@ use Rattle.text.specs.declared.Class.the-variants.{Word, Allowed, Graphic}
 use Rattle.text.specs.declared.Extent.{Extent}
 use Rattle.text.specs.Scan.{isIn, oneMore, run, endOf}
 use Rattle.text.specs.Words.{wordAt, bytesOf}
+use Rattle.text.specs.Parts.{partBytes}
 use Rattle.text.proofs.Laws.{more-ones, word-ends}
 use Rattle.text.proofs.TextLaws.{All, both}
+use Rattle.columns.specs.Names.{partOf}
+use Rattle.columns.proofs.WordLaws.{word-length}
 
 -- a byte of a word that is allowed
 shows : (b : ℕ) → isIn Word b ≡ true → isIn Allowed b ≡ true → isIn Graphic b ≡ true
@@ -65,9 +68,14 @@ take-run c (b ∷ xs) = go (isIn c b) refl (take-run c xs)
     go false e h = refl
 
 -- A WORD OF AN ALLOWED TEXT SHOWS
-pub word-shows : (s : List ℕ) (line k : ℕ) → All Allowed s → All Graphic (bytesOf s (wordAt s line k))
+word-shows : (s : List ℕ) (line k : ℕ) → All Allowed s → All Graphic (bytesOf s (wordAt s line k))
 unfolding bytesOf endOf
 word-shows s line k h =
     let b = wordAt s line k .start in
     let z : wordAt s line k .end - b ≡ run Word (drop b s) = omega (arith, word-ends s line k) in
     rw z (all-both (take (run Word (drop b s)) (drop b s)) (take-run Word (drop b s)) (all-take Allowed (run Word (drop b s)) (drop b s) (all-drop Allowed b s h)))
+
+-- so does the part that it stands in, which has the word's length
+pub part-shows : (s : List ℕ) → All Allowed s → (k : ℕ) → (All Graphic (partBytes s (partOf (wordAt s 0 k)))) × (length (partBytes s (partOf (wordAt s 0 k))) ≡ partOf (wordAt s 0 k) .length)
+unfolding partBytes
+part-shows s h k = unfold bytesOf in (word-shows s 0 k h, word-length s k)

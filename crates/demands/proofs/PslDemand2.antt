@@ -42,27 +42,12 @@ use Rattle.psl.proofs.BackLaws.{back-query, back-target, back-targets, back-que
 use Rattle.demands.specs.Formats.{Names}
 use Rattle.demands.specs.Demand2.{Demand2}
 use Rattle.demands.specs.Psl.{pslNames, PslValid, SamePsl, psl}
-use Rattle.demands.proofs.NameLaws.{word-shows}
-use Rattle.demands.proofs.RowLaws.{Flat, flat, rows-taken}
+use Rattle.rows.proofs.ReaderLaws.{Reads, read-of}
+use Rattle.table_psl.proofs.RowLaws.{psl-reads}
+use Rattle.demands.proofs.NameLaws.{part-shows}
+use Rattle.demands.proofs.RowLaws.{Flat, read-flat, rows-taken, passed-written}
 use Rattle.columns.specs.Names.{partOf, lengthFits}
 use Rattle.columns.proofs.WordLaws.{word-length, graphic-all}
-
--- the reader is the text checker with room
-read-of : (s : List ℕ) (room : ℕ) (r : Psl) → pslRead s room ≡ Accepted r → (pslCheck s ≡ Accepted r) × (r .blockCount ≤ room)
-unfolding pslRead roomCheck
-read-of s room r e = go (pslCheck s) refl e
-  where
-    go : (x : PslAnswer) → pslCheck s ≡ x → thenRoom x s room ≡ Accepted r → (pslCheck s ≡ Accepted r) × (r .blockCount ≤ room)
-    go (Refused y) k h = absurd (let z : _≡_ {A = ℕ} 0 1 = cc in omega arith)
-    go (Accepted b) k h = fits (leb (b .blockCount) room) refl h
-      where
-        fits : (t : Bool) → leb (b .blockCount) room ≡ t → thenCheck (require t NoRoom (length s) Holds) (Accepted b) ≡ Accepted r → (pslCheck s ≡ Accepted r) × (r .blockCount ≤ room)
-        fits true l m = let z : b ≡ r = cc in (k ∙ ap Accepted z, rw (← z) (leb-true (b .blockCount) room l))
-        fits false l m = absurd (let z : _≡_ {A = ℕ} 0 1 = cc in omega arith)
-
-read-is : (s : List ℕ) (room : ℕ) (r : Psl) → pslCheck s ≡ Accepted r → r .blockCount ≤ room → pslRead s room ≡ Accepted r
-unfolding pslRead roomCheck
-read-is s room r e h = rw (e, le-leb (r .blockCount) room h)
 
 -- where the blocks start and end does not depend on the names
 rows-named : (r : Psl) (ns : Names) (ts qs zs : List ℕ) → rowsFit (named r (ns .first) (ns .second)) ts qs zs ≡ rowsFit r ts qs zs
@@ -93,22 +78,15 @@ module _ (s : List ℕ) (r : Psl) (ok : pslCheck s ≡ Accepted r) where
   said : PslLine s (firsts (valuesFrom pslColumns 0 s 0)) r
   said = line-of s r ok
 
-  part-shows : (k : ℕ) → (All Graphic (partBytes s (partOf (wordAt s 0 k)))) × (length (partBytes s (partOf (wordAt s 0 k))) ≡ partOf (wordAt s 0 k) .length)
-  unfolding partBytes
-  part-shows k = unfold bytesOf in (word-shows s 0 k (said .line .allowed), word-length s k)
-
   query-shows : (All Graphic (partBytes s (r .query .name))) × (length (partBytes s (r .query .name)) ≡ r .query .name .length)
-  query-shows = rw (said .query .name) (part-shows 9)
+  query-shows = rw (said .query .name) (part-shows s (said .line .allowed) 9)
 
   target-shows : (All Graphic (partBytes s (r .target .name))) × (length (partBytes s (r .target .name)) ≡ r .target .name .length)
-  target-shows = rw (said .target .name) (part-shows 13)
-
-  accepted-flat : Flat (pslTargets s) (pslQueries s) (pslSizes s)
-  accepted-flat = flat (pslTargets s) (pslQueries s) (pslSizes s) (accepted-queries s r ok ∙ sym (accepted-targets s r ok)) (accepted-sizes s r ok ∙ sym (accepted-targets s r ok))
+  target-shows = rw (said .target .name) (part-shows s (said .line .allowed) 13)
 
   accepted-named : PslValid r (pslNames s r) (pslRows s)
   accepted-named =
-      let w = accepted-flat in
+      let w = read-flat (psl-reads s) r ok in
       let v : pslValid r (targetsOf (pslRows s)) (queriesOf (pslRows s)) (sizesOf (pslRows s)) ≡ true = rw (w .targets, w .queries, w .sizes) (accepted-valid s r ok) in
       record {
         rules = rules-of (named r (pslNames s r .first) (pslNames s r .second)) _ _ _ (valid-named r (pslNames s r) _ _ _ (query-shows .1) (target-shows .1) v);
@@ -134,8 +112,8 @@ module _ (r : Psl) (ns : Names) (table : List Row) (ok : PslValid r ns table) (s
   may = passes r ns ts qs zs (ok .rules) (ok .queryShows) (ok .targetShows)
 
   is-written : (room : ℕ) → length text ≤ room → pslWrite r (ns .first) (ns .second) ts qs zs room ≡ Written (length text)
-  unfolding pslWrite roomAnswer
-  is-written room h = rw (may, le-leb (length text) textLimit short, le-leb (length text) room h)
+  unfolding pslWrite
+  is-written room h = passed-written _ text room may short h
 
   same : SamePsl r (placed text r)
   unfolding placed
@@ -154,10 +132,10 @@ module _ (r : Psl) (ns : Names) (table : List Row) (ok : PslValid r ns table) (s
 pub psl-demand2 : Demand2 psl
 unfolding psl
 psl-demand2 = record {
-  acceptedExactly = λ s room r. (λ e. let k = read-of s room r e in (record { values = _; line = line-of s r (k .0); rowsSaid = refl }, k .1), λ p. read-is s room r (line-is s r (p .0 .values) (p .0 .line)) (p .1));
+  acceptedExactly = λ s room r. (λ e. let k = read-of (psl-reads s) room r e in (record { values = _; line = line-of s r (k .0); rowsSaid = refl }, k .1), λ p. psl-reads s .roomy r room (line-is s r (p .0 .values) (p .0 .line)) (p .1));
   oneRecord = λ s r r′ rows rows′ p q. let u = line-is s r (p .values) (p .line) in let v = line-is s r′ (q .values) (q .line) in let w : Accepted r ≡ Accepted r′ = sym u ∙ v in cc;
   justRows = λ s r rows p. p .rowsSaid;
-  acceptedValid = λ s room r e. accepted-named s r (read-of s room r e .0);
+  acceptedValid = λ s room r e. accepted-named s r (read-of (psl-reads s) room r e .0);
   written = λ r ns table ok short room h. is-written r ns table ok short room h;
   readsBack = λ r ns table ok short. record {
     record′ = placed (text r ns table ok short) r;
