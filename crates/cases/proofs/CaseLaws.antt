@@ -1,8 +1,8 @@
 -- The answers' bytes one after the other, marks one by one, and the words of a line. Assumes nothing.
-use mathlib.Core.Path.{_≡_, refl, sym, ap, _∙_}
+use mathlib.Core.Path.{_≡_, sym, ap, _∙_}
 use mathlib.Core.Bool.{Bool, true, false, not, _&&_, _||_}
 use mathlib.Core.List.{List, [], _∷_, _++_}
-use Prim.Native.Nat.{ℕ, zero, suc, _+_, _-_, _≤_, _<_, min}
+use Prim.Native.Nat.{ℕ, suc, _+_, _-_, _≤_, _<_, min}
 use native.Mathlib.Omega.{arith}
 use native.Mathlib.Numerals.{add-one}
 use lib.ListN.{length, getD, take, drop, length-take, drop-of-length-le}
@@ -30,7 +30,7 @@ use Rattle.writing.specs.declared.Writing.{Writing}
 use Rattle.writing.specs.declared.Writing.the-variants.{Written, Refused}
 use Rattle.writing.specs.Puts.{Put}
 use Rattle.writing.proofs.PutLaws.{Completes, completes-all, completes-step, completes-done, put-then}
-use Rattle.cases.specs.Lines.{isCase, pickByte, caseLetter, meant, numberAt, strandAt}
+use Rattle.cases.specs.Lines.{isCase, caseLetter, meant, numberAt, strandAt}
 use Rattle.cases.specs.Marks.{allMarked}
 use Rattle.cases.specs.Texts.{labelled, refusedLabel, reasonText, refusalText, checkText, strandText, writtenText, rowText, rowsText, spacedText, shownByte, shownText, keptText}
 

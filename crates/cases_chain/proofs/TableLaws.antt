@@ -17,7 +17,7 @@ use Rattle.chain.specs.Records.{chainTargets, chainQueries, chainSizes}
 use Rattle.chain.specs.Read.{chainRead}
 use Rattle.chain.specs.Write.{recordCheck, ChainWrote}
 use Rattle.table_chain.specs.Rows.{tableAfter, RowsRead}
-use Rattle.rows.proofs.ReaderLaws.{Reads, read-of}
+use Rattle.rows.proofs.ReaderLaws.{read-of}
 use Rattle.table_chain.proofs.RowLaws.{chain-reads}
 use Rattle.cases_chain.specs.Tables.{tableLimit, TableRead, TableChecked, TableWrote}
 use Rattle.cases_chain.proofs.FillLaws.{filled-targets, filled-queries, filled-sizes, copied}

@@ -1,5 +1,5 @@
 -- The test of a chain record with its rows and the rules stated one by one say the same; and the test sees only the rows in use. Assumes nothing.
-use mathlib.Core.Path.{_≡_, refl}
+use mathlib.Core.Path.{_≡_}
 use mathlib.Core.Bool.{true}
 use mathlib.Core.List.{List}
 use Prim.Native.Nat.{ℕ, _≤_, _<_}

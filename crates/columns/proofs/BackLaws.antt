@@ -1,14 +1,14 @@
 -- A line written by a table of columns reads back by that table as the same values, names and lists: for every table. Assumes nothing.
-use mathlib.Core.Path.{_≡_, refl, sym, ap, _∙_}
+use mathlib.Core.Path.{_≡_, refl, ap, _∙_}
 use mathlib.Core.Bool.{Bool, true, false, _||_}
 use mathlib.Core.List.{List, [], _∷_, _++_, append-assoc, append-nil}
-use Prim.Native.Nat.{ℕ, zero, suc, _+_, _*_, _≤_, _<_}
+use Prim.Native.Nat.{ℕ, zero, suc, _+_, _*_}
 use native.Mathlib.Omega.{arith}
 use lib.ListN.{length, take, drop, getD, length-append}
 use lib.Seq.{sets}
 use lib.Dec.{eqb}
 use borrow.Author.Tests.{eqb-true}
-use Rattle.text.specs.declared.Class.the-variants.{Blank, Graphic, Word}
+use Rattle.text.specs.declared.Class.the-variants.{Blank, Word}
 use Rattle.text.specs.Scan.{isIn, run}
 use Rattle.text.specs.Pieces.{joined, wordsOf, lineOf}
 use Rattle.text.specs.Words.{wordCount}

@@ -1,9 +1,9 @@
 -- Two names in a text of their own. Assumes nothing.
 use mathlib.Core.Path.{_≡_, _∙_}
 use mathlib.Core.List.{List}
-use Prim.Native.Nat.{ℕ, _+_, _*_, _≤_}
+use Prim.Native.Nat.{ℕ, _*_, _≤_}
 use native.Mathlib.Omega.{arith}
-use lib.ListN.{length, take, drop}
+use lib.ListN.{length}
 use lib.Seq.{sets, length-sets}
 use Rattle.ledger.specs.Limits.{nameLimit}
 use Rattle.writing.specs.Puts.{Put}

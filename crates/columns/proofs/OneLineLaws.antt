@@ -1,29 +1,24 @@
 -- A text of one line: what each step of reading it shows, and that it is read exactly when its words spell values. Assumes nothing.
 use mathlib.Core.Path.{_≡_, refl, sym, ap, _∙_}
-use mathlib.Core.Bool.{Bool, true, false}
 use mathlib.Core.List.{List, [], _∷_, map}
-use Prim.Native.Nat.{ℕ, zero, suc, _+_, _-_, _≤_, _<_, min}
+use Prim.Native.Nat.{ℕ, suc, _-_, _≤_, min}
 use native.Mathlib.Omega.{arith}
-use lib.ListN.{length, take, drop, length-take}
-use lib.Seq.{sets}
+use lib.ListN.{length, take, length-take}
 use lib.Dec.{leb}
-use borrow.Author.Tests.{le-leb, lt-leb, leb-true}
-use Rattle.ledger.specs.Limits.{textLimit}
-use Rattle.ledger.specs.declared.Reason.the-variants.{WrongCount}
+use borrow.Author.Tests.{le-leb, leb-true}
 use Rattle.ledger.specs.declared.Refusal.{Refusal}
 use Rattle.text.specs.declared.Check.{Check}
 use Rattle.text.specs.declared.Check.the-variants.{Holds}
 use Rattle.text.specs.declared.Check.the-variants as check
-use Rattle.text.specs.declared.Extent.{Extent}
 use Rattle.text.specs.Checks.{textCheck, lastLineCheck, wordsCheck}
-use Rattle.text.specs.Words.{lineEnd, wordAt, wordCount}
+use Rattle.text.specs.Words.{wordCount}
 use Rattle.text.specs.Pieces.{wordsOf, lineOf}
 use Rattle.text.proofs.CheckLaws.{words-good, words-hold, text-of, text-is, one-of, one-is, some-text}
 use Rattle.kinds.specs.declared.Kind.{Kind}
 use Rattle.kinds.specs.Kinds.{kindOf}
 use Rattle.columns.specs.declared.Columns.{Columns}
 use Rattle.columns.specs.declared.Columns.the-variants.{Next, Refused}
-use Rattle.columns.specs.Columns.{columnLimit, tableOf, columnsFrom, valuesFrom, listsFrom, ColumnsRead}
+use Rattle.columns.specs.Columns.{columnLimit, tableOf, columnsFrom, valuesFrom, ColumnsRead}
 use Rattle.columns.specs.Spells.{firsts}
 use Rattle.columns.specs.OneLine.{countCheck, thenLine, thenLast, lineRead, OneLine, CountedRead, LineRead}
 use Rattle.columns.proofs.SpellsLaws.{columns-spell, spells-read}

@@ -1,8 +1,8 @@
 -- What each step of reading a line by its table shows, on plain values. Assumes nothing.
-use mathlib.Core.Path.{_≡_, refl, sym, ap, _∙_}
+use mathlib.Core.Path.{_≡_, refl, sym, _∙_}
 use mathlib.Core.Bool.{Bool, true, false}
-use mathlib.Core.List.{List, [], _∷_, map}
-use Prim.Native.Nat.{ℕ, zero, suc, _+_, _-_, _*_, _≤_, _<_, min}
+use mathlib.Core.List.{List, map}
+use Prim.Native.Nat.{ℕ, suc, _+_, _-_, _*_, _≤_, _<_, min}
 use native.Mathlib.Omega.{arith}
 use native.Mathlib.Numerals.{add-one}
 use lib.ListN.{length, set, getD, take, drop, length-take, drop-of-length-le}
@@ -21,7 +21,7 @@ use Rattle.columns.specs.declared.Field.{Field}
 use Rattle.columns.specs.declared.Field.the-variants.{Good, Bad}
 use Rattle.columns.specs.declared.Columns.{Columns}
 use Rattle.columns.specs.declared.Columns.the-variants.{Next, Refused}
-use Rattle.columns.specs.Columns.{columnLimit, tableOf, fieldOf, fieldFrom, columnsFrom, valuesFrom, listsFrom, tableAfter, FieldRead, ColumnsWalked, ColumnsRead}
+use Rattle.columns.specs.Columns.{columnLimit, tableOf, fieldOf, fieldFrom, columnsFrom, valuesFrom, listsFrom, FieldRead, ColumnsWalked, ColumnsRead}
 
 pub pair-stored : (b b₁ b₂ : List ℕ) (i j v p : ℕ) → b₁ ≡ set b i v → b₂ ≡ set b₁ j p → b₂ ≡ set (set b i v) j p
 pair-stored b b₁ b₂ i j v p e f = rw (f, e)

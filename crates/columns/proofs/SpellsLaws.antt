@@ -1,25 +1,19 @@
 -- A line is read by its table exactly when its words spell values, and then as those values. Assumes nothing.
 use mathlib.Core.Path.{_≡_, refl, sym, ap, _∙_}
 use mathlib.Core.List.{List, [], _∷_}
-use Prim.Native.Nat.{ℕ, zero, suc, _+_, _*_, _≤_, _<_, zero-le}
+use Prim.Native.Nat.{ℕ, zero, suc, _+_, _≤_, _<_}
 use native.Mathlib.Omega.{arith}
-use native.Mathlib.Nat.{le-refl}
 use lib.ListN.{length, drop, getD}
-use Rattle.ledger.specs.declared.Reason.{Reason}
-use Rattle.ledger.specs.declared.Refusal.{Refusal}
 use Rattle.text.specs.declared.Extent.{Extent}
 use Rattle.text.specs.Words.{nextWord, wordAt, wordCount, bytesOf}
 use Rattle.text.specs.Pieces.{wordsOf, lineOf}
-use Rattle.text.proofs.PieceLaws.{words-step, words-none, count-more, count-none, word-is}
+use Rattle.text.proofs.PieceLaws.{words-step, count-more, word-is}
 use Rattle.numbers.specs.declared.Spelt.{Spelt}
 use Rattle.numbers.specs.declared.Spelt.the-variants.{Means, Faulty}
 use Rattle.kinds.specs.declared.Kind.{Kind}
 use Rattle.kinds.specs.Kinds.{spelt, countAfter}
-use Rattle.columns.specs.declared.Field.{Field}
-use Rattle.columns.specs.declared.Field.the-variants.{Good, Bad}
-use Rattle.columns.specs.declared.Columns.{Columns}
 use Rattle.columns.specs.declared.Columns.the-variants.{Next, Refused}
-use Rattle.columns.specs.Columns.{fieldOf, fieldFrom, thenColumns, columnsFrom, valuesFrom}
+use Rattle.columns.specs.Columns.{fieldFrom, thenColumns, columnsFrom, valuesFrom}
 use Rattle.columns.specs.Spells.{Spells, spells-none, spells-more, firsts, seconds}
 
 -- the first of at least one word is there

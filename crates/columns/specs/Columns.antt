@@ -1,10 +1,9 @@
 -- A line read by its table of columns.
-use Prim.Native.Nat.{ℕ, zero, suc, _+_, _-_, _≤_}
+use Prim.Native.Nat.{ℕ, _+_}
 use mathlib.Core.Path.{_≡_}
 use mathlib.Core.List.{List, [], _∷_, map}
 use lib.ListN.{take}
 use lib.Seq.{sets}
-use Rattle.ledger.specs.declared.Refusal.{Refusal}
 use Rattle.text.specs.declared.Extent.{Extent}
 use Rattle.text.specs.Words.{nextWord, bytesOf}
 use Rattle.numbers.specs.declared.Spelt.{Spelt}

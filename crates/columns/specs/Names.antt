@@ -1,6 +1,6 @@
 -- Names: where they stand in a text, what they may be, and two of them in a text of their own, for a line writer: the first at its front, the second after the
 -- room for a name.
-use Prim.Native.Nat.{ℕ, _-_, _≤_}
+use Prim.Native.Nat.{ℕ, _-_}
 use mathlib.Core.Path.{_≡_}
 use mathlib.Core.Bool.{Bool, _&&_}
 use mathlib.Core.List.{List}

@@ -1,5 +1,5 @@
 -- The columns of a table by their number: the count a list answers to, and where it is stored.
-use Prim.Native.Nat.{ℕ, zero, suc, _+_}
+use Prim.Native.Nat.{ℕ, zero, suc}
 use mathlib.Core.List.{List, [], _∷_}
 use lib.ListN.{getD}
 use Rattle.kinds.specs.declared.Kind.{Kind}

@@ -1,51 +1,43 @@
 -- Demand 2 holds of BED. Assumes nothing.
-use mathlib.Core.Path.{_≡_, refl, sym, ap, _∙_}
-use mathlib.Core.Bool.{Bool, true, false}
+use mathlib.Core.Path.{_≡_, refl, sym, _∙_}
+use mathlib.Core.Bool.{true}
 use mathlib.Core.List.{List}
 use Prim.Native.Nat.{ℕ, _≤_}
-use native.Mathlib.Omega.{arith}
 use lib.ListN.{length, take}
-use lib.Dec.{leb}
-use borrow.Author.Tests.{le-leb, leb-true}
 use Rattle.ledger.specs.declared.Row.{Row}
-use Rattle.ledger.specs.declared.Reason.the-variants.{NoRoom}
 use Rattle.ledger.specs.Limits.{textLimit}
 use Rattle.text.specs.declared.Check.the-variants.{Holds}
 use Rattle.text.specs.declared.Class.the-variants.{Graphic}
-use Rattle.text.specs.Checks.{require}
 use Rattle.text.specs.Scan.{run}
-use Rattle.text.specs.Words.{wordAt, wordCount, bytesOf}
+use Rattle.text.specs.Words.{wordCount}
 use Rattle.text.proofs.Laws.{either}
 use Rattle.columns.specs.Columns.{valuesFrom}
 use Rattle.columns.specs.Spells.{firsts}
 use Rattle.text.specs.Parts.{partBytes}
 use Rattle.text.proofs.TextLaws.{All, both}
 use Rattle.writing.specs.declared.Writing.the-variants.{Written}
-use Rattle.writing.specs.Answers.{roomAnswer}
 use Rattle.blocks.specs.Blocks.{countFits, rowsOf, rowNumbersFit}
 use Rattle.blocks.specs.Rows.{targetsOf, queriesOf, sizesOf}
 use Rattle.bed.specs.declared.Bed.{Bed}
-use Rattle.bed.specs.declared.BedAnswer.{BedAnswer}
-use Rattle.bed.specs.declared.BedAnswer.the-variants.{Accepted, Refused}
-use Rattle.bed.specs.Records.{bedTargets, bedQueries, bedSizes, bedRows}
-use Rattle.bed.specs.Read.{bedCheck, bedRead, roomCheck, thenCheck, thenRoom}
+use Rattle.bed.specs.declared.BedAnswer.the-variants.{Accepted}
+use Rattle.bed.specs.Records.{bedRows}
+use Rattle.bed.specs.Read.{bedCheck}
 use Rattle.bed.specs.Table.{bedColumns}
 use Rattle.bed.specs.Rules.{BedLine, BedRules, named, placed}
 use Rattle.bed.specs.Tests.{namesFit, strandFits, fieldsFit, spansFit, rowsFit, bedValid}
 use Rattle.bed.specs.Write.{namesShow, writeCheck, bedText, bedWrite}
 use Rattle.bed.proofs.LineLaws.{line-of, line-is}
-use Rattle.bed.proofs.ValidLaws.{accepted-rows, accepted-valid}
+use Rattle.bed.proofs.ValidLaws.{accepted-valid}
 use Rattle.bed.proofs.RuleLaws.{rules-of, rules-is}
 use Rattle.bed.proofs.BackLaws.{back-chrom, back-name, back-targets, back-queries, back-sizes, back-read}
 use Rattle.demands.specs.Formats.{Names}
 use Rattle.demands.specs.Demand2.{Demand2}
 use Rattle.demands.specs.Bed.{bedNames, BedValid, SameBed, bed}
-use Rattle.rows.proofs.ReaderLaws.{Reads, read-of}
+use Rattle.rows.proofs.ReaderLaws.{read-of}
 use Rattle.table_bed.proofs.RowLaws.{bed-reads}
 use Rattle.demands.proofs.NameLaws.{part-shows}
-use Rattle.demands.proofs.RowLaws.{Flat, read-flat, rows-taken, passed-written}
-use Rattle.columns.specs.Names.{partOf}
-use Rattle.columns.proofs.WordLaws.{word-length, graphic-all}
+use Rattle.demands.proofs.RowLaws.{read-flat, rows-taken, passed-written}
+use Rattle.columns.proofs.WordLaws.{graphic-all}
 
 -- the test of a record sees only the lengths of its names
 valid-named : (r : Bed) (ns : Names) (ts qs zs : List ℕ) → length (ns .first) ≡ r .chrom .length → length (ns .second) ≡ r .name .length → bedValid r ts qs zs ≡ true → bedValid (named r (ns .first) (ns .second)) ts qs zs ≡ true

@@ -1,51 +1,43 @@
 -- Demand 2 holds of chains. Assumes nothing.
-use mathlib.Core.Path.{_≡_, refl, sym, ap, _∙_}
-use mathlib.Core.Bool.{Bool, true, false}
+use mathlib.Core.Path.{_≡_, refl, sym, _∙_}
+use mathlib.Core.Bool.{true}
 use mathlib.Core.List.{List}
 use Prim.Native.Nat.{ℕ, _≤_}
-use native.Mathlib.Omega.{arith}
 use lib.ListN.{length, take, drop}
-use lib.Dec.{leb}
-use borrow.Author.Tests.{le-leb, leb-true}
 use Rattle.ledger.specs.declared.Row.{Row}
-use Rattle.ledger.specs.declared.Reason.the-variants.{NoRoom}
 use Rattle.ledger.specs.Limits.{textLimit}
 use Rattle.text.specs.declared.Check.the-variants.{Holds}
 use Rattle.text.specs.declared.Class.the-variants.{Graphic}
-use Rattle.text.specs.Checks.{require}
-use Rattle.text.specs.Words.{wordAt, nextLine, bytesOf}
+use Rattle.text.specs.Words.{nextLine}
 use Rattle.text.specs.Pieces.{linesOf}
 use Rattle.columns.specs.Columns.{valuesFrom}
 use Rattle.columns.specs.Spells.{firsts}
 use Rattle.text.specs.Parts.{partBytes}
 use Rattle.text.proofs.TextLaws.{All, both}
 use Rattle.writing.specs.declared.Writing.the-variants.{Written}
-use Rattle.writing.specs.Answers.{roomAnswer}
 use Rattle.blocks.specs.Blocks.{countFits, rowsOf, rowNumbersFit}
 use Rattle.blocks.specs.Rows.{tableOf, targetsOf, queriesOf, sizesOf}
 use Rattle.chain.specs.declared.Chain.{Chain}
-use Rattle.chain.specs.declared.ChainAnswer.{ChainAnswer}
-use Rattle.chain.specs.declared.ChainAnswer.the-variants.{Accepted, Refused}
+use Rattle.chain.specs.declared.ChainAnswer.the-variants.{Accepted}
 use Rattle.chain.specs.Records.{chainTargets, chainQueries, chainSizes, chainRows}
-use Rattle.chain.specs.Read.{chainCheck, chainRead, roomCheck, thenCheck, thenRoom}
+use Rattle.chain.specs.Read.{chainCheck}
 use Rattle.chain.specs.Table.{chainColumns}
 use Rattle.chain.specs.Rules.{ChainText, ChainRules, named, placed}
 use Rattle.ledger.specs.Strands.{isTold}
 use Rattle.chain.specs.Tests.{namesFit, fieldsFit, spansFit, rowsFit, chainValid}
 use Rattle.chain.specs.Write.{namesShow, writeCheck, chainText, chainWrite}
 use Rattle.chain.proofs.TextLaws.{text-of, text-is, text-targets, text-queries, text-sizes}
-use Rattle.chain.proofs.ValidLaws.{lines-target-count, lines-query-count, accepted-valid}
+use Rattle.chain.proofs.ValidLaws.{accepted-valid}
 use Rattle.chain.proofs.RuleLaws.{rules-of, rules-is}
 use Rattle.chain.proofs.BackLaws.{back-target-name, back-query-name, back-targets, back-queries, back-sizes, back-read}
 use Rattle.demands.specs.Formats.{Names}
 use Rattle.demands.specs.Demand2.{Demand2}
 use Rattle.demands.specs.Chain.{chainNames, ChainValid, SameChain, chain}
-use Rattle.rows.proofs.ReaderLaws.{Reads, read-of}
+use Rattle.rows.proofs.ReaderLaws.{read-of}
 use Rattle.table_chain.proofs.RowLaws.{chain-reads}
 use Rattle.demands.proofs.NameLaws.{part-shows}
-use Rattle.demands.proofs.RowLaws.{Flat, read-flat, rows-taken, passed-written}
-use Rattle.columns.specs.Names.{partOf}
-use Rattle.columns.proofs.WordLaws.{word-length, graphic-all}
+use Rattle.demands.proofs.RowLaws.{read-flat, rows-taken, passed-written}
+use Rattle.columns.proofs.WordLaws.{graphic-all}
 
 -- the test of a record sees only the lengths of its names
 valid-named : (r : Chain) (ns : Names) (ts qs zs : List ℕ) → length (ns .first) ≡ r .tName .length → length (ns .second) ≡ r .qName .length → chainValid r ts qs zs ≡ true → chainValid (named r (ns .first) (ns .second)) ts qs zs ≡ true

@@ -1,26 +1,21 @@
 -- Demand 3 holds. Assumes nothing.
 use mathlib.Core.Path.{_≡_, refl, sym, ap, _∙_}
-use mathlib.Core.Bool.{true}
-use mathlib.Core.List.{List, _++_}
-use Prim.Native.Nat.{ℕ, _+_, _-_, _≤_, _<_}
-use native.Mathlib.Omega.{arith}
-use lib.ListN.{length, take}
-use lib.IntN.{pos, _-ℤ_}
+use mathlib.Core.List.{List}
+use Prim.Native.Nat.{ℕ, _-_}
 use Rattle.ledger.specs.declared.Row.{Row}
 use Rattle.chain.specs.declared.Chain.{Chain}
-use Rattle.lift.specs.Accepted.{used, accepted}
 use Rattle.lift.proofs.PositionLaws.{lifts-exactly, one-partner, pair-inside, lone}
 use Rattle.region.specs.declared.Region.{Region}
 use Rattle.region.specs.declared.RegionAnswer.the-variants as region
 use Rattle.region.specs.Regions.{liftRegion}
 use Rattle.region.proofs.RegionLaws.{region-lifted, lifted-length, region-holds, region-smallest, refused-exactly}
 use Rattle.turn.specs.declared.TurnAnswer.the-variants.{Turned}
-use Rattle.turn.specs.Turns.{turned, turnedRows, turn}
+use Rattle.turn.specs.Turns.{turned}
 use Rattle.turn.proofs.TurnLaws.{turns}
 use Rattle.table_turn.specs.Turns.{RowsTurned}
 use Rattle.table_turn.proofs.TableLaws.{rows-turning}
 use Rattle.table_lift.proofs.TableLaws.{batch-sums}
-use Rattle.demands.specs.Demand3.{Positions, Turns, RegionCounts, Demand3}
+use Rattle.demands.specs.Demand3.{Turns, RegionCounts, Demand3}
 
 turned-count : (c : Chain) → turned c .blockCount ≡ c .blockCount
 unfolding turned

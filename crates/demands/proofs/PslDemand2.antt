@@ -1,40 +1,32 @@
 -- Demand 2 holds of PSL. Assumes nothing.
-use mathlib.Core.Path.{_≡_, refl, sym, ap, _∙_}
-use mathlib.Core.Bool.{Bool, true, false, _&&_}
+use mathlib.Core.Path.{_≡_, refl, sym, _∙_}
+use mathlib.Core.Bool.{true, _&&_}
 use mathlib.Core.List.{List}
 use Prim.Native.Nat.{ℕ, _≤_}
-use native.Mathlib.Omega.{arith}
 use lib.ListN.{length, take}
-use lib.Dec.{leb}
-use borrow.Author.Tests.{le-leb, leb-true}
 use Rattle.ledger.specs.declared.Row.{Row}
 use Rattle.ledger.specs.Parts.{partAt}
-use Rattle.ledger.specs.declared.Reason.the-variants.{NoRoom}
 use Rattle.ledger.specs.Limits.{textLimit}
 use Rattle.text.specs.declared.Check.the-variants.{Holds}
 use Rattle.text.specs.declared.Class.the-variants.{Graphic}
-use Rattle.text.specs.Checks.{require}
-use Rattle.text.specs.Words.{wordAt, bytesOf}
 use Rattle.columns.specs.Columns.{valuesFrom}
 use Rattle.columns.specs.Spells.{firsts}
 use Rattle.text.specs.Parts.{partBytes}
 use Rattle.text.proofs.TextLaws.{All, both}
 use Rattle.writing.specs.declared.Writing.the-variants.{Written}
-use Rattle.writing.specs.Answers.{roomAnswer}
 use Rattle.blocks.specs.Blocks.{blocksFill, countFits, rowsOf, rowNumbersFit}
 use Rattle.blocks.specs.Rows.{targetsOf, queriesOf, sizesOf}
 use Rattle.psl.specs.declared.Psl.{Psl}
-use Rattle.psl.specs.declared.PslAnswer.{PslAnswer}
-use Rattle.psl.specs.declared.PslAnswer.the-variants.{Accepted, Refused}
-use Rattle.psl.specs.Records.{pslTargets, pslQueries, pslSizes, pslRows}
-use Rattle.psl.specs.Read.{pslCheck, pslRead, roomCheck, thenCheck, thenRoom}
+use Rattle.psl.specs.declared.PslAnswer.the-variants.{Accepted}
+use Rattle.psl.specs.Records.{pslRows}
+use Rattle.psl.specs.Read.{pslCheck}
 use Rattle.psl.specs.Table.{pslColumns}
 use Rattle.psl.specs.Rules.{PslLine, PslRules, named, placed}
 use Rattle.psl.specs.Rows.{rowsFit, countsFit}
 use Rattle.ledger.specs.Strands.{isTold}
 use Rattle.psl.specs.Tests.{fieldsFit, spansFit, pslValid}
 use Rattle.psl.specs.Write.{wordsShow, writeCheck, pslText, pslWrite}
-use Rattle.psl.proofs.LineLaws.{line-of, line-is, accepted-targets, accepted-queries, accepted-sizes}
+use Rattle.psl.proofs.LineLaws.{line-of, line-is}
 use Rattle.psl.proofs.ValidLaws.{accepted-valid}
 use Rattle.psl.proofs.RuleLaws.{rules-of, rules-is}
 use Rattle.psl.proofs.BackWordLaws.{on-renamed}
@@ -42,12 +34,12 @@ use Rattle.psl.proofs.BackLaws.{back-query, back-target, back-targets, back-que
 use Rattle.demands.specs.Formats.{Names}
 use Rattle.demands.specs.Demand2.{Demand2}
 use Rattle.demands.specs.Psl.{pslNames, PslValid, SamePsl, psl}
-use Rattle.rows.proofs.ReaderLaws.{Reads, read-of}
+use Rattle.rows.proofs.ReaderLaws.{read-of}
 use Rattle.table_psl.proofs.RowLaws.{psl-reads}
 use Rattle.demands.proofs.NameLaws.{part-shows}
-use Rattle.demands.proofs.RowLaws.{Flat, read-flat, rows-taken, passed-written}
-use Rattle.columns.specs.Names.{partOf, lengthFits}
-use Rattle.columns.proofs.WordLaws.{word-length, graphic-all}
+use Rattle.demands.proofs.RowLaws.{read-flat, rows-taken, passed-written}
+use Rattle.columns.specs.Names.{lengthFits}
+use Rattle.columns.proofs.WordLaws.{graphic-all}
 
 -- where the blocks start and end does not depend on the names
 rows-named : (r : Psl) (ns : Names) (ts qs zs : List ℕ) → rowsFit (named r (ns .first) (ns .second)) ts qs zs ≡ rowsFit r ts qs zs

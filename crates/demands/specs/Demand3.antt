@@ -11,7 +11,7 @@ use Rattle.ledger.specs.declared.Reason.the-variants.{NoPair}
 use Rattle.chain.specs.declared.Chain.{Chain}
 use Rattle.lift.specs.declared.PositionAnswer.the-variants as position
 use Rattle.lift.specs.Accepted.{used, accepted}
-use Rattle.lift.specs.Pairs.{Pair, pair, pairs}
+use Rattle.lift.specs.Pairs.{pair, pairs}
 use Rattle.lift.specs.Positions.{notLifted, liftPosition}
 use Rattle.region.specs.declared.Region.{Region}
 use Rattle.region.specs.declared.RegionAnswer.the-variants as region

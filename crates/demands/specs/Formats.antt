@@ -1,8 +1,6 @@
 -- What a format is, for the demands: its reader, its rules, its writer, over the definitions that the public functions' promises cite.
 use Prim.Native.Nat.{ℕ}
-use mathlib.Core.Path.{_≡_}
 use mathlib.Core.List.{List}
-use lib.ListN.{length, take}
 use Rattle.ledger.specs.declared.Row.{Row}
 use Rattle.writing.specs.declared.Writing.{Writing}
 

@@ -2,10 +2,7 @@
 use Prim.Native.Nat.{ℕ}
 use mathlib.Core.Path.{_≡_}
 use mathlib.Core.List.{List, [], _∷_}
-use lib.ListN.{length}
 use lib.IntN.{ℤ, pos}
-use Rattle.ledger.specs.declared.Reason.{Reason}
-use Rattle.ledger.specs.declared.Reason.the-variants.{BlockRules, NoPair, OutsideTarget}
 use Rattle.ledger.specs.declared.Row.{Row}
 use Rattle.ledger.specs.declared.Refusal.{Refusal}
 use Rattle.ledger.specs.Reasons.{reasonNumber}

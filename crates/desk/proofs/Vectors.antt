@@ -1,6 +1,6 @@
 -- Some answers and what they write. Assumes nothing.
 use mathlib.Core.Path.{_≡_, refl}
-use mathlib.Core.List.{List, [], _∷_}
+use mathlib.Core.List.{[], _∷_}
 use Prim.Native.Nat.{_+_, _*_}
 use Rattle.ledger.specs.declared.Reason.the-variants.{BlockRules, NoRoom, SpanDisagrees}
 use Rattle.lift.specs.Conversion.{converted}

@@ -1,8 +1,8 @@
 -- The entries of docs/DESK.md, each as a definition: what it answers and writes, for every input.
-use Prim.Native.Nat.{ℕ, suc, _+_, _-_, _*_, _%_, _≤_}
+use Prim.Native.Nat.{ℕ, suc, _-_, _*_, _%_, _≤_}
 use mathlib.Core.Path.{_≡_}
 use mathlib.Core.Bool.{Bool, true, false}
-use mathlib.Core.List.{List, [], _∷_, _++_}
+use mathlib.Core.List.{List, [], _∷_}
 use lib.Dec.{leb, eqb}
 use lib.ListN.{length}
 use lib.IntN.{ℤ, pos, negsuc}

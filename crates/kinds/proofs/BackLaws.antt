@@ -1,13 +1,13 @@
 -- A value in range is written as a word that spells it back: the round trip, kind by kind. Assumes nothing.
 use mathlib.Core.Path.{_≡_, refl, sym, ap, _∙_}
-use mathlib.Core.Bool.{Bool, true, false, not, _&&_, _||_}
-use mathlib.Core.List.{List, [], _∷_, _++_, map}
-use Prim.Native.Nat.{ℕ, zero, suc, _+_, _-_, _*_, _/_, _%_, _^_, _≤_, _<_}
+use mathlib.Core.Bool.{Bool, true, false, _&&_, _||_}
+use mathlib.Core.List.{List, [], _∷_, _++_}
+use Prim.Native.Nat.{ℕ, suc, _+_, _-_, _*_, _%_, _≤_, _<_}
 use native.Mathlib.Omega.{arith}
-use lib.ListN.{length, take, drop, getD, length-append}
+use lib.ListN.{length, take, drop, length-append}
 use lib.Seq.{take-append-seam}
-use lib.Dec.{leb, eqb}
-use borrow.Author.Tests.{le-leb, eqb-true, eqb-false, eq-eqb, ne-eqb, not-true}
+use lib.Dec.{eqb}
+use borrow.Author.Tests.{le-leb, eqb-true, eqb-false, ne-eqb, not-true}
 use Rattle.ledger.specs.Limits.{nameLimit, colourLimit}
 use Rattle.text.specs.declared.Class.the-variants.{Graphic, Item, Digit}
 use Rattle.text.specs.Scan.{isIn, run}
@@ -17,7 +17,7 @@ use Rattle.text.proofs.PieceLaws.{pieces-last}
 use Rattle.numbers.specs.declared.Spelt.the-variants.{Means}
 use Rattle.numbers.specs.Numbers.{numberOf}
 use Rattle.numbers.specs.Lists.{itemsOf, testItems, valuesOf, lastByte, openEnd, listEnd, listOf}
-use Rattle.writing.specs.Digits.{digits, listText}
+use Rattle.writing.specs.Digits.{digits}
 use Rattle.writing.proofs.DigitLaws.{Most, some-digits, number-digits, value-digits, run-digits, digits-graphic, digits-items}
 use Rattle.writing.proofs.ListLaws.{items-join, list-some, list-back, list-good, list-graphic}
 use Rattle.kinds.specs.declared.Range.{Range}

@@ -1,14 +1,14 @@
 -- What each step of reading a word by its kind shows, on plain values. Assumes nothing.
 use mathlib.Core.Path.{_≡_, refl, sym, ap, _∙_}
-use mathlib.Core.Bool.{Bool, true, false, not, _&&_, _||_}
-use mathlib.Core.List.{List, [], _∷_, _++_, map, append-nil}
-use Prim.Native.Nat.{ℕ, zero, suc, _+_, _-_, _*_, _%_, _≤_, _<_, zero-le, min}
+use mathlib.Core.Bool.{Bool, true, false, _&&_}
+use mathlib.Core.List.{List, [], _∷_, _++_, append-nil}
+use Prim.Native.Nat.{ℕ, suc, _+_, _-_, _%_, _≤_, _<_, zero-le, min}
 use native.Mathlib.Omega.{arith}
 use native.Mathlib.Numerals.{add-one}
 use lib.ListN.{length, set, getD, take, drop, length-take, length-drop, take-append-drop, drop-of-length-le, List·getD-eq-default}
-use lib.Seq.{sets, drop-cons, take-all, set-out}
+use lib.Seq.{sets, drop-cons, take-all}
 use borrow.Rule.Slice.PartMut.{putMid}
-use lib.Dec.{leb, eqb}
+use lib.Dec.{leb}
 use borrow.Author.Tests.{le-leb, lt-leb, leb-true, leb-false, ne-eqb, eq-eqb}
 use Rattle.ledger.specs.Limits.{nameLimit, colourLimit}
 use Rattle.ledger.specs.declared.Reason.{Reason}
@@ -18,8 +18,8 @@ use Rattle.numbers.specs.declared.Spelt.{Spelt}
 use Rattle.numbers.specs.declared.Spelt.the-variants.{Means, Faulty}
 use Rattle.numbers.specs.Spelling.{faultIn}
 use Rattle.numbers.specs.Numbers.{numberOf, NumberRead}
-use Rattle.numbers.specs.Ranges.{Between, between-none, between-more}
-use Rattle.numbers.specs.Lists.{itemsOf, testItems, valuesOf, goodValues, listOf, ItemsStored, ListEnded, ListRead}
+use Rattle.numbers.specs.Ranges.{Between, between-more}
+use Rattle.numbers.specs.Lists.{itemsOf, valuesOf, goodValues, listOf, ItemsStored, ListEnded, ListRead}
 use Rattle.numbers.proofs.ListLaws.{list-range}
 use Rattle.writing.proofs.PutLaws.{sets-out}
 use Rattle.kinds.specs.declared.Range.{Range}

@@ -1,7 +1,7 @@
 -- The kinds of column: what a word of each kind spells, or why it is refused.
-use Prim.Native.Nat.{ℕ, zero, suc, _+_, _-_, _*_, _≤_}
+use Prim.Native.Nat.{ℕ, suc, _+_, _*_, _≤_}
 use mathlib.Core.Path.{_≡_}
-use mathlib.Core.Bool.{Bool, true, false, not, _&&_, _||_}
+use mathlib.Core.Bool.{Bool, true, false, _&&_, _||_}
 use mathlib.Core.List.{List, [], _∷_}
 use lib.ListN.{length, getD}
 use lib.Seq.{sets}
@@ -11,7 +11,7 @@ use Rattle.ledger.specs.Strands.{strandLetter}
 use Rattle.ledger.specs.declared.Strand.the-variants.{Plus, Minus, Dot}
 use Rattle.ledger.specs.declared.Reason.the-variants.{BadWord}
 use Rattle.numbers.specs.declared.Spelt.{Spelt}
-use Rattle.numbers.specs.declared.Spelt.the-variants.{Means, Faulty}
+use Rattle.numbers.specs.declared.Spelt.the-variants.{Means}
 use Rattle.numbers.specs.Spelling.{pickSpelt, require, faultIn}
 use Rattle.numbers.specs.Numbers.{numberOf}
 use Rattle.numbers.specs.Lists.{itemsOf, listOf, valuesOf, goodValues, thenCount}

@@ -11,7 +11,6 @@ use Rattle.ledger.specs.declared.Reason.{Reason}
 use Rattle.ledger.specs.declared.Reason.the-variants.{TextTooLong, WrongCount, ByteNotAllowed, NumberMisspelt, NumberOutOfRange, BadWord, SpanDisagrees, ListLength, BlockRules, CountsDisagree, NoRoom, NoPair, OutsideTarget}
 use Rattle.ledger.specs.declared.Strand.{Strand}
 use Rattle.ledger.specs.declared.Strand.the-variants.{Plus, Minus, Dot}
-use Rattle.ledger.specs.declared.Lettered.{Lettered}
 use Rattle.ledger.specs.declared.Lettered.the-variants.{Is, NoStrand}
 use Rattle.ledger.specs.Reasons.{reasonNumber}
 use Rattle.ledger.specs.Strands.{strandOpposite, strandLetter, pickLettered, strandOf, strandIs, isTold}

@@ -1,8 +1,8 @@
 -- An accepted chain as facts about its record and its rows, both ways; and what the flat slices of one give the code. Assumes nothing.
-use mathlib.Core.Path.{_≡_, refl, sym, ap, ap₂, _∙_}
+use mathlib.Core.Path.{_≡_, refl, sym, ap, _∙_}
 use mathlib.Core.Bool.{Bool, true, false, not, _&&_}
-use mathlib.Core.List.{List, [], _∷_, map}
-use Prim.Native.Nat.{ℕ, zero, suc, _+_, _≤_, _<_, min}
+use mathlib.Core.List.{List}
+use Prim.Native.Nat.{ℕ, _+_, _≤_, _<_}
 use native.Mathlib.Omega.{arith}
 use lib.ListN.{length, take, getD, length-take, length-map}
 use lib.Seq.{length-take-le}
@@ -17,19 +17,17 @@ use Rattle.text.specs.declared.Check.{Check}
 use Rattle.text.specs.declared.Check.the-variants.{Holds}
 use Rattle.text.specs.declared.Check.the-variants as check
 use Rattle.text.specs.Checks.{require}
-use Rattle.blocks.specs.Blocks.{allBetween, blocksFill, countFits, rowsOf}
-use Rattle.blocks.specs.Rules.{Fills, Ranged}
-use Rattle.blocks.specs.Rows.{tableOf, targetsOf, queriesOf, sizesOf, noRow, rowAt}
+use Rattle.blocks.specs.Blocks.{countFits, rowsOf}
+use Rattle.blocks.specs.Rows.{tableOf, targetsOf, queriesOf, sizesOf}
 use Rattle.blocks.proofs.RuleLaws.{both, fills-of, fills-is, ranged-of, ranged-is}
 use Rattle.blocks.proofs.TakeLaws.{fills-take, fills-back, ranged-take, ranged-back}
 use Rattle.blocks.proofs.TableLaws.{table-length, taken-length, taken-at, column-taken, take-map}
 use Rattle.chain.specs.declared.Chain.{Chain}
 use Rattle.chain.specs.Tests.{chainValid}
 use Rattle.chain.specs.Write.{recordCheck}
-use Rattle.chain.specs.Rules.{ChainRules}
 use Rattle.chain.proofs.RuleLaws.{rules-of, rules-is, valid-used}
-use Rattle.lift.specs.Accepted.{used, accepted, Wide, Ready}
-use Rattle.lift.proofs.RunLaws.{Run, run-at, Placed, placed-of, Tested, placed-is}
+use Rattle.lift.specs.Accepted.{used, accepted, Ready}
+use Rattle.lift.proofs.RunLaws.{run-at, Placed, placed-of, placed-is}
 
 -- the rules of an accepted chain, on a table of n rows whose used ones are bs
 pub record Rules (c : Chain) (n : ℕ) (bs : List Row) : Type 0 where

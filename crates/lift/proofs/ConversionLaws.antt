@@ -1,5 +1,5 @@
 -- Conversion to the other strand: twice restores; and it is how the pairs of a `-` chain count the query. Assumes nothing.
-use mathlib.Core.Path.{_≡_, refl, sym, ap, ap₂, _∙_}
+use mathlib.Core.Path.{_≡_, refl, sym, ap, _∙_}
 use mathlib.Core.Bool.{Bool, true, false, not, _&&_}
 use mathlib.Core.List.{List, [], _∷_, _++_, map, reverse, reverse-cons}
 use Prim.Native.Nat.{ℕ, zero, suc, _+_, _-_, _≤_, _<_}
@@ -15,7 +15,6 @@ use Rattle.lift.specs.declared.SpanAnswer.{SpanAnswer}
 use Rattle.lift.specs.declared.SpanAnswer.the-variants.{Converted}
 use Rattle.lift.specs.Conversion.{notConverted, ifConverted, otherStrand, converted}
 use Rattle.lift.specs.Pairs.{Pair, forwardOn, blockPairs}
-use Rattle.lift.proofs.RunLaws.{and-i}
 
 abbrev inRange : ℕ → ℕ → ℕ → Bool
 inRange start end size = leb start largestPosition && (leb end largestPosition && leb size largestPosition)

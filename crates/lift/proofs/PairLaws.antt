@@ -11,7 +11,6 @@ use Rattle.ledger.specs.declared.Row.{Row}
 use Rattle.ledger.specs.declared.Strand.{Strand}
 use Rattle.ledger.specs.declared.Strand.the-variants.{Minus}
 use Rattle.blocks.specs.Rows.{targetEnd, queryEnd}
-use Rattle.lift.specs.declared.Partner.{Partner}
 use Rattle.lift.specs.declared.Partner.the-variants.{Base, Alone}
 use Rattle.lift.specs.Pairs.{Pair, pair, forwardOn, blockPairs, pairsOf, orElse, partnerOf}
 use Rattle.lift.proofs.RunLaws.{either, Run}

@@ -1,9 +1,8 @@
 -- Chain A of 01 on the definitions: its positions, and a span converted and back. Assumes nothing.
 use mathlib.Core.Path.{_≡_, refl}
-use mathlib.Core.Bool.{true}
 use mathlib.Core.List.{List, [], _∷_}
 use Prim.Native.Nat.{ℕ}
-use lib.IntN.{pos, negsuc}
+use lib.IntN.{pos}
 use Rattle.ledger.specs.declared.Row.{Row}
 use Rattle.ledger.specs.declared.Reason.the-variants.{NumberOutOfRange, SpanDisagrees, BlockRules, NoPair, OutsideTarget}
 use Rattle.blocks.specs.Blocks.{blocksFill, orderFrom, allBetween, rowNumbersFit}

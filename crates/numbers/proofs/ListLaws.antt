@@ -2,12 +2,12 @@
 use mathlib.Core.Path.{_≡_, refl, sym, ap, _∙_}
 use mathlib.Core.Bool.{Bool, true, false, not, _&&_, _||_}
 use mathlib.Core.List.{List, [], _∷_, map}
-use Prim.Native.Nat.{ℕ, zero, suc, _+_, _-_, _≤_, _<_, max, zero-le}
+use Prim.Native.Nat.{ℕ, suc, _+_, _-_, _≤_, _<_, max, zero-le}
 use native.Mathlib.Nat.{le-refl}
 use native.Mathlib.Numerals.{add-one}
 use native.Mathlib.Omega.{arith}
 use lib.ListN.{length, take, drop, getD, set, length-take, length-drop, drop-of-length-le}
-use lib.Seq.{drop-cons, sets}
+use lib.Seq.{sets}
 use lib.Dec.{leb, eqb}
 use borrow.Author.Tests.{eq-eqb, ne-eqb, eqb-true, leb-true}
 use Rattle.ledger.specs.declared.Reason.{Reason}
@@ -20,7 +20,7 @@ use Rattle.numbers.specs.declared.Spelt.{Spelt}
 use Rattle.numbers.specs.declared.Spelt.the-variants.{Means, Faulty}
 use Rattle.numbers.specs.Spelling.{pickSpelt}
 use Rattle.numbers.specs.Numbers.{wellSpelt, value, numberOf}
-use Rattle.numbers.specs.Lists.{itemsOf, testItems, goodValues, orStop, orItem, valuesOf, lastByte, openEnd, thenCount, listEnd, listOf, ItemsStored, ListEnded, ListRead}
+use Rattle.numbers.specs.Lists.{itemsOf, testItems, goodValues, orStop, orItem, valuesOf, lastByte, openEnd, listEnd, listOf, ItemsStored, ListEnded, ListRead}
 use Rattle.numbers.specs.Ranges.{Between, between-none, between-more}
 
 pub last-none : (w : List ℕ) → length w ≡ 0 → 0 ≡ lastByte 0 w

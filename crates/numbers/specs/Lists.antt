@@ -1,12 +1,11 @@
 -- A comma list: its items, what reading them finds, and the numbers it holds.
-use Prim.Native.Nat.{ℕ, zero, suc, _+_, _≤_}
+use Prim.Native.Nat.{ℕ, _+_, _≤_}
 use mathlib.Core.Path.{_≡_}
-use mathlib.Core.Bool.{Bool, true, false, not, _&&_, _||_}
+use mathlib.Core.Bool.{Bool, not, _&&_, _||_}
 use mathlib.Core.List.{List, [], _∷_, map}
 use lib.ListN.{length}
 use lib.Dec.{eqb}
 use lib.Seq.{sets}
-use Rattle.ledger.specs.declared.Reason.{Reason}
 use Rattle.ledger.specs.declared.Reason.the-variants.{NumberMisspelt, ListLength}
 use Rattle.text.specs.declared.Class.the-variants.{Item}
 use Rattle.text.specs.Pieces.{piecesOf}

@@ -1,7 +1,7 @@
 -- A number: digits only, no leading zero but in `0` itself, within a least and a greatest value.
-use Prim.Native.Nat.{ℕ, zero, suc, _+_, _-_, _*_}
+use Prim.Native.Nat.{ℕ, _+_, _-_, _*_}
 use mathlib.Core.Path.{_≡_}
-use mathlib.Core.Bool.{Bool, true, false, not, _&&_, _||_}
+use mathlib.Core.Bool.{Bool, not, _&&_, _||_}
 use mathlib.Core.List.{List, [], _∷_}
 use lib.ListN.{length, getD}
 use lib.Dec.{leb, eqb}
@@ -9,7 +9,7 @@ use Rattle.ledger.specs.declared.Reason.the-variants.{NumberMisspelt, NumberOut
 use Rattle.text.specs.declared.Class.the-variants.{Digit}
 use Rattle.text.specs.Scan.{endOf}
 use Rattle.numbers.specs.declared.Spelt.{Spelt}
-use Rattle.numbers.specs.declared.Spelt.the-variants.{Means, Faulty}
+use Rattle.numbers.specs.declared.Spelt.the-variants.{Means}
 use Rattle.numbers.specs.Spelling.{require, faultIn}
 
 -- some digits and nothing else; the first is `0` only where it stands alone

@@ -10,7 +10,6 @@ use borrow.Author.Tests.{leb-true, not-true, not-false}
 use Rattle.ledger.specs.Strands.{isTold}
 use Rattle.ledger.specs.Limits.{largestPosition}
 use Rattle.ledger.specs.declared.Reason.the-variants.{NumberOutOfRange}
-use Rattle.text.specs.declared.Check.{Check}
 use Rattle.text.specs.declared.Check.the-variants as check
 use Rattle.text.proofs.TextLaws.{both}
 use Rattle.blocks.specs.Blocks.{countFits, rowsOf, rowNumbersFit}

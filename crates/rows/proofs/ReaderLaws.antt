@@ -1,6 +1,6 @@
 -- A reader over a table of rows, for any format: its text checker's answer, then the room; the blocks of what it accepts go to the table's front. On the rows that are
 -- staged it answers and leaves what it does on the table. Assumes nothing.
-use mathlib.Core.Path.{_≡_, refl, sym, ap, _∙_}
+use mathlib.Core.Path.{_≡_, sym, ap, _∙_}
 use mathlib.Core.List.{List, _++_}
 use Prim.Native.Nat.{ℕ, _≤_, _<_, min}
 use native.Mathlib.Omega.{arith}

@@ -16,7 +16,7 @@ use Rattle.text.proofs.Laws.{either}
 use Rattle.blocks.specs.Blocks.{rowsOf, countFits}
 use Rattle.blocks.specs.Rows.{tableOf, targetsOf, queriesOf, sizesOf}
 use Rattle.blocks.proofs.TableLaws.{table-length, table-take, column-taken, table-back}
-use Rattle.rows.specs.Staging.{allReach, Loaded, firstRows, stagedRows, frontStored, storedRows, Columns, Fronts}
+use Rattle.rows.specs.Staging.{allReach, Loaded, stagedRows, frontStored, storedRows, Columns, Fronts}
 
 -- A TABLE AFTER A CALL: the rows of the columns' fronts, and past them what it held
 pub fronts-stored : (n : ℕ) (xs ys ws ts qs zs : List ℕ) (rows : List Row) → Fronts n (length rows) xs ys ws ts qs zs → storedRows n ts qs zs rows ≡ tableOf xs ys ws ++ drop n rows

@@ -10,7 +10,7 @@ use Rattle.ledger.specs.declared.Refusal.{Refusal}
 use Rattle.text.specs.declared.Check.the-variants.{Holds}
 use Rattle.blocks.specs.Rows.{targetsOf, queriesOf, sizesOf}
 use Rattle.rows.proofs.StagingLaws.{table-front, put-same}
-use Rattle.rows.proofs.ReaderLaws.{Reads, read-of}
+use Rattle.rows.proofs.ReaderLaws.{read-of}
 use Rattle.bed.specs.declared.Bed.{Bed}
 use Rattle.bed.specs.declared.BedAnswer.{BedAnswer}
 use Rattle.bed.specs.declared.BedAnswer.the-variants.{Accepted, Refused}

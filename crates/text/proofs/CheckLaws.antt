@@ -22,7 +22,7 @@ use Rattle.text.specs.Pieces.{piecesOf, nonEmpty, linesOf, lineOf, words
 use Rattle.text.specs.Words.{lineEnd, nextLine, wordAt, wordCount}
 use Rattle.text.proofs.Laws.{either, text-good, line-last}
 use Rattle.text.proofs.TextLaws.{All, all-append, in-allowed}
-use Rattle.text.proofs.PieceLaws.{lines-none, lines-step, pieces-join, Worded, worded-none, worded-more, joined-in-line, line-joined}
+use Rattle.text.proofs.PieceLaws.{lines-none, lines-step, pieces-join, Worded, worded-more, joined-in-line, line-joined}
 
 -- a check that holds: its test is true, and what follows it holds
 pub require-holds : (t : Bool) (rest : Check) (x : Refusal) → pickCheck t rest (check.Refused x) ≡ Holds → (t ≡ true) × (rest ≡ Holds)

@@ -1,15 +1,15 @@
 -- Laws of the standard text of a number: its value is the number, and it is well spelt. Assumes nothing.
 use mathlib.Core.Path.{_≡_, refl, sym, ap, _∙_}
-use mathlib.Core.Bool.{Bool, true, false, not, _&&_, _||_}
+use mathlib.Core.Bool.{Bool, true, false, _||_}
 use mathlib.Core.List.{List, [], _∷_, _++_}
 use Prim.Native.Nat.{ℕ, zero, suc, _+_, _-_, _*_, _/_, _%_, _^_, _≤_, _<_, zero-le}
 use native.Mathlib.Nat.{pow-suc}
 use native.Mathlib.Omega.{arith}
 use lib.ListN.{length, getD, length-append, List·getD-append}
-use lib.Dec.{leb, ltb, eqb}
+use lib.Dec.{ltb, eqb}
 use borrow.Author.Tests.{lt-ltb, le-ltb, ltb-true, ltb-false, ne-eqb, eq-eqb, le-leb}
 use Rattle.text.specs.declared.Class.the-variants.{Digit, Item, Graphic}
-use Rattle.text.specs.Scan.{run, endOf, isIn}
+use Rattle.text.specs.Scan.{run, endOf}
 use Rattle.text.proofs.Laws.{run-append}
 use Rattle.text.proofs.TextLaws.{All, all-within, digit-graphic, digit-item}
 use Rattle.numbers.specs.declared.Spelt.the-variants.{Means}

@@ -1,28 +1,27 @@
 -- The standard text of a comma list: its items are the list. Assumes nothing.
-use mathlib.Core.Path.{_≡_, refl, sym, ap, _∙_}
-use mathlib.Core.Bool.{Bool, true, false, not, _&&_, _||_}
+use mathlib.Core.Path.{_≡_, refl, ap, _∙_}
+use mathlib.Core.Bool.{true}
 use mathlib.Core.List.{List, [], _∷_, _++_, map, append-assoc}
-use Prim.Native.Nat.{ℕ, zero, suc, _+_, _-_, _≤_, _<_, _^_}
+use Prim.Native.Nat.{ℕ, suc, _+_, _-_, _≤_, _<_}
 use native.Mathlib.Omega.{arith}
 use native.Mathlib.Numerals.{add-one}
 use lib.ListN.{length, getD, drop, length-append, drop-of-length-le}
 use lib.Seq.{drop-cons}
-use lib.Dec.{leb, eqb}
 use borrow.Author.Tests.{eq-eqb, ne-eqb}
-use Rattle.text.specs.declared.Class.the-variants.{Item, Graphic, Digit}
-use Rattle.text.specs.Scan.{isIn, run}
+use Rattle.text.specs.declared.Class.the-variants.{Item, Graphic}
+use Rattle.text.specs.Scan.{run}
 use Rattle.text.specs.Pieces.{piecesOf}
 use Rattle.text.proofs.PieceLaws.{pieces-join}
 use Rattle.text.proofs.TextLaws.{All, all-append}
 use Rattle.numbers.specs.declared.Spelt.the-variants.{Means}
-use Rattle.numbers.specs.Numbers.{numberOf, value}
+use Rattle.numbers.specs.Numbers.{value}
 use Rattle.numbers.specs.Lists.{itemsOf, testItems, valuesOf, goodValues, openEnd, listEnd, listOf}
 use Rattle.writing.specs.Digits.{digits, listText}
 use Rattle.writing.specs.Puts.{Put}
 use Rattle.numbers.specs.Ranges.{Between, between-none, between-more}
 use Rattle.ledger.specs.Limits.{largestPlace}
 use Rattle.writing.proofs.PutLaws.{put-then, Completes, completes-step, completes-done}
-use Rattle.writing.proofs.DigitLaws.{Most, number-digits, value-digits, some-digits, digits-graphic, digits-items}
+use Rattle.writing.proofs.DigitLaws.{Most, number-digits, value-digits, digits-graphic, digits-items}
 
 -- one number and its comma
 pub put-item-is : (n : ℕ) (b b₁ b₂ : List ℕ) (at p r : ℕ) → Put (digits n) at b b₁ p → Put (44 ∷ []) p b₁ b₂ r → Put (listText (n ∷ [])) at b b₂ r
