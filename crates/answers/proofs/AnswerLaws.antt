@@ -142,7 +142,3 @@ accepted-reason v = omega arith
 pub refused-reason : (x : Refusal) → refusalCode x % 16 ≡ reasonNumber (x .reason)
 unfolding told
 refused-reason x = omega (arith, reason-few (x .reason))
-
-pub told-value : (v n : ℕ) → n ≤ 13 → v ≤ mostTold → (told v + n) / 16 ≡ v
-unfolding told
-told-value v n h l = omega arith

@@ -25,13 +25,15 @@ use Rattle.blocks.specs.Rules.{Fills}
 use Rattle.blocks.proofs.RuleLaws.{fills-of, fill-low, fill-shift, back-shifted, sums-only, subtracted-length}
 use Rattle.bed.specs.declared.Bed.{Bed}
 use Rattle.bed.specs.declared.BedAnswer.the-variants.{Accepted}
+use Rattle.bed.specs.Table.{bedColumns}
 use Rattle.bed.specs.Records.{bedSizes, bedStarts, bedTargets, bedQueries}
 use Rattle.bed.specs.Read.{roomCheck, bedCheck, bedRead}
-use Rattle.bed.specs.Rules.{BedLine, placed}
+use Rattle.bed.specs.Rules.{WordNumber, BedLine, placed}
 use Rattle.bed.specs.Write.{writeCheck, bedWords, bedText}
 use Rattle.bed.proofs.ColumnLaws.{most-words, least-words, by-number}
-use Rattle.bed.proofs.LineLaws.{line-is}
+use Rattle.bed.proofs.LineLaws.{listed-sizes, listed-starts, span-size, span-start, line-is}
 use Rattle.bed.proofs.BackWordLaws.{MayWrite, may-write, wordValues, sizes-between, starts-between, words-spell, words-worded}
+use Rattle.columns.proofs.Meant.{Meant, listsIn, meant-spells}
 use Rattle.columns.proofs.WordLaws.{part-bytes}
 
 no-bytes : (xs : List ℕ) → length xs ≡ 0 → [] ≡ xs
@@ -160,18 +162,22 @@ module _ (r : Bed) (chrom name ts qs zs : List ℕ) (ok : MayWrite r chrom name 
   value-read : (k : ℕ) → k < r .words → getD (wordValues r chrom name) k 0 ≡ getD (take (r .words) (wordValues r chrom name)) k 0
   value-read k h = sym (getD-take (r .words) (wordValues r chrom name) k 0 h)
 
-  line-read : length s ≤ textLimit → BedLine s (take (r .words) (wordValues r chrom name)) (placed s r)
+  line-read : length s ≤ textLimit
+      → BedLine s (take (r .words) (wordValues r chrom name)) (listsIn (take (wordCount s 0) bedColumns) (wordsOf (lineOf s))) (placed s r) (bedStarts s (placed s r)) (bedSizes s (placed s r))
   unfolding placed
   line-read short =
       let k = ok .rules in
       let three = least-words (k .number) in
+      let number : WordNumber (wordCount s 0) = rw text-count (k .number) in
+      let w : r .words ≡ wordCount s 0 = sym text-count in
+      let words : Meant (take (wordCount s 0) bedColumns) 0 (wordsOf (lineOf s)) (take (r .words) (wordValues r chrom name)) = rw (text-count, text-words) (words-spell r chrom name ts qs zs ok) in
       record {
         short = short;
         allowed = text-allowed;
         oneLine = text-line;
-        number = rw text-count (k .number);
-        spelt = rw (text-count, text-words) (words-spell r chrom name ts qs zs ok);
-        words = sym text-count;
+        number = number;
+        spelt = meant-spells words;
+        words = w;
         chrom = refl;
         chromStart = value-read 1 (omega arith);
         chromEnd = value-read 2 (omega arith);
@@ -182,6 +188,8 @@ module _ (r : Bed) (chrom name ts qs zs : List ℕ) (ok : MayWrite r chrom name 
         thickEnd = λ h. value-read 7 h;
         itemRgb = λ h. value-read 8 h;
         blockCount = λ h. value-read 9 h;
+        listedSizes = listed-sizes s (placed s r) number w;
+        listedStarts = listed-starts s (placed s r) number w;
         noName = λ h. rw (le-ltb 3 (r .words) h);
         noScore = k .noScore;
         noStrand = k .noStrand;
@@ -189,6 +197,8 @@ module _ (r : Bed) (chrom name ts qs zs : List ℕ) (ok : MayWrite r chrom name 
         noThickEnd = k .noThickEnd;
         noItemRgb = k .noItemRgb;
         noBlocks = k .noBlocks;
+        spanSize = span-size s (placed s r) number w;
+        spanStart = span-start s (placed s r) number w;
         span = k .span;
         thickLow = k .thickLow;
         thickOrder = k .thickOrder;
@@ -205,7 +215,7 @@ module _ (r : Bed) (chrom name ts qs zs : List ℕ) (ok : writeCheck r chrom nam
   may = may-write r chrom name ts qs zs ok
 
   pub back-check : bedCheck text ≡ Accepted (placed text r)
-  back-check = line-is text (placed text r) (take (r .words) (wordValues r chrom name)) (line-read r chrom name ts qs zs may short)
+  back-check = line-is text (placed text r) _ _ _ _ (line-read r chrom name ts qs zs may short)
 
   pub back-chrom : partBytes text (placed text r .chrom) ≡ chrom
   back-chrom = chrom-read r chrom name ts qs zs may

@@ -22,7 +22,7 @@ use Rattle.kinds.specs.declared.Kind.{Kind}
 use Rattle.kinds.specs.declared.Kind.the-variants.{Number, Count, Stranded, Colour}
 use Rattle.kinds.specs.Kinds.{countAfter}
 use Rattle.kinds.proofs.BackLaws.{Written, written}
-use Rattle.columns.specs.Spells.{Spells, spells-none, spells-more}
+use Rattle.columns.proofs.Meant.{Meant, meant-none, meant-more}
 use Rattle.blocks.specs.Blocks.{blocksFill, areSums, allBetween, subtracted, countFits, rowsOf, rowNumbersFit}
 use Rattle.blocks.proofs.RuleLaws.{between-of, subtracted-length}
 use Rattle.bed.specs.declared.Bed.{Bed}
@@ -89,11 +89,11 @@ data Row (m : ℕ) : ℕ → List Kind → ℕ → List (List ℕ) → List ℕ 
   row-more : {k n v : ℕ} {c : Kind} {cs : List Kind} {w held : List ℕ} {ws : List (List ℕ)} {vs : List ℕ} → (k < m → Written c n v w held) → Row m (suc k) cs (countAfter c v n) ws vs → Row m k (c ∷ cs) n (w ∷ ws) (v ∷ vs)
 
 -- of the first m columns, the first words spell the first values
-row-spells : {m k n : ℕ} {cs : List Kind} {ws : List (List ℕ)} {vs : List ℕ} → Row m k cs n ws vs → (j : ℕ) → k + j ≡ m → Spells (take j cs) n (take j ws) (take j vs)
-row-spells row-none zero q = spells-none
-row-spells row-none (suc j) q = spells-none
-row-spells (row-more f t) zero q = spells-none
-row-spells (row-more f t) (suc j) q = spells-more (f (omega arith) .back) (row-spells t j (omega arith))
+row-spells : {m k n : ℕ} {cs : List Kind} {ws : List (List ℕ)} {vs : List ℕ} → Row m k cs n ws vs → (j : ℕ) → k + j ≡ m → Meant (take j cs) n (take j ws) (take j vs)
+row-spells row-none zero q = meant-none
+row-spells row-none (suc j) q = meant-none
+row-spells (row-more f t) zero q = meant-none
+row-spells (row-more f t) (suc j) q = meant-more (f (omega arith) .back) (row-spells t j (omega arith))
 
 row-worded : {m k n : ℕ} {cs : List Kind} {ws : List (List ℕ)} {vs : List ℕ} → Row m k cs n ws vs → (j : ℕ) → k + j ≡ m → Worded (take j ws)
 row-worded row-none zero q = worded-none
@@ -135,7 +135,7 @@ module _ (r : Bed) (chrom name ts qs zs : List ℕ) (ok : MayWrite r chrom name 
       (row-more (λ h. list-written Coordinate n (subtracted (r .chromStart) (take n ts)) (k .someBlock) starts starts-between)
       row-none)))))))))))
 
-  pub words-spell : Spells (take (r .words) bedColumns) 0 (take (r .words) (bedWords r chrom name ts zs)) (take (r .words) (wordValues r chrom name))
+  pub words-spell : Meant (take (r .words) bedColumns) 0 (take (r .words) (bedWords r chrom name ts zs)) (take (r .words) (wordValues r chrom name))
   words-spell = row-spells row (r .words) (omega arith)
 
   pub words-worded : Worded (take (r .words) (bedWords r chrom name ts zs))

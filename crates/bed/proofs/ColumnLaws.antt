@@ -27,9 +27,10 @@ use Rattle.columns.specs.declared.Columns.{Columns}
 use Rattle.columns.specs.declared.Columns.the-variants.{Next}
 use Rattle.columns.specs.declared.Columns.the-variants as columns
 use Rattle.columns.specs.Columns.{columnLimit, tableOf, columnsFrom, valuesFrom, listsFrom, ColumnsRead}
-use Rattle.columns.specs.Spells.{Spells, firsts}
+use Rattle.columns.specs.Spells.{firsts}
+use Rattle.columns.proofs.Meant.{Meant}
 use Rattle.columns.specs.Places.{kindAt}
-use Rattle.columns.proofs.SpellsLaws.{columns-spell}
+use Rattle.columns.proofs.SpellsLaws.{columns-mean}
 use Rattle.columns.proofs.PlaceLaws.{spelt-at, value-first, lists-length, lists-at}
 use Rattle.bed.specs.declared.BedAnswer.{BedAnswer}
 use Rattle.bed.specs.declared.BedAnswer.the-variants.{Refused}
@@ -111,8 +112,8 @@ module _ (s : List ℕ) (e : ℕ) (read : columnsFrom bedColumns 0 s 0 ≡ Next 
   abbrev vs : List ℕ
   vs = valuesFrom bedColumns 0 s 0
 
-  spells : Spells bedColumns 0 (wordsOf (lineOf s)) (firsts vs)
-  spells = columns-spell bedColumns 0 s 0 e count-all read
+  spells : Meant bedColumns 0 (wordsOf (lineOf s)) (firsts vs)
+  spells = columns-mean bedColumns 0 s 0 e count-all read
 
   word : (k : ℕ) → getD (wordsOf (lineOf s)) k [] ≡ bytesOf s (wordAt s 0 k)
   word k = sym (word-bytes s 0 k)

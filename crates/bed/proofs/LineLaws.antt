@@ -1,13 +1,13 @@
 -- A text is accepted exactly when it is a BED line, and then with the record that it says. Assumes nothing.
 use mathlib.Core.Path.{_≡_, refl, sym, ap, _∙_}
 use mathlib.Core.Bool.{true}
-use mathlib.Core.List.{List}
+use mathlib.Core.List.{List, [], _∷_}
 use Prim.Native.Nat.{ℕ, _+_, _-_, _*_, _≤_, _<_}
 use native.Mathlib.Omega.{arith}
 use lib.ListN.{length, getD, take, length-take}
 use lib.Seq.{getD-take}
 use lib.Dec.{leb}
-use borrow.Author.Tests.{lt-ltb, le-ltb, le-leb, leb-true}
+use borrow.Author.Tests.{lt-ltb, le-ltb, le-leb, leb-true, ne-eqb}
 use Rattle.ledger.specs.declared.Part.{Part}
 use Rattle.ledger.specs.Strands.{strandOf, strandLetter}
 use Rattle.text.specs.declared.Check.the-variants.{Holds}
@@ -23,9 +23,10 @@ use Rattle.kinds.specs.Kinds.{spelt}
 use Rattle.kinds.proofs.RangeLaws.{name-spelt, strand-spelt}
 use Rattle.columns.specs.declared.Columns.the-variants.{Next}
 use Rattle.columns.specs.Columns.{columnsFrom, valuesFrom}
-use Rattle.columns.specs.Spells.{Spells, firsts}
+use Rattle.columns.specs.Spells.{firsts}
+use Rattle.columns.proofs.Meant.{Meant, listsIn, meant-spells, spells-lists, list-at}
 use Rattle.columns.specs.Places.{kindAt, countBefore}
-use Rattle.columns.proofs.SpellsLaws.{columns-spell, Reads, spells-read, place-is}
+use Rattle.columns.proofs.SpellsLaws.{columns-mean, Reads, spells-read, place-is}
 use Rattle.columns.proofs.PlaceLaws.{spelt-at, value-first, value-second}
 use Rattle.blocks.specs.Rules.{Fills}
 use Rattle.blocks.proofs.RuleLaws.{fills-of, fills-is}
@@ -38,7 +39,7 @@ use Rattle.bed.specs.Records.{isWordCount, valueOr, placeOr, bedRecord, 
 use Rattle.bed.specs.Read.{bedWordsCheck, thickFits, spanCheck, blockCheck, bedCheck}
 use Rattle.bed.specs.Rules.{WordNumber, BedLine}
 use Rattle.bed.proofs.ReadLaws.{value-there, value-left}
-use Rattle.bed.proofs.ColumnLaws.{number-is, most-words, least-words}
+use Rattle.bed.proofs.ColumnLaws.{number-is, most-words, least-words, by-number}
 use Rattle.bed.proofs.AcceptLaws.{lineValues, Accepts, accepts-of, accepts-is, words-of, span-of, thick-of, sizes-count, starts-count, accepted-count, accepted-starts, accepted-fills}
 use Rattle.columns.specs.Names.{partOf}
 use Rattle.columns.proofs.WordLaws.{word-length, strand-is, letter-is}
@@ -68,8 +69,8 @@ module _ (s : List ℕ) (e : ℕ) (number : WordNumber (wordCount s 0)) (read : 
   unfolding bedColumns
   columns-count = rw length-take (omega (arith, most-words number))
 
-  pub line-spells : Spells (take (wordCount s 0) bedColumns) 0 (wordsOf (lineOf s)) (firsts (lineValues s))
-  line-spells = columns-spell (take (wordCount s 0) bedColumns) 0 s 0 e columns-count read
+  pub line-spells : Meant (take (wordCount s 0) bedColumns) 0 (wordsOf (lineOf s)) (firsts (lineValues s))
+  line-spells = columns-mean (take (wordCount s 0) bedColumns) 0 s 0 e columns-count read
 
   module _ (k : ℕ) (h : k < wordCount s 0) where
     -- word k spells value k
@@ -120,6 +121,42 @@ bed-same r q a b c d e f g h i j k =
     }) q = rw (a, b, c, d, e, f, g, h, i, j, k) in
     z
 
+-- the lists of the block columns are those of their words; where they are left out, one block
+module _ (s : List ℕ) (r : Bed) (number : WordNumber (wordCount s 0)) (words : r .words ≡ wordCount s 0) where
+  abbrev listed : List (List ℕ)
+  listed = listsIn (take (wordCount s 0) bedColumns) (wordsOf (lineOf s))
+
+  all-words : 9 < r .words → wordCount s 0 ≡ 12
+  all-words h = by-number number _ (λ a b. absurd (omega arith)) (λ q. q)
+
+  word-count : wordCount s 0 ≡ length (wordsOf (lineOf s))
+  unfolding wordCount
+  word-count = refl
+
+  pub listed-sizes : 9 < r .words → bedSizes s r ≡ getD listed 10 []
+  unfolding bedSizes bedColumns
+  listed-sizes h =
+      let w = all-words h in
+      let t : r .words ≡ 12 = words ∙ w in
+      let n : length (wordsOf (lineOf s)) ≡ 12 = sym word-count ∙ w in
+      rw (w, t, list-at bedColumns (wordsOf (lineOf s)) 10 (omega arith) (omega arith), word-bytes s 0 10)
+
+  pub listed-starts : 9 < r .words → bedStarts s r ≡ getD listed 11 []
+  unfolding bedStarts bedColumns
+  listed-starts h =
+      let w = all-words h in
+      let t : r .words ≡ 12 = words ∙ w in
+      let n : length (wordsOf (lineOf s)) ≡ 12 = sym word-count ∙ w in
+      rw (w, t, list-at bedColumns (wordsOf (lineOf s)) 11 (omega arith) (omega arith), word-bytes s 0 11)
+
+  pub span-size : r .words ≤ 9 → bedSizes s r ≡ (r .chromEnd - r .chromStart) ∷ []
+  unfolding bedSizes
+  span-size h = rw (ne-eqb (r .words) 12 (λ q. omega arith))
+
+  pub span-start : r .words ≤ 9 → bedStarts s r ≡ 0 ∷ []
+  unfolding bedStarts
+  span-start h = rw (ne-eqb (r .words) 12 (λ q. omega arith))
+
 -- an accepted line is a BED line that says its record
 module _ (s : List ℕ) (r : Bed) (ok : bedCheck s ≡ Accepted r) where
   abbrev a : Accepts s r
@@ -144,20 +181,21 @@ module _ (s : List ℕ) (r : Bed) (ok : bedCheck s ≡ Accepted r) where
   unfolding bedColumns
   letter-at h = letter-is true (getD us 10 0) (strand-spelt true _ (bytesOf s (wordAt s 0 5)) (getD us 10 0) (value-spelt s (a .end) number (a .read) 5 h) .0)
 
-  pub line-of : BedLine s (firsts (valuesFrom (take (wordCount s 0) bedColumns) 0 s 0)) r
+  pub line-of : BedLine s (firsts (valuesFrom (take (wordCount s 0) bedColumns) 0 s 0)) (listsIn (take (wordCount s 0) bedColumns) (wordsOf (lineOf s))) r (bedStarts s r) (bedSizes s r)
   unfolding bedRecord bedColumns
   line-of =
       let t = text-of s (a .text) in
       let o = thick-order r (thick-of r us (a .spans)) in
       let i = a .is in
       let three = least-words number in
+      let w : r .words ≡ n = rw i in
       record {
         short = t .0;
         allowed = t .1;
         oneLine = one-of s (some-text s (omega arith)) (a .line);
         number = number;
-        spelt = line-spells s (a .end) number (a .read);
-        words = rw i;
+        spelt = meant-spells (line-spells s (a .end) number (a .read));
+        words = w;
         chrom = rw i (name-at 0 (omega arith) refl);
         chromStart = rw i (first-at 1);
         chromEnd = rw i (first-at 2);
@@ -168,6 +206,8 @@ module _ (s : List ℕ) (r : Bed) (ok : bedCheck s ≡ Accepted r) where
         thickEnd = rw i (λ h. value-got n us 7 (getD us 4 0) h ∙ first-at 7);
         itemRgb = rw i (λ h. value-got n us 8 0 h ∙ first-at 8);
         blockCount = rw i (λ h. value-got n us 9 1 h ∙ first-at 9);
+        listedSizes = listed-sizes s r number w;
+        listedStarts = listed-starts s r number w;
         noName = rw i (λ h. rw (le-ltb 3 n h));
         noScore = rw i (λ h. value-none n us 4 0 h);
         noStrand = rw i (λ h. rw (le-ltb 5 n h));
@@ -175,6 +215,8 @@ module _ (s : List ℕ) (r : Bed) (ok : bedCheck s ≡ Accepted r) where
         noThickEnd = rw i (λ h. value-none n us 7 (getD us 4 0) h);
         noItemRgb = rw i (λ h. value-none n us 8 0 h);
         noBlocks = rw i (λ h. value-none n us 9 1 h);
+        spanSize = span-size s r number w;
+        spanStart = span-start s r number w;
         span = span-of r us (a .spans);
         thickLow = o .0;
         thickOrder = o .1;
@@ -183,10 +225,20 @@ module _ (s : List ℕ) (r : Bed) (ok : bedCheck s ≡ Accepted r) where
       }
 
 -- and a BED line is accepted, with the record that it says
-module _ (s : List ℕ) (r : Bed) (vs : List ℕ) (line : BedLine s vs r) where
+module _ (s : List ℕ) (r : Bed) (vs : List ℕ) (ls : List (List ℕ)) (starts sizes : List ℕ) (line : BedLine s vs ls r starts sizes) where
   reads : Reads (take (wordCount s 0) bedColumns) 0 s 0 vs
   unfolding bedColumns
-  reads = spells-read (take (wordCount s 0) bedColumns) 0 s 0 (wordsOf (lineOf s)) vs (rw length-take (omega (arith, most-words (line .number)))) refl (line .spelt)
+  reads = spells-read (take (wordCount s 0) bedColumns) 0 s 0 vs ls (rw length-take (omega (arith, most-words (line .number)))) (line .spelt)
+
+  pub line-sizes : sizes ≡ bedSizes s r
+  line-sizes = either (r .words) 9 _
+      (λ h. line .spanSize h ∙ sym (span-size s r (line .number) (line .words) h))
+      (λ h. line .listedSizes h ∙ ap (λ (l : List (List ℕ)). getD l 10 []) (spells-lists (line .spelt)) ∙ sym (listed-sizes s r (line .number) (line .words) h))
+
+  pub line-starts : starts ≡ bedStarts s r
+  line-starts = either (r .words) 9 _
+      (λ h. line .spanStart h ∙ sym (span-start s r (line .number) (line .words) h))
+      (λ h. line .listedStarts h ∙ ap (λ (l : List (List ℕ)). getD l 11 []) (spells-lists (line .spelt)) ∙ sym (listed-starts s r (line .number) (line .words) h))
 
   value-at : (k : ℕ) → getD vs k 0 ≡ getD (lineValues s) (2 * k) 0
   value-at k = sym (ap (λ (l : List ℕ). getD l k 0) (reads .values)) ∙ value-first (lineValues s) k
@@ -219,8 +271,8 @@ module _ (s : List ℕ) (r : Bed) (vs : List ℕ) (line : BedLine s vs r) where
   line-accepts : Accepts s r
   line-accepts =
       let q = said in
-      let starts : length (bedStarts s r) ≡ r .blockCount = rw q (starts-count s (reads .end) (reads .read) (length s) (line .number)) in
-      let sizes : length (bedSizes s r) ≡ r .blockCount = rw q (sizes-count s (reads .end) (reads .read) (length s) (line .number)) in
+      let some : length (bedStarts s r) ≡ r .blockCount = rw q (starts-count s (reads .end) (reads .read) (length s) (line .number)) in
+      let each : length (bedSizes s r) ≡ r .blockCount = rw q (sizes-count s (reads .end) (reads .read) (length s) (line .number)) in
       record {
         text = text-is s (line .short) (line .allowed);
         number = words-is s (wordCount s 0) (line .number);
@@ -229,8 +281,8 @@ module _ (s : List ℕ) (r : Bed) (vs : List ℕ) (line : BedLine s vs r) where
         line = one-is s (line .oneLine);
         is = q;
         spans = span-is r (lineValues s) (line .span) (line .thickLow) (line .thickOrder) (line .thickHigh);
-        blocks = block-is s r starts sizes (line .blocks);
+        blocks = block-is s r some each (rw (line-starts, line-sizes) at (line .blocks));
       }
 
-pub line-is : (s : List ℕ) (r : Bed) (vs : List ℕ) → BedLine s vs r → bedCheck s ≡ Accepted r
-line-is s r vs line = accepts-is s r (line-accepts s r vs line)
+pub line-is : (s : List ℕ) (r : Bed) (vs : List ℕ) (ls : List (List ℕ)) (starts sizes : List ℕ) → BedLine s vs ls r starts sizes → bedCheck s ≡ Accepted r
+line-is s r vs ls starts sizes line = accepts-is s r (line-accepts s r vs ls starts sizes line)

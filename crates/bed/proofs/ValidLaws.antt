@@ -9,6 +9,7 @@ use borrow.Author.Tests.{le-leb, eq-eqb, ne-eqb}
 use Rattle.ledger.specs.declared.Part.{Part}
 use Rattle.ledger.specs.Limits.{nameLimit, blockLimit, largestPosition}
 use Rattle.text.specs.Words.{wordAt, wordCount, bytesOf}
+use Rattle.text.specs.Pieces.{lineOf, wordsOf}
 use Rattle.text.proofs.Laws.{either}
 use Rattle.numbers.specs.declared.Spelt.the-variants.{Means}
 use Rattle.numbers.specs.Lists.{valuesOf}
@@ -20,6 +21,7 @@ use Rattle.kinds.proofs.RangeLaws.{number-spelt, count-spelt, name-spelt, colou
 use Rattle.columns.specs.Spells.{firsts}
 use Rattle.columns.specs.Places.{kindAt, countBefore}
 use Rattle.columns.proofs.PlaceLaws.{value-first}
+use Rattle.columns.proofs.Meant.{listsIn}
 use Rattle.blocks.specs.Blocks.{blocksFill, sumsFrom, sumOf, areSums, allBetween}
 use Rattle.blocks.proofs.RuleLaws.{between-is, fill-low, fill-shift, shifted-length, sums-made, sums-length, total-fits, wider, fills-of, sums-of, ranged-of}
 use Rattle.bed.specs.declared.Bed.{Bed}
@@ -59,7 +61,7 @@ module _ (s : List ℕ) (r : Bed) (ok : bedCheck s ≡ Accepted r) where
   abbrev vs : List ℕ
   vs = firsts (lineValues s)
 
-  abbrev line : BedLine s vs r
+  abbrev line : BedLine s vs (listsIn (take (wordCount s 0) bedColumns) (wordsOf (lineOf s))) r (bedStarts s r) (bedSizes s r)
   line = line-of s r ok
 
   abbrev before : ℕ → ℕ

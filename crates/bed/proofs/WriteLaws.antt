@@ -22,8 +22,8 @@ use Rattle.writing.specs.declared.Writing.the-variants as writing
 use Rattle.kinds.proofs.SpellLaws.{part-stored}
 use Rattle.columns.specs.Columns.{tableOf}
 use Rattle.columns.specs.Lines.{lineText, fedLine}
-use Rattle.columns.specs.Ranges.{wordsFrom}
-use Rattle.columns.proofs.BackLaws.{line-joins, words-take}
+use Rattle.columns.specs.Lines.{wordsFrom}
+use Rattle.columns.proofs.JoinLaws.{line-joins, words-take}
 use Rattle.columns.proofs.PlaceLaws.{sets-keep, sets-there}
 use Rattle.blocks.specs.Blocks.{rowsOf, subtracted, rowNumbersFit}
 use Rattle.bed.specs.declared.Bed.{Bed}

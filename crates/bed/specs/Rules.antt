@@ -18,7 +18,6 @@ use Rattle.columns.specs.Spells.{Spells}
 use Rattle.blocks.specs.Rules.{Fills, Sums, Ranged}
 use Rattle.bed.specs.declared.Bed.{Bed}
 use Rattle.bed.specs.Table.{bedColumns}
-use Rattle.bed.specs.Records.{bedSizes, bedStarts}
 use Rattle.columns.specs.Names.{partOf}
 
 -- a BED line has 3 to 9 words, or 12
@@ -26,15 +25,16 @@ pub data WordNumber : ℕ → Type 0 where
   three-to-nine : {n : ℕ} → 3 ≤ n → n ≤ 9 → WordNumber n
   twelve : WordNumber 12
 
--- the text s is a BED line whose words spell the values vs, one a column, and the record r is what it says
-pub record BedLine (s vs : List ℕ) (r : Bed) : Type 0 where
+-- the text s is a BED line whose words spell the values vs and the lists ls, one a column; the record r, and the starts and sizes of its blocks, are what
+-- it says
+pub record BedLine (s vs : List ℕ) (ls : List (List ℕ)) (r : Bed) (starts sizes : List ℕ) : Type 0 where
   -- the text
   pub short : length s ≤ textLimit
   pub allowed : run Allowed s ≡ length s
   pub oneLine : linesOf s ≡ lineOf s ∷ []
   -- its words
   pub number : WordNumber (wordCount s 0)
-  pub spelt : Spells (take (wordCount s 0) bedColumns) 0 (wordsOf (lineOf s)) vs
+  pub spelt : Spells (take (wordCount s 0) bedColumns) 0 (wordsOf (lineOf s)) vs ls
   -- the record is what they spell
   pub words : r .words ≡ wordCount s 0
   pub chrom : r .chrom ≡ partOf (wordAt s 0 0)
@@ -47,7 +47,9 @@ pub record BedLine (s vs : List ℕ) (r : Bed) : Type 0 where
   pub thickEnd : 7 < r .words → r .thickEnd ≡ getD vs 7 0
   pub itemRgb : 8 < r .words → r .itemRgb ≡ getD vs 8 0
   pub blockCount : 9 < r .words → r .blockCount ≡ getD vs 9 0
-  -- columns left out hold their defaults
+  pub listedSizes : 9 < r .words → sizes ≡ getD ls 10 []
+  pub listedStarts : 9 < r .words → starts ≡ getD ls 11 []
+  -- columns left out hold their defaults; one block, the span
   pub noName : r .words ≤ 3 → r .name ≡ record { start = length s; length = 0 }
   pub noScore : r .words ≤ 4 → r .score ≡ 0
   pub noStrand : r .words ≤ 5 → r .strand ≡ Dot
@@ -55,13 +57,15 @@ pub record BedLine (s vs : List ℕ) (r : Bed) : Type 0 where
   pub noThickEnd : r .words ≤ 7 → r .thickEnd ≡ r .chromEnd
   pub noItemRgb : r .words ≤ 8 → r .itemRgb ≡ 0
   pub noBlocks : r .words ≤ 9 → r .blockCount ≡ 1
+  pub spanSize : r .words ≤ 9 → sizes ≡ (r .chromEnd - r .chromStart) ∷ []
+  pub spanStart : r .words ≤ 9 → starts ≡ 0 ∷ []
   -- the spans
   pub span : r .chromStart < r .chromEnd
   pub thickLow : r .chromStart ≤ r .thickStart
   pub thickOrder : r .thickStart ≤ r .thickEnd
   pub thickHigh : r .thickEnd ≤ r .chromEnd
   -- the blocks, from chromStart on
-  pub blocks : Fills 0 (r .chromEnd - r .chromStart) (r .blockCount) (bedStarts s r) (bedSizes s r)
+  pub blocks : Fills 0 (r .chromEnd - r .chromStart) (r .blockCount) starts sizes
 
 -- the record r with the first blockCount rows of ts, qs, zs is a BED record
 pub record BedRules (r : Bed) (ts qs zs : List ℕ) : Type 0 where

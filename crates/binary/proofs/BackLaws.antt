@@ -1,15 +1,13 @@
 -- Reading back what was stored gives the number. Assumes nothing.
 use mathlib.Core.Path.{_≡_, refl, ap, _∙_}
 use mathlib.Core.List.{List, [], _∷_, _++_, append-assoc}
-use Prim.Native.Nat.{ℕ, zero, suc, _+_, _*_, _/_, _%_, _^_, _≤_, _<_}
+use Prim.Native.Nat.{ℕ, zero, suc, _+_, _*_, _/_, _%_, _^_, _<_}
 use native.Mathlib.Omega.{arith}
 use native.Mathlib.Nat.{pow-suc}
-use lib.ListN.{length, getD, take, drop, length-append}
-use lib.Seq.{sets, sets-eq, length-take-le}
+use lib.ListN.{length, getD, length-append}
 use Rattle.ledger.specs.declared.Row.{Row}
 use Rattle.ledger.specs.Limits.{largestNumber}
 use Rattle.numbers.specs.Ranges.{Between, between-more}
-use Rattle.writing.specs.Puts.{Put}
 use Rattle.binary.specs.Bytes.{lowBytes, wordSize, wordsBytes, lowAt, rowsNumbers}
 
 pub low-length : (k n : ℕ) → length (lowBytes k n) ≡ k
@@ -46,14 +44,6 @@ low-back zero n rest h = omega arith
 low-back (suc k) n rest h =
     let e = low-on k (n % 256) (lowBytes k (n / 256) ++ rest) 0 ∙ low-back k (n / 256) rest (omega (arith, pow-suc 256 k)) in
     rw e (omega arith)
-
--- where a number was put, that number is read
-pub put-back : (k n at r : ℕ) (before after : List ℕ) → Put (lowBytes k n) at before after r → at + k ≤ length before → n < 256 ^ k → lowAt k after at ≡ n
-put-back k n at r before after f h l =
-    let j : at + length (lowBytes k n) ≤ length before = omega (arith, low-length k n) in
-    let e : sets before at (lowBytes k n) ≡ take at before ++ (lowBytes k n ++ drop (at + length (lowBytes k n)) before) = sets-eq (lowBytes k n) before at j ∙ append-assoc (take at before) (lowBytes k n) (drop (at + length (lowBytes k n)) before) in
-    let m : at ≡ length (take at before) + 0 = omega (arith, length-take-le at before (omega arith)) in
-    rw (f .stored, e) (ap (lowAt k _) m ∙ low-after k (take at before) (lowBytes k n ++ drop (at + length (lowBytes k n)) before) 0 ∙ low-back k n _ l)
 
 -- of numbers stored one after the other, number i stands at 8 × i
 pub words-back : (vs rest : List ℕ) (i : ℕ) → Between 0 largestNumber vs → i < length vs → lowAt wordSize (wordsBytes vs ++ rest) (wordSize * i) ≡ getD vs i 0

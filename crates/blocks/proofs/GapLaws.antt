@@ -1,16 +1,15 @@
 -- What each step over numbers and over the gaps between blocks adds, on plain values; and what gaps and sizes come to in a span that blocks fill. Assumes nothing.
 use mathlib.Core.Path.{_≡_, refl, sym, _∙_}
-use mathlib.Core.Bool.{Bool, true, false, false≢true}
+use mathlib.Core.Bool.{Bool, true, false}
 use mathlib.Core.List.{List, [], _∷_}
 use Prim.Native.Nat.{ℕ, _+_, _-_, _≤_, _<_, min}
 use native.Mathlib.Omega.{arith}
 use lib.ListN.{length, take, drop, getD, length-take, length-drop}
-use lib.Dec.{leb, ltb, eqb}
-use borrow.Author.Tests.{eq-eqb, ne-eqb, eqb-true, eqb-false, leb-true, ltb-true, ltb-false}
+use lib.Dec.{ltb, eqb}
+use borrow.Author.Tests.{eq-eqb, ne-eqb, eqb-true, eqb-false, ltb-true, ltb-false}
 use Rattle.ledger.specs.Limits.{largestNumber}
-use Rattle.blocks.specs.Blocks.{orderFrom, blocksFill, capped, sumOf, oneGap, gapsFrom, basesFrom, gapCount, gapBases}
+use Rattle.blocks.specs.Blocks.{capped, sumOf, oneGap, gapsFrom, basesFrom, gapCount, gapBases}
 use Rattle.blocks.proofs.BlockLaws.{row, rows-done}
-use Rattle.blocks.proofs.RuleLaws.{both}
 
 -- the sum of the rows from a place on, after the sum of those before it
 module _ (l : List ℕ) (k n i sum : ℕ) (en : n ≡ min k (length l)) (inv : capped (sum + sumOf (drop i (take k l))) ≡ capped (sumOf (take k l))) where
@@ -112,41 +111,6 @@ module _ (xs ys : List ℕ) (k m n : ℕ) (em : m ≡ min k (length ys)) (en : n
       pub bases-done : n ≤ i → bases ≤ largestNumber → bases ≡ capped (gapBases (take k xs) (take k ys))
       bases-done h q = omega (arith, bases-end s z (drop i (take k xs)) (drop i (take k ys)) (ended i h))
 
--- where blocks fill a span, their gaps and sizes make it up
-order-gaps : (s z last : ℕ) (ss zs : List ℕ) → orderFrom s z last ss zs ≡ true → s + (basesFrom s z ss zs + (z + sumOf zs)) ≡ last
-unfolding orderFrom basesFrom sumOf
-order-gaps s z last [] [] e = let h = eqb-true (s + z) last e in omega arith
-order-gaps s z last [] (y ∷ zs) e = absurd (false≢true e)
-order-gaps s z last (x ∷ ss) [] e = absurd (false≢true e)
-order-gaps s z last (x ∷ ss) (y ∷ zs) e =
-    let b = both (leb (s + z) x) (orderFrom x y last ss zs) e in
-    let h = leb-true (s + z) x (b .0) in
-    let t = order-gaps x y last ss zs (b .1) in
-    omega arith
-
-pub gap-total : (first last : ℕ) (ss zs : List ℕ) → blocksFill first last ss zs ≡ true → gapBases ss zs + sumOf zs ≡ last - first
-unfolding blocksFill gapBases sumOf
-gap-total first last [] zs e = absurd (false≢true e)
-gap-total first last (x ∷ ss) [] e = absurd (false≢true e)
-gap-total first last (x ∷ ss) (y ∷ zs) e =
-    let b = both (eqb x first) (orderFrom x y last ss zs) e in
-    let h = eqb-true x first (b .0) in
-    let t = order-gaps x y last ss zs (b .1) in
-    omega arith
-
--- there are no more gaps than blocks
-few-from : (s z : ℕ) (ss zs : List ℕ) → gapsFrom s z ss zs ≤ length ss
-unfolding gapsFrom
-few-from s z [] zs = omega arith
-few-from s z (x ∷ ss) [] = omega arith
-few-from s z (x ∷ ss) (y ∷ zs) = omega (arith, one-gap (s + z) x (gapsFrom x y ss zs), few-from x y ss zs)
-
-pub gap-few : (ss zs : List ℕ) → gapCount ss zs ≤ length ss
-unfolding gapCount
-gap-few [] zs = omega arith
-gap-few (x ∷ ss) [] = omega arith
-gap-few (x ∷ ss) (y ∷ zs) = omega (arith, few-from x y ss zs)
-
 -- against a number below the largest, a capped number compares as the number itself
 pub capped-eq : (n m : ℕ) → m < largestNumber → eqb (capped n) m ≡ eqb n m
 capped-eq n m h = go (eqb n m) refl
@@ -154,10 +118,3 @@ capped-eq n m h = go (eqb n m) refl
     go : (t : Bool) → eqb n m ≡ t → eqb (capped n) m ≡ eqb n m
     go true e = let q = eqb-true n m e in eq-eqb (capped n) m (omega arith) ∙ sym e
     go false e = ne-eqb (capped n) m (λ q. eqb-false n m e (omega arith)) ∙ sym e
-
-pub eq-capped : (n m : ℕ) → m < largestNumber → eqb m (capped n) ≡ eqb m n
-eq-capped n m h = go (eqb m n) refl
-  where
-    go : (t : Bool) → eqb m n ≡ t → eqb m (capped n) ≡ eqb m n
-    go true e = let q = eqb-true m n e in eq-eqb m (capped n) (omega arith) ∙ sym e
-    go false e = ne-eqb m (capped n) (λ q. eqb-false m n e (omega arith)) ∙ sym e

@@ -184,9 +184,6 @@ fill-total first last (x ∷ ss) (y ∷ zs) e =
 pub total-fits : (first last : ℕ) (ss zs : List ℕ) → blocksFill first last ss zs ≡ true → sumOf zs ≤ last - first
 total-fits first last ss zs e = let t = fill-total first last ss zs e in omega arith
 
-pub fill-ends : (first last : ℕ) (ss zs : List ℕ) → blocksFill first last ss zs ≡ true → first ≤ last
-fill-ends first last ss zs e = let t = fill-total first last ss zs e in omega arith
-
 order-low : (first s z last : ℕ) (ss zs : List ℕ) → first ≤ s → orderFrom s z last ss zs ≡ true → allBetween first last ss ≡ true
 unfolding orderFrom allBetween
 order-low first s z last [] zs l e = refl
@@ -239,11 +236,6 @@ pub shifted-length : (a : ℕ) (xs : List ℕ) → length (shifted a xs) ≡ len
 unfolding shifted
 shifted-length a [] = refl
 shifted-length a (x ∷ xs) = ap suc (shifted-length a xs)
-
-pub shifted-back : (a : ℕ) (xs : List ℕ) → subtracted a (shifted a xs) ≡ xs
-unfolding shifted subtracted
-shifted-back a [] = refl
-shifted-back a (x ∷ xs) = let q : a + x - a ≡ x = omega arith in rw (q, shifted-back a xs)
 
 pub back-shifted : (a most : ℕ) (xs : List ℕ) → allBetween a most xs ≡ true → shifted a (subtracted a xs) ≡ xs
 unfolding shifted subtracted allBetween

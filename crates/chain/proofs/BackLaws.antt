@@ -25,7 +25,7 @@ use Rattle.kinds.specs.declared.Fixed.the-variants as fixed
 use Rattle.kinds.specs.declared.Range.the-variants.{Coordinate, Size, ChainScore, ChainId}
 use Rattle.kinds.specs.declared.Kind.the-variants.{Number, Stranded, Word}
 use Rattle.kinds.proofs.BackLaws.{Written, written}
-use Rattle.columns.specs.Spells.{Spells}
+use Rattle.columns.proofs.Meant.{Meant, meant-spells}
 use Rattle.blocks.specs.Blocks.{countFits, rowsOf, rowNumbersFit}
 use Rattle.chain.specs.declared.Chain.{Chain}
 use Rattle.chain.specs.declared.ChainAnswer.the-variants.{Accepted}
@@ -140,12 +140,12 @@ module _ (r : Chain) (ts qs zs : List ℕ) (c : ChainRules r ts qs zs) where
       let w = row-worded row in
       let none : fedWords (digits (getD zs i 0) ∷ []) ++ [] ≡ fedWords (digits (getD zs i 0) ∷ []) = append-assoc (joined 32 (digits (getD zs i 0) ∷ [])) (10 ∷ []) [] in
       let ls : linesOf (fedWords (digits (getD zs i 0) ∷ [])) ≡ joined 32 (digits (getD zs i 0) ∷ []) ∷ [] = sym (ap linesOf none) ∙ fed-lines (digits (getD zs i 0) ∷ []) w [] ∙ ap (λ (x : List (List ℕ)). joined 32 (digits (getD zs i 0) ∷ []) ∷ x) lines-none in
-      let sp : Spells (take 1 blockColumns) 0 (wordsOf (joined 32 (digits (getD zs i 0) ∷ []))) (getD zs i 0 ∷ []) = rw (fed-words (digits (getD zs i 0) ∷ []) w) (row-spells row) in
+      let sp : Meant (take 1 blockColumns) 0 (wordsOf (joined 32 (digits (getD zs i 0) ∷ []))) (getD zs i 0 ∷ []) = rw (fed-words (digits (getD zs i 0) ∷ []) w) (row-spells row) in
       let p : n - 1 ≡ i = omega arith in
       let a : getD ts i 0 + getD zs i 0 ≡ r .tEnd = rw p at (c .tBlocks .lastEnd) in
       let b : getD qs i 0 + getD zs i 0 ≡ r .qEnd = rw p at (c .qBlocks .lastEnd) in
       rw (ls, rows-cons 0 i ts (omega (arith, c .targetRows)), rows-cons 0 i qs (omega (arith, c .queryRows)), rows-cons 0 i zs (omega (arith, c .sizeRows)))
-      (last-line sp a b)
+      (last-line (meant-spells sp) a b)
 
   more-says : (k i : ℕ) → suc (suc i) + k ≡ n
       → BlockLines (r .tEnd) (r .qEnd) (linesOf (blockText k (suc i) ts qs zs)) (getD ts (suc i) 0) (getD qs (suc i) 0) (take (suc k) (drop (suc i) ts)) (take (suc k) (drop (suc i) qs)) (take (suc k) (drop (suc i) zs))
@@ -154,13 +154,13 @@ module _ (r : Chain) (ts qs zs : List ℕ) (c : ChainRules r ts qs zs) where
   more-says k i e b =
       let row = gap-row i (omega arith) in
       let w = row-worded row in
-      let sp : Spells blockColumns 0 (wordsOf (joined 32 (gapWords i ts qs zs))) (getD zs i 0 ∷ dt i ∷ dq i ∷ []) = rw (fed-words (gapWords i ts qs zs) w) (row-spells row) in
+      let sp : Meant blockColumns 0 (wordsOf (joined 32 (gapWords i ts qs zs))) (getD zs i 0 ∷ dt i ∷ dq i ∷ []) = rw (fed-words (gapWords i ts qs zs) w) (row-spells row) in
       let t = target-after i (omega arith) in
       let q = query-after i (omega arith) in
       let x : getD ts (suc i) 0 ≡ getD ts i 0 + getD zs i 0 + dt i = omega arith in
       let y : getD qs (suc i) 0 ≡ getD qs i 0 + getD zs i 0 + dq i = omega arith in
       rw (fed-lines (gapWords i ts qs zs) w (blockText k (suc i) ts qs zs), rows-cons (suc k) i ts (omega (arith, c .targetRows)), rows-cons (suc k) i qs (omega (arith, c .queryRows)), rows-cons (suc k) i zs (omega (arith, c .sizeRows)))
-      (more-lines sp (lines-as _ _ _ _ x y b))
+      (more-lines (meant-spells sp) (lines-as _ _ _ _ x y b))
 
   says : (k i : ℕ) → suc i + k ≡ n → BlockLines (r .tEnd) (r .qEnd) (linesOf (blockText k i ts qs zs)) (getD ts i 0) (getD qs i 0) (take (suc k) (drop i ts)) (take (suc k) (drop i qs)) (take (suc k) (drop i zs))
   says zero i e = last-says i (omega arith)
@@ -237,11 +237,13 @@ module _ (r : Chain) (tName qName ts qs zs : List ℕ) (ok : MayWrite r tName qN
   unfolding placed
   text-read short =
       let k = ok .rules in
+      let head-words : Meant chainColumns 0 (wordsOf (lineOf s)) (wordValues r tName qName) = rw text-words (row-spells head-row) in
       record {
         short = short;
         allowed = text-allowed;
         lines = text-lines;
-        spelt = rw text-words (row-spells head-row);
+        lists = _;
+        spelt = meant-spells head-words;
         score = refl;
         tName = refl;
         tSize = refl;

@@ -23,8 +23,9 @@ use Rattle.columns.specs.declared.Columns.{Columns}
 use Rattle.columns.specs.declared.Columns.the-variants.{Next}
 use Rattle.columns.specs.declared.Columns.the-variants as columns
 use Rattle.columns.specs.Columns.{tableOf, columnsFrom, valuesFrom, ColumnsRead}
-use Rattle.columns.specs.Spells.{Spells, firsts}
-use Rattle.columns.proofs.SpellsLaws.{columns-spell}
+use Rattle.columns.specs.Spells.{firsts}
+use Rattle.columns.proofs.Meant.{Meant}
+use Rattle.columns.proofs.SpellsLaws.{columns-mean}
 use Rattle.columns.proofs.PlaceLaws.{spelt-at, value-first, values-length}
 use Rattle.chain.specs.declared.Block.{Block}
 use Rattle.chain.specs.declared.Block.the-variants.{Last, Gap}
@@ -67,7 +68,7 @@ module _ (s : List ℕ) (line e : ℕ) where
   unfolding blockColumns
   one-low w read =
       let vs = valuesFrom (take 1 blockColumns) 0 s line in
-      rw (← value-first vs 0) (number-spelt Size _ _ _ (spelt-at (columns-spell (take 1 blockColumns) 0 s line e w read) 0 (omega arith)) .1)
+      rw (← value-first vs 0) (number-spelt Size _ _ _ (spelt-at (columns-mean (take 1 blockColumns) 0 s line e w read) 0 (omega arith)) .1)
 
   one-past : columnsFrom (take 1 blockColumns) 0 s line ≡ Next e → (i : ℕ) → 2 ≤ i → getD (valuesFrom (take 1 blockColumns) 0 s line) i 0 ≤ largestPosition
   unfolding blockColumns
@@ -81,9 +82,9 @@ module _ (s : List ℕ) (line e : ℕ) where
     abbrev ws : List ℕ
     ws = valuesFrom (take 3 blockColumns) 0 s line
 
-    three-spells : Spells (take 3 blockColumns) 0 (wordsOf (lineOf (drop line s))) (firsts ws)
+    three-spells : Meant (take 3 blockColumns) 0 (wordsOf (lineOf (drop line s))) (firsts ws)
     unfolding blockColumns
-    three-spells = columns-spell (take 3 blockColumns) 0 s line e w read
+    three-spells = columns-mean (take 3 blockColumns) 0 s line e w read
 
     three-size : getD ws 0 0 ≤ largestPosition
     unfolding blockColumns

@@ -23,8 +23,9 @@ use Rattle.columns.specs.declared.Columns.{Columns}
 use Rattle.columns.specs.declared.Columns.the-variants.{Next}
 use Rattle.columns.specs.declared.Columns.the-variants as columns
 use Rattle.columns.specs.Columns.{columnsFrom, valuesFrom}
-use Rattle.columns.specs.Spells.{Spells, firsts}
-use Rattle.columns.proofs.SpellsLaws.{columns-spell, Reads, spells-read, spells-length}
+use Rattle.columns.specs.Spells.{firsts}
+use Rattle.columns.proofs.Meant.{Meant, meant-length, meant-spells, spells-meant}
+use Rattle.columns.proofs.SpellsLaws.{columns-mean, Reads, meant-read}
 use Rattle.columns.proofs.PlaceLaws.{value-first}
 use Rattle.chain.specs.declared.Block.{Block}
 use Rattle.chain.specs.declared.Block.the-variants.{Last, Gap}
@@ -95,56 +96,56 @@ module _ (s : List ℕ) (line : ℕ) where
   abbrev here : List (List ℕ)
   here = wordsOf (lineOf (drop line s))
 
-  three-spell : (z dt dq e : ℕ) → wordCount s line ≡ 3 → columnsFrom (take 3 blockColumns) 0 s line ≡ Next e → Gap z dt dq ≡ blockIs 3 (valuesFrom (take 3 blockColumns) 0 s line) → Spells blockColumns 0 here (z ∷ dt ∷ dq ∷ [])
+  three-spell : (z dt dq e : ℕ) → wordCount s line ≡ 3 → columnsFrom (take 3 blockColumns) 0 s line ≡ Next e → Gap z dt dq ≡ blockIs 3 (valuesFrom (take 3 blockColumns) 0 s line) → Meant blockColumns 0 here (z ∷ dt ∷ dq ∷ [])
   unfolding blockColumns
   three-spell z dt dq e w read is =
       let vs = valuesFrom (take 3 blockColumns) 0 s line in
-      let sp : Spells blockColumns 0 here (firsts vs) = columns-spell (take 3 blockColumns) 0 s line e w read in
+      let sp : Meant blockColumns 0 here (firsts vs) = columns-mean (take 3 blockColumns) 0 s line e w read in
       let a : getD (firsts vs) 0 0 ≡ z = value-first vs 0 ∙ cc in
       let b : getD (firsts vs) 1 0 ≡ dt = value-first vs 1 ∙ cc in
       let c : getD (firsts vs) 2 0 ≡ dq = value-first vs 2 ∙ cc in
-      let f : firsts vs ≡ z ∷ dt ∷ dq ∷ [] = three-is (firsts vs) (spells-length sp .1) ∙ rw (a, b, c) in
+      let f : firsts vs ≡ z ∷ dt ∷ dq ∷ [] = three-is (firsts vs) (meant-length sp .1) ∙ rw (a, b, c) in
       rw f at sp
 
-  one-spell : (z e : ℕ) → wordCount s line ≡ 1 → columnsFrom (take 1 blockColumns) 0 s line ≡ Next e → Last z ≡ blockIs 1 (valuesFrom (take 1 blockColumns) 0 s line) → Spells (take 1 blockColumns) 0 here (z ∷ [])
+  one-spell : (z e : ℕ) → wordCount s line ≡ 1 → columnsFrom (take 1 blockColumns) 0 s line ≡ Next e → Last z ≡ blockIs 1 (valuesFrom (take 1 blockColumns) 0 s line) → Meant (take 1 blockColumns) 0 here (z ∷ [])
   unfolding blockColumns
   one-spell z e w read is =
       let vs = valuesFrom (take 1 blockColumns) 0 s line in
-      let sp : Spells (take 1 blockColumns) 0 here (firsts vs) = columns-spell (take 1 blockColumns) 0 s line e w read in
+      let sp : Meant (take 1 blockColumns) 0 here (firsts vs) = columns-mean (take 1 blockColumns) 0 s line e w read in
       let a : getD (firsts vs) 0 0 ≡ z = value-first vs 0 ∙ cc in
-      let f : firsts vs ≡ z ∷ [] = one-is (firsts vs) (spells-length sp .1) ∙ rw a in
+      let f : firsts vs ≡ z ∷ [] = one-is (firsts vs) (meant-length sp .1) ∙ rw a in
       rw f at sp
 
-  pub gap-spells : (z dt dq : ℕ) → blockLine s line ≡ Gap z dt dq → Spells blockColumns 0 here (z ∷ dt ∷ dq ∷ [])
+  pub gap-spells : (z dt dq : ℕ) → blockLine s line ≡ Gap z dt dq → Meant blockColumns 0 here (z ∷ dt ∷ dq ∷ [])
   gap-spells z dt dq e =
       let g = good-of (Gap z dt dq) (λ x q. let k : _≡_ {A = ℕ} 0 1 = cc in omega arith) e in
       count-split (wordCount s line) (words-good s line (wordCount s line) (g .count)) _
       (λ q. absurd (let k = rw (eq-eqb (wordCount s line) 1 q) at (g .is) in let z : _≡_ {A = ℕ} 0 1 = cc in omega arith))
       (λ q. three-spell z dt dq (g .end) q (rw q at (g .read)) (rw q at (g .is)))
 
-  pub last-spells : (z : ℕ) → blockLine s line ≡ Last z → Spells (take 1 blockColumns) 0 here (z ∷ [])
+  pub last-spells : (z : ℕ) → blockLine s line ≡ Last z → Meant (take 1 blockColumns) 0 here (z ∷ [])
   last-spells z e =
       let g = good-of (Last z) (λ x q. let k : _≡_ {A = ℕ} 0 1 = cc in omega arith) e in
       count-split (wordCount s line) (words-good s line (wordCount s line) (g .count)) _
       (λ q. one-spell z (g .end) q (rw q at (g .read)) (rw q at (g .is)))
       (λ q. absurd (let k = rw q at (g .is) in let z : _≡_ {A = ℕ} 0 1 = cc in omega arith))
 
-  pub spells-gap : (z dt dq : ℕ) → Spells blockColumns 0 here (z ∷ dt ∷ dq ∷ []) → blockLine s line ≡ Gap z dt dq
+  pub spells-gap : (z dt dq : ℕ) → Meant blockColumns 0 here (z ∷ dt ∷ dq ∷ []) → blockLine s line ≡ Gap z dt dq
   unfolding blockLine blockWords wordsCheck blockNumbers blockColumns wordCount
   spells-gap z dt dq sp =
-      let w : length here ≡ 3 = spells-length sp .0 in
-      let rd : Reads (take 3 blockColumns) 0 s line (z ∷ dt ∷ dq ∷ []) = spells-read (take 3 blockColumns) 0 s line here (z ∷ dt ∷ dq ∷ []) w refl sp in
+      let w : length here ≡ 3 = meant-length sp .0 in
+      let rd : Reads (take 3 blockColumns) 0 s line (z ∷ dt ∷ dq ∷ []) = meant-read (take 3 blockColumns) 0 s line here (z ∷ dt ∷ dq ∷ []) w refl sp in
       let vs = valuesFrom (take 3 blockColumns) 0 s line in
       let a : getD vs 0 0 ≡ z = sym (value-first vs 0) ∙ ap (λ (l : List ℕ). getD l 0 0) (rd .values) in
       let b : getD vs 2 0 ≡ dt = sym (value-first vs 1) ∙ ap (λ (l : List ℕ). getD l 1 0) (rd .values) in
       let c : getD vs 4 0 ≡ dq = sym (value-first vs 2) ∙ ap (λ (l : List ℕ). getD l 2 0) (rd .values) in
       rw (w, rd .read, a, b, c)
 
-  pub spells-last : (z : ℕ) → Spells (take 1 blockColumns) 0 here (z ∷ []) → blockLine s line ≡ Last z
+  pub spells-last : (z : ℕ) → Meant (take 1 blockColumns) 0 here (z ∷ []) → blockLine s line ≡ Last z
   unfolding blockLine blockWords wordsCheck blockNumbers blockColumns wordCount
   spells-last z sp =
-      let w : length here ≡ 1 = spells-length sp .0 in
-      let rd : Reads (take 1 blockColumns) 0 s line (z ∷ []) = spells-read (take 1 blockColumns) 0 s line here (z ∷ []) w refl sp in
+      let w : length here ≡ 1 = meant-length sp .0 in
+      let rd : Reads (take 1 blockColumns) 0 s line (z ∷ []) = meant-read (take 1 blockColumns) 0 s line here (z ∷ []) w refl sp in
       let vs = valuesFrom (take 1 blockColumns) 0 s line in
       let a : getD vs 0 0 ≡ z = sym (value-first vs 0) ∙ ap (λ (l : List ℕ). getD l 0 0) (rd .values) in
       rw (w, rd .read, a)
@@ -163,7 +164,7 @@ module _ (te qe : ℕ) (s : List ℕ) (k line t q count : ℕ) (fits : suc k ≤
   last-ends z g l et eq ec =
       let past : length s ≤ nextLine s line = leb-true (length s) (nextLine s line) (require-holds _ _ _ l .0) in
       let one : linesOf (drop line s) ≡ lineOf (drop line s) ∷ [] = lines-at s line h ∙ ap (λ (x : List (List ℕ)). lineOf (drop line s) ∷ x) (lines-past s (nextLine s line) past) in
-      record { n = 1; some = omega arith; few = omega arith; is = omega arith; says = rw (one, last-holds s line z g) (last-line (last-spells s line z g) et eq) }
+      record { n = 1; some = omega arith; few = omega arith; is = omega arith; says = rw (one, last-holds s line z g) (last-line (meant-spells (last-spells s line z g)) et eq) }
 
   more-ends : (z dt dq : ℕ) → blockLine s line ≡ Gap z dt dq → Ends te qe s k (nextLine s line) (t + z + dt) (q + z + dq) count → Ends te qe s (suc k) line t q count
   unfolding targetsFrom queriesFrom sizesFrom
@@ -171,7 +172,7 @@ module _ (te qe : ℕ) (s : List ℕ) (k line t q count : ℕ) (fits : suc k ≤
       let v = gap-holds s line z dt dq g in
       let a = r .few in
       let b = r .is in
-      record { n = suc (r .n); some = omega arith; few = omega arith; is = omega arith; says = rw (lines-at s line h, v .0, v .1, v .2) (more-lines (gap-spells s line z dt dq g) (r .says)) }
+      record { n = suc (r .n); some = omega arith; few = omega arith; is = omega arith; says = rw (lines-at s line h, v .0, v .1, v .2) (more-lines (meant-spells (gap-spells s line z dt dq g)) (r .says)) }
 
 pub walk-says : (s : List ℕ) (k : ℕ) → k ≤ blockLimit → (line t q : ℕ) (e : Ending) → linesFrom k s line t q ≡ Ended e → lastLineCheck s (e .line) ≡ Holds → Ends (e .target) (e .query) s k line t q (e .count)
 unfolding linesFrom
@@ -223,7 +224,7 @@ module _ (te qe : ℕ) (s : List ℕ) (k line t q : ℕ) (fits : suc k ≤ block
   less : suc k - 1 ≡ k
   less = omega arith
 
-  last-ran : (z : ℕ) → ls ≡ [] → Spells (take 1 blockColumns) 0 (wordsOf l) (z ∷ []) → t + z ≡ te → q + z ≡ qe → Ran te qe s (suc k) line t q (t ∷ []) (q ∷ []) (z ∷ [])
+  last-ran : (z : ℕ) → ls ≡ [] → Meant (take 1 blockColumns) 0 (wordsOf l) (z ∷ []) → t + z ≡ te → q + z ≡ qe → Ran te qe s (suc k) line t q (t ∷ []) (q ∷ []) (z ∷ [])
   unfolding targetsFrom queriesFrom sizesFrom
   last-ran z none sp et eq =
       let g : blockLine s line ≡ Last z = spells-last s line z (rw this-line at sp) in
@@ -241,7 +242,7 @@ module _ (te qe : ℕ) (s : List ℕ) (k line t q : ℕ) (fits : suc k ≤ block
         sizes = rw (last-holds s line z g);
       }
 
-  more-ran : (z dt dq : ℕ) (ts qs zs : List ℕ) → Spells blockColumns 0 (wordsOf l) (z ∷ dt ∷ dq ∷ []) → Ran te qe s k (nextLine s line) (t + z + dt) (q + z + dq) ts qs zs → Ran te qe s (suc k) line t q (t ∷ ts) (q ∷ qs) (z ∷ zs)
+  more-ran : (z dt dq : ℕ) (ts qs zs : List ℕ) → Meant blockColumns 0 (wordsOf l) (z ∷ dt ∷ dq ∷ []) → Ran te qe s k (nextLine s line) (t + z + dt) (q + z + dq) ts qs zs → Ran te qe s (suc k) line t q (t ∷ ts) (q ∷ qs) (z ∷ zs)
   unfolding targetsFrom queriesFrom sizesFrom
   more-ran z dt dq ts qs zs sp r =
       let g : blockLine s line ≡ Gap z dt dq = spells-gap s line z dt dq (rw this-line at sp) in
@@ -262,7 +263,7 @@ module _ (te qe : ℕ) (s : List ℕ) (k line t q : ℕ) (fits : suc k ≤ block
 
 pub lines-run : {te qe : ℕ} (s : List ℕ) (k line : ℕ) {t q : ℕ} {ls : List (List ℕ)} {ts qs zs : List ℕ} → BlockLines te qe ls t q ts qs zs → length zs ≤ k → k ≤ blockLimit → linesOf (drop line s) ≡ ls → Ran te qe s k line t q ts qs zs
 lines-run s zero line (last-line sp et eq) few fits e = absurd (omega arith)
-lines-run {te} {qe} s (suc k) line (last-line {line = l} {t = t} {q = q} {z = z} sp et eq) few fits e = last-ran te qe s k line t q fits l [] e z refl sp et eq
+lines-run {te} {qe} s (suc k) line (last-line {line = l} {t = t} {q = q} {z = z} sp et eq) few fits e = last-ran te qe s k line t q fits l [] e z refl (spells-meant sp) et eq
 lines-run s zero line (more-lines sp b) few fits e = absurd (omega arith)
 lines-run {te} {qe} s (suc k) line (more-lines {line = l} {lines = ls} {t = t} {q = q} {z = z} {dt = dt} {dq = dq} {ts = ts} {qs = qs} {zs = zs} sp b) few fits e =
-    more-ran te qe s k line t q fits l ls e z dt dq ts qs zs sp (lines-run s k (nextLine s line) b (omega arith) (omega arith) (rest-lines te qe s k line t q fits l ls e))
+    more-ran te qe s k line t q fits l ls e z dt dq ts qs zs (spells-meant sp) (lines-run s k (nextLine s line) b (omega arith) (omega arith) (rest-lines te qe s k line t q fits l ls e))

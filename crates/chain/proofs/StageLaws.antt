@@ -22,8 +22,9 @@ use Rattle.columns.specs.declared.Columns.{Columns}
 use Rattle.columns.specs.declared.Columns.the-variants.{Next}
 use Rattle.columns.specs.declared.Columns.the-variants as columns
 use Rattle.columns.specs.Columns.{tableOf, columnsFrom, valuesFrom, ColumnsRead}
-use Rattle.columns.specs.Spells.{Spells, firsts}
-use Rattle.columns.proofs.SpellsLaws.{columns-spell}
+use Rattle.columns.specs.Spells.{firsts}
+use Rattle.columns.proofs.Meant.{Meant}
+use Rattle.columns.proofs.SpellsLaws.{columns-mean}
 use Rattle.columns.proofs.PlaceLaws.{spelt-at, value-first}
 use Rattle.blocks.specs.Blocks.{rowsOf}
 use Rattle.blocks.proofs.TakeLaws.{part-all}
@@ -150,9 +151,9 @@ module _ (s : List ℕ) (e : ℕ) (count : wordCount s 0 ≡ 13) (read : columns
   abbrev vs : List ℕ
   vs = valuesFrom chainColumns 0 s 0
 
-  pub head-spells : Spells chainColumns 0 (wordsOf (lineOf s)) (firsts vs)
+  pub head-spells : Meant chainColumns 0 (wordsOf (lineOf s)) (firsts vs)
   unfolding chainColumns
-  head-spells = columns-spell chainColumns 0 s 0 e count read
+  head-spells = columns-mean chainColumns 0 s 0 e count read
 
   pub target-low : getD vs 10 0 ≤ largestPosition
   unfolding chainColumns

@@ -13,7 +13,7 @@ use Rattle.text.specs.declared.Check.{Check}
 use Rattle.text.specs.declared.Check.the-variants.{Holds}
 use Rattle.text.specs.declared.Check.the-variants as check
 use Rattle.text.specs.Checks.{textCheck, lastLineCheck}
-use Rattle.text.specs.Pieces.{linesOf, lineOf, wordsOf}
+use Rattle.text.specs.Pieces.{linesOf, lineOf}
 use Rattle.text.specs.Words.{nextLine, wordAt, wordCount, bytesOf}
 use Rattle.text.proofs.TextLaws.{both}
 use Rattle.text.proofs.PieceLaws.{word-bytes}
@@ -21,6 +21,7 @@ use Rattle.numbers.specs.declared.Spelt.the-variants.{Means}
 use Rattle.kinds.specs.declared.Kind.the-variants.{Name}
 use Rattle.kinds.specs.Kinds.{spelt}
 use Rattle.kinds.proofs.RangeLaws.{name-spelt, strand-spelt}
+use Rattle.columns.proofs.Meant.{meant-length, meant-spells, spells-meant}
 use Rattle.columns.specs.declared.Columns.{Columns}
 use Rattle.columns.specs.declared.Columns.the-variants.{Next}
 use Rattle.columns.specs.declared.Columns.the-variants as columns
@@ -30,7 +31,7 @@ use Rattle.columns.proofs.OneLineLaws.{count-of, count-is}
 use Rattle.blocks.specs.Blocks.{spanFits}
 use Rattle.columns.specs.Spells.{firsts}
 use Rattle.columns.specs.Places.{kindAt, countBefore}
-use Rattle.columns.proofs.SpellsLaws.{Reads, spells-read, spells-length, place-is}
+use Rattle.columns.proofs.SpellsLaws.{Reads, spells-read, place-is}
 use Rattle.columns.proofs.PlaceLaws.{spelt-at, value-first, value-second}
 use Rattle.chain.specs.declared.Chain.{Chain}
 use Rattle.chain.specs.declared.Ending.{Ending}
@@ -230,7 +231,8 @@ module _ (s : List ℕ) (r : Chain) (ok : chainCheck s ≡ Accepted r) where
         short = t .0;
         allowed = t .1;
         lines = lines-at s 0 (textLaws.some-text s (omega (arith, count)));
-        spelt = head-spells s (a .end) count (a .read);
+        lists = _;
+        spelt = meant-spells (head-spells s (a .end) count (a .read));
         score = rw i (first-at 1);
         tName = rw i (name-part s (a .end) count (a .read) 2 (omega arith) refl);
         tSize = rw i (first-at 3);
@@ -258,11 +260,11 @@ walk-as k s line t t′ q q′ e a b h = rw (a, b) at h
 module _ (s vs : List ℕ) (ls : List (List ℕ)) (r : Chain) (ts qs zs : List ℕ) (c : ChainText s vs ls r ts qs zs) where
   thirteen : wordCount s 0 ≡ 13
   unfolding wordCount chainColumns
-  thirteen = spells-length (c .spelt) .0
+  thirteen = meant-length (spells-meant (c .spelt)) .0
 
   reads : Reads chainColumns 0 s 0 vs
   unfolding chainColumns
-  reads = spells-read chainColumns 0 s 0 (wordsOf (lineOf s)) vs thirteen refl (c .spelt)
+  reads = spells-read chainColumns 0 s 0 vs (c .lists) thirteen (c .spelt)
 
   value-at : (k : ℕ) → getD vs k 0 ≡ getD (headValues s) (2 * k) 0
   value-at k = sym (ap (λ (l : List ℕ). getD l k 0) (reads .values)) ∙ value-first (headValues s) k

@@ -20,7 +20,7 @@ use Rattle.kinds.specs.declared.Range.the-variants.{Coordinate, Size, ChainScor
 use Rattle.kinds.specs.declared.Kind.the-variants.{Name, Number}
 use Rattle.kinds.specs.Kinds.{leastOf, mostOf, spelt, isStrand}
 use Rattle.kinds.proofs.RangeLaws.{number-spelt, name-spelt, strand-spelt}
-use Rattle.columns.specs.Spells.{Spells}
+use Rattle.columns.proofs.Meant.{Meant, spells-meant}
 use Rattle.columns.specs.Places.{kindAt}
 use Rattle.columns.proofs.PlaceLaws.{spelt-at}
 use Rattle.blocks.specs.Blocks.{orderFrom, blocksFill, allBetween}
@@ -60,17 +60,17 @@ pub lines-fill-query : {te qe : ℕ} {ls : List (List ℕ)} {t q : ℕ} {ts qs z
 lines-fill-query {qe = qe} (last-line {q = q} {z = z} sp et eq) = fill-one q z qe eq
 lines-fill-query {qe = qe} (more-lines {q = q} {z = z} {dq = dq} {qs = qs} {zs = zs} sp b) = fill-more q z (q + z + dq) qe qs zs (omega arith) (lines-fill-query b)
 
-size-last : (ws : List (List ℕ)) (z : ℕ) → Spells (Number Size ∷ []) 0 ws (z ∷ []) → (1 ≤ z) × (z ≤ largestPosition)
+size-last : (ws : List (List ℕ)) (z : ℕ) → Meant (Number Size ∷ []) 0 ws (z ∷ []) → (1 ≤ z) × (z ≤ largestPosition)
 size-last ws z sp = number-spelt Size _ _ _ (spelt-at sp 0 (omega arith))
 
-size-more : (ws : List (List ℕ)) (z dt dq : ℕ) → Spells blockColumns 0 ws (z ∷ dt ∷ dq ∷ []) → (1 ≤ z) × (z ≤ largestPosition)
+size-more : (ws : List (List ℕ)) (z dt dq : ℕ) → Meant blockColumns 0 ws (z ∷ dt ∷ dq ∷ []) → (1 ≤ z) × (z ≤ largestPosition)
 unfolding blockColumns
 size-more ws z dt dq sp = number-spelt Size _ _ _ (spelt-at sp 0 (omega arith))
 
 pub lines-sizes : {te qe : ℕ} {ls : List (List ℕ)} {t q : ℕ} {ts qs zs : List ℕ} → BlockLines te qe ls t q ts qs zs → allBetween 1 largestPosition zs ≡ true
 unfolding allBetween blockColumns
-lines-sizes (last-line {z = z} sp et eq) = let p = size-last _ z sp in rw (le-leb 1 z (p .0), le-leb z largestPosition (p .1))
-lines-sizes (more-lines {z = z} {dt = dt} {dq = dq} sp b) = let p = size-more _ z dt dq sp in rw (le-leb 1 z (p .0), le-leb z largestPosition (p .1)) (lines-sizes b)
+lines-sizes (last-line {z = z} sp et eq) = let p = size-last _ z (spells-meant sp) in rw (le-leb 1 z (p .0), le-leb z largestPosition (p .1))
+lines-sizes (more-lines {z = z} {dt = dt} {dq = dq} sp b) = let p = size-more _ z dt dq (spells-meant sp) in rw (le-leb 1 z (p .0), le-leb z largestPosition (p .1)) (lines-sizes b)
 
 pub lines-target-count : {te qe : ℕ} {ls : List (List ℕ)} {t q : ℕ} {ts qs zs : List ℕ} → BlockLines te qe ls t q ts qs zs → length ts ≡ length zs
 lines-target-count (last-line sp et eq) = refl
@@ -88,12 +88,12 @@ lines-some (more-lines sp b) = omega arith
 module _ (s vs : List ℕ) (ls : List (List ℕ)) (r : Chain) (ts qs zs : List ℕ) (c : ChainText s vs ls r ts qs zs) where
   number-at : (k : ℕ) (g : Range) → k < 13 → kindAt chainColumns k ≡ Number g → (leastOf g ≤ getD vs k 0) × (getD vs k 0 ≤ mostOf g)
   unfolding chainColumns
-  number-at k g h q = number-spelt g _ _ (getD vs k 0) (rw q at (spelt-at (c .spelt) k h))
+  number-at k g h q = number-spelt g _ _ (getD vs k 0) (rw q at (spelt-at (spells-meant (c .spelt)) k h))
 
   name-at : (k : ℕ) (p : Part) → k < 13 → kindAt chainColumns k ≡ Name → p ≡ partOf (wordAt s 0 k) → (1 ≤ p .length) × (p .length ≤ nameLimit)
   unfolding chainColumns
   name-at k p h q e =
-      let n = name-spelt _ (getD (wordsOf (lineOf s)) k []) (getD vs k 0) (rw q at (spelt-at (c .spelt) k h)) in
+      let n = name-spelt _ (getD (wordsOf (lineOf s)) k []) (getD vs k 0) (rw q at (spelt-at (spells-meant (c .spelt)) k h)) in
       let w : length (getD (wordsOf (lineOf s)) k []) ≡ wordAt s 0 k .end - wordAt s 0 k .start = sym (ap length (word-bytes s 0 k)) ∙ word-length s k in
       let l : p .length ≡ getD vs k 0 = ap (λ (x : Part). x .length) e ∙ sym (n .0 ∙ w) in
       (rw l (n .1), rw l (n .2))
@@ -101,7 +101,7 @@ module _ (s vs : List ℕ) (ls : List (List ℕ)) (r : Chain) (ts qs zs : List �
   strand-at : r .qStrand ≡ Dot → ⊥
   unfolding chainColumns
   strand-at d =
-      let n = strand-spelt false _ _ (getD vs 9 0) (spelt-at (c .spelt) 9 (omega arith)) in
+      let n = strand-spelt false _ _ (getD vs 9 0) (spelt-at (spells-meant (c .spelt)) 9 (omega arith)) in
       let v : getD vs 9 0 ≡ 46 = sym (c .qStrand) ∙ ap strandLetter d in
       let x : isStrand false (46 ∷ []) ≡ true = rw v at (n .0) in
       let z : _≡_ {A = ℕ} 0 1 = cc in

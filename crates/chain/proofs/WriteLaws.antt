@@ -23,8 +23,8 @@ use Rattle.writing.specs.declared.Writing.the-variants as writing
 use Rattle.writing.proofs.PutLaws.{Completes, completes-all, completes-step, put-then}
 use Rattle.columns.specs.Columns.{tableOf}
 use Rattle.columns.specs.Lines.{lineText, fedLine}
-use Rattle.columns.specs.Ranges.{wordsFrom}
-use Rattle.columns.proofs.BackLaws.{line-joins}
+use Rattle.columns.specs.Lines.{wordsFrom}
+use Rattle.columns.proofs.JoinLaws.{line-joins}
 use Rattle.blocks.specs.Blocks.{rowsOf}
 use Rattle.chain.specs.declared.Chain.{Chain}
 use Rattle.chain.specs.Table.{chainColumns, blockColumns}

@@ -20,8 +20,8 @@ use Rattle.columns.specs.Names.{partOf}
 -- lines of blocks and the rows that they say, the first block starting at t and q: each line but the last spells a size and the gaps to the next block, the
 -- last a size alone, and its block ends at te and qe
 pub data BlockLines (te qe : ℕ) : List (List ℕ) → ℕ → ℕ → List ℕ → List ℕ → List ℕ → Type 0 where
-  last-line : {line : List ℕ} {t q z : ℕ} → Spells (take 1 blockColumns) 0 (wordsOf line) (z ∷ []) → t + z ≡ te → q + z ≡ qe → BlockLines te qe (line ∷ []) t q (t ∷ []) (q ∷ []) (z ∷ [])
-  more-lines : {line : List ℕ} {lines : List (List ℕ)} {t q z dt dq : ℕ} {ts qs zs : List ℕ} → Spells blockColumns 0 (wordsOf line) (z ∷ dt ∷ dq ∷ [])
+  last-line : {line : List ℕ} {ls : List (List ℕ)} {t q z : ℕ} → Spells (take 1 blockColumns) 0 (wordsOf line) (z ∷ []) ls → t + z ≡ te → q + z ≡ qe → BlockLines te qe (line ∷ []) t q (t ∷ []) (q ∷ []) (z ∷ [])
+  more-lines : {line : List ℕ} {lines ls : List (List ℕ)} {t q z dt dq : ℕ} {ts qs zs : List ℕ} → Spells blockColumns 0 (wordsOf line) (z ∷ dt ∷ dq ∷ []) ls
       → BlockLines te qe lines (t + z + dt) (q + z + dq) ts qs zs → BlockLines te qe (line ∷ lines) t q (t ∷ ts) (q ∷ qs) (z ∷ zs)
 
 -- the text s is a chain: a first line whose words spell the values vs, one a column, and the lines ls of its blocks; the record r with the rows ts, qs, zs
@@ -32,7 +32,8 @@ pub record ChainText (s vs : List ℕ) (ls : List (List ℕ)) (r : Chain) (ts qs
   pub allowed : run Allowed s ≡ length s
   pub lines : linesOf s ≡ lineOf s ∷ ls
   -- the words of its first line
-  pub spelt : Spells chainColumns 0 (wordsOf (lineOf s)) vs
+  pub lists : List (List ℕ)
+  pub spelt : Spells chainColumns 0 (wordsOf (lineOf s)) vs lists
   -- the record is what they spell
   pub score : r .score ≡ getD vs 1 0
   pub tName : r .tName ≡ partOf (wordAt s 0 2)

@@ -1,6 +1,7 @@
 pub mod ReadLaws
 pub mod LineLaws
-pub mod BackLaws
+pub mod JoinLaws
+pub mod Meant
 pub mod SpellsLaws
 pub mod PlaceLaws
 pub mod OneLineLaws

@@ -1,7 +1,7 @@
 -- A text of one line: what each step of reading it shows, and that it is read exactly when its words spell values. Assumes nothing.
 use mathlib.Core.Path.{_≡_, refl, sym, ap, _∙_}
 use mathlib.Core.List.{List, [], _∷_, map}
-use Prim.Native.Nat.{ℕ, suc, _-_, _≤_, min}
+use Prim.Native.Nat.{ℕ, suc, _≤_, min}
 use native.Mathlib.Omega.{arith}
 use lib.ListN.{length, take, length-take}
 use lib.Dec.{leb}
@@ -22,6 +22,7 @@ use Rattle.columns.specs.Columns.{columnLimit, tableOf, columnsFrom, val
 use Rattle.columns.specs.Spells.{firsts}
 use Rattle.columns.specs.OneLine.{countCheck, thenLine, thenLast, lineRead, OneLine, CountedRead, LineRead}
 use Rattle.columns.proofs.SpellsLaws.{columns-spell, spells-read}
+use Rattle.columns.proofs.Meant.{listsIn}
 
 -- the number of words
 pub count-checked : (s : List ℕ) (line n count : ℕ) (c : Check) → count ≡ wordCount s line → c ≡ wordsCheck s line count n (leb n count) → c ≡ countCheck s line n
@@ -110,7 +111,7 @@ pub found-line : (cs : List Kind) (s : List ℕ) (e : ℕ) → Found cs s e → 
 unfolding lineRead
 found-line cs s e f = rw (f .text, count-is s 0 (length cs) (f .count), f .read, f .last)
 
-pub one-line-of : (cs : List Kind) (s : List ℕ) (e : ℕ) → 1 ≤ length cs → lineRead cs s ≡ Next e → OneLine cs s (firsts (valuesFrom cs 0 s 0))
+pub one-line-of : (cs : List Kind) (s : List ℕ) (e : ℕ) → 1 ≤ length cs → lineRead cs s ≡ Next e → OneLine cs s (firsts (valuesFrom cs 0 s 0)) (listsIn cs (wordsOf (lineOf s)))
 one-line-of cs s e some q =
     let f = line-found cs s e q in
     let t = text-of s (f .text) in
@@ -127,9 +128,9 @@ pub record LineIs (cs : List Kind) (s vs : List ℕ) : Type 0 where
   pub read : lineRead cs s ≡ Next end
   pub values : firsts (valuesFrom cs 0 s 0) ≡ vs
 
-pub one-line-is : (cs : List Kind) (s vs : List ℕ) → OneLine cs s vs → LineIs cs s vs
-one-line-is cs s vs o =
-    let r = spells-read cs 0 s 0 (wordsOf (lineOf s)) vs (o .count) refl (o .spelt) in
+pub one-line-is : (cs : List Kind) (s vs : List ℕ) (ls : List (List ℕ)) → OneLine cs s vs ls → LineIs cs s vs
+one-line-is cs s vs ls o =
+    let r = spells-read cs 0 s 0 vs ls (o .count) (o .spelt) in
     record {
       end = r .end;
       read = found-line cs s (r .end) (record { text = text-is s (o .short) (o .allowed); count = o .count; read = r .read; last = one-is s (o .oneLine) });

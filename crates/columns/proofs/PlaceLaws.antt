@@ -14,7 +14,8 @@ use Rattle.kinds.specs.declared.Kind.{Kind}
 use Rattle.kinds.specs.Kinds.{spelt, itemsIn, countAfter, isList, pickBase, baseAfter}
 use Rattle.columns.specs.declared.Columns.the-variants.{Next}
 use Rattle.columns.specs.Columns.{fieldOf, fieldFrom, thenColumns, columnsFrom, valuesFrom, listsFrom}
-use Rattle.columns.specs.Spells.{Spells, spells-none, spells-more, firsts, seconds}
+use Rattle.columns.specs.Spells.{firsts, seconds}
+use Rattle.columns.proofs.Meant.{Meant, meant-none, meant-more}
 use Rattle.columns.specs.Places.{kindAt, countBefore, baseBefore}
 use Rattle.columns.proofs.SpellsLaws.{word-later}
 
@@ -25,10 +26,10 @@ count-later (c ∷ cs) n v vs j zero = refl
 count-later (c ∷ cs) n v vs j (suc k) = count-later cs (countAfter c (getD vs j 0) n) v vs (suc j) k
 
 -- words that spell values: word k spells value k
-pub spelt-at : {cs : List Kind} {n : ℕ} {ws : List (List ℕ)} {vs : List ℕ} → Spells cs n ws vs → (k : ℕ) → k < length cs → spelt (kindAt cs k) (countBefore cs n vs 0 k) (getD ws k []) ≡ Means (getD vs k 0)
-spelt-at spells-none k h = absurd (omega arith)
-spelt-at (spells-more p t) zero h = p
-spelt-at (spells-more {c = c} {cs = cs} {n = n} {v = v} {vs = vs} p t) (suc k) h = rw (count-later cs (countAfter c v n) v vs 0 k) (spelt-at t k (omega arith))
+pub spelt-at : {cs : List Kind} {n : ℕ} {ws : List (List ℕ)} {vs : List ℕ} → Meant cs n ws vs → (k : ℕ) → k < length cs → spelt (kindAt cs k) (countBefore cs n vs 0 k) (getD ws k []) ≡ Means (getD vs k 0)
+spelt-at meant-none k h = absurd (omega arith)
+spelt-at (meant-more p t) zero h = p
+spelt-at (meant-more {c = c} {cs = cs} {n = n} {v = v} {vs = vs} p t) (suc k) h = rw (count-later cs (countAfter c v n) v vs 0 k) (spelt-at t k (omega arith))
 
 -- the values and the places of a reader's table, by number
 twice : (k : ℕ) → 2 * suc k ≡ suc (suc (2 * k))

@@ -1,4 +1,4 @@
--- A line is read by its table exactly when its words spell values, and then as those values. Assumes nothing.
+-- A line is read by its table exactly when its words spell values and lists, and then as those values. Assumes nothing.
 use mathlib.Core.Path.{_≡_, refl, sym, ap, _∙_}
 use mathlib.Core.List.{List, [], _∷_}
 use Prim.Native.Nat.{ℕ, zero, suc, _+_, _≤_, _<_}
@@ -14,7 +14,8 @@ use Rattle.kinds.specs.declared.Kind.{Kind}
 use Rattle.kinds.specs.Kinds.{spelt, countAfter}
 use Rattle.columns.specs.declared.Columns.the-variants.{Next, Refused}
 use Rattle.columns.specs.Columns.{fieldFrom, thenColumns, columnsFrom, valuesFrom}
-use Rattle.columns.specs.Spells.{Spells, spells-none, spells-more, firsts, seconds}
+use Rattle.columns.specs.Spells.{Spells, firsts, seconds}
+use Rattle.columns.proofs.Meant.{Meant, meant-none, meant-more, listsIn, meant-spells, spells-meant}
 
 -- the first of at least one word is there
 pub first-there : (s : List ℕ) (at n : ℕ) → suc n ≤ wordCount s at → nextWord s at .start < nextWord s at .end
@@ -33,25 +34,25 @@ none-left s at h = go (wordsOf (lineOf (drop at s))) refl h
     go [] e h = refl
     go (w ∷ ws) e h = absurd (omega arith)
 
--- a line that is read: its words spell its values
-pub columns-spell : (cs : List Kind) (n : ℕ) (s : List ℕ) (at e : ℕ) → wordCount s at ≡ length cs → columnsFrom cs n s at ≡ Next e → Spells cs n (wordsOf (lineOf (drop at s))) (firsts (valuesFrom cs n s at))
+-- a line that is read: the reader takes its words for its values
+pub columns-mean : (cs : List Kind) (n : ℕ) (s : List ℕ) (at e : ℕ) → wordCount s at ≡ length cs → columnsFrom cs n s at ≡ Next e → Meant cs n (wordsOf (lineOf (drop at s))) (firsts (valuesFrom cs n s at))
 unfolding columnsFrom valuesFrom fieldFrom firsts
-columns-spell [] n s at e h q = rw (none-left s at h) spells-none
-columns-spell (c ∷ cs) n s at e h q =
-    go (spelt c n (bytesOf s (nextWord s at))) refl (λ v k. columns-spell cs (countAfter c v n) s (nextWord s at .end) e (rest-count s at (length cs) h) k) q
+columns-mean [] n s at e h q = rw (none-left s at h) meant-none
+columns-mean (c ∷ cs) n s at e h q =
+    go (spelt c n (bytesOf s (nextWord s at))) refl (λ v k. columns-mean cs (countAfter c v n) s (nextWord s at .end) e (rest-count s at (length cs) h) k) q
   where
     go : (x : Spelt) → spelt c n (bytesOf s (nextWord s at)) ≡ x
-        → ((v : ℕ) → columnsFrom cs (countAfter c v n) s (nextWord s at .end) ≡ Next e → Spells cs (countAfter c v n) (wordsOf (lineOf (drop (nextWord s at .end) s))) (firsts (valuesFrom cs (countAfter c v n) s (nextWord s at .end))))
+        → ((v : ℕ) → columnsFrom cs (countAfter c v n) s (nextWord s at .end) ≡ Next e → Meant cs (countAfter c v n) (wordsOf (lineOf (drop (nextWord s at .end) s))) (firsts (valuesFrom cs (countAfter c v n) s (nextWord s at .end))))
         → thenColumns (fieldFrom c n s at) (λ v w. columnsFrom cs (countAfter c v n) s (w .end)) ≡ Next e
-        → Spells (c ∷ cs) n (wordsOf (lineOf (drop at s))) (firsts (valuesFrom (c ∷ cs) n s at))
+        → Meant (c ∷ cs) n (wordsOf (lineOf (drop at s))) (firsts (valuesFrom (c ∷ cs) n s at))
     go (Means v) p k q =
         let z : columnsFrom cs (countAfter c v n) s (nextWord s at .end) ≡ Next e = rw p at q in
-        rw (words-step s at (first-there s at (length cs) (omega arith)), p) (spells-more p (k v z))
+        rw (words-step s at (first-there s at (length cs) (omega arith)), p) (meant-more p (k v z))
     go (Faulty why off) p k q =
         let z : Refused (record { reason = why; place = nextWord s at .start + off }) ≡ Next e = rw p at q in
         absurd (let y : _≡_ {A = ℕ} 0 1 = cc in omega arith)
 
--- and the other way round: words that spell values are read, as those values
+-- and the other way round: words that the reader takes for values are read, as those values
 pub record Reads (cs : List Kind) (n : ℕ) (s : List ℕ) (at : ℕ) (vs : List ℕ) : Type 0 where
   pub end : ℕ
   pub read : columnsFrom cs n s at ≡ Next end
@@ -60,20 +61,23 @@ pub record Reads (cs : List Kind) (n : ℕ) (s : List ℕ) (at : ℕ) (vs : List
 tail-is : (w w′ : List ℕ) (ws ws′ : List (List ℕ)) → w ∷ ws ≡ w′ ∷ ws′ → (w ≡ w′) × (ws ≡ ws′)
 tail-is w w′ ws ws′ e = (cc, cc)
 
-pub spells-read : (cs : List Kind) (n : ℕ) (s : List ℕ) (at : ℕ) (ws : List (List ℕ)) (vs : List ℕ) → wordCount s at ≡ length cs → wordsOf (lineOf (drop at s)) ≡ ws → Spells cs n ws vs → Reads cs n s at vs
+pub meant-read : (cs : List Kind) (n : ℕ) (s : List ℕ) (at : ℕ) (ws : List (List ℕ)) (vs : List ℕ) → wordCount s at ≡ length cs → wordsOf (lineOf (drop at s)) ≡ ws → Meant cs n ws vs → Reads cs n s at vs
 unfolding columnsFrom valuesFrom firsts fieldFrom
-spells-read [] n s at ws vs h q spells-none = record { end = at; read = refl; values = refl }
-spells-read (c ∷ cs) n s at (w ∷ ws) (v ∷ vs) h q (spells-more p t) =
+meant-read [] n s at ws vs h q meant-none = record { end = at; read = refl; values = refl }
+meant-read (c ∷ cs) n s at (w ∷ ws) (v ∷ vs) h q (meant-more p t) =
     let there = first-there s at (length cs) (omega arith) in
     let e = tail-is (bytesOf s (nextWord s at)) w (wordsOf (lineOf (drop (nextWord s at .end) s))) ws (sym (words-step s at there) ∙ q) in
     let p′ : spelt c n (bytesOf s (nextWord s at)) ≡ Means v = rw (e .0) p in
-    let r = spells-read cs (countAfter c v n) s (nextWord s at .end) ws vs (rest-count s at (length cs) h) (e .1) t in
+    let r = meant-read cs (countAfter c v n) s (nextWord s at .end) ws vs (rest-count s at (length cs) h) (e .1) t in
     record { end = r .end; read = rw p′ (r .read); values = rw p′ (ap (λ (x : List ℕ). v ∷ x) (r .values)) }
 
--- values are as many as the columns
-pub spells-length : {cs : List Kind} {n : ℕ} {ws : List (List ℕ)} {vs : List ℕ} → Spells cs n ws vs → (length ws ≡ length cs) × (length vs ≡ length cs)
-spells-length spells-none = (refl, refl)
-spells-length (spells-more p t) = let r = spells-length t in (ap suc (r .0), ap suc (r .1))
+-- THE WORDS OF A LINE ARE READ BY A TABLE EXACTLY WHEN THEY SPELL VALUES AND LISTS BY IT, and then as those values
+pub columns-spell : (cs : List Kind) (n : ℕ) (s : List ℕ) (at e : ℕ) → wordCount s at ≡ length cs → columnsFrom cs n s at ≡ Next e
+    → Spells cs n (wordsOf (lineOf (drop at s))) (firsts (valuesFrom cs n s at)) (listsIn cs (wordsOf (lineOf (drop at s))))
+columns-spell cs n s at e h q = meant-spells (columns-mean cs n s at e h q)
+
+pub spells-read : (cs : List Kind) (n : ℕ) (s : List ℕ) (at : ℕ) (vs : List ℕ) (ls : List (List ℕ)) → wordCount s at ≡ length cs → Spells cs n (wordsOf (lineOf (drop at s))) vs ls → Reads cs n s at vs
+spells-read cs n s at vs ls h p = meant-read cs n s at (wordsOf (lineOf (drop at s))) vs h refl (spells-meant p)
 
 -- a word's place, by its number
 pub word-later : (s : List ℕ) (at k : ℕ) → wordAt s at (suc k) ≡ wordAt s (nextWord s at .end) k

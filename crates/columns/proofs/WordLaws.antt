@@ -31,7 +31,7 @@ use Rattle.kinds.specs.declared.Kind.the-variants.{Name, Items}
 use Rattle.kinds.specs.Kinds.{leastOf, mostOf, countAfter, isStrand}
 use Rattle.kinds.proofs.BackLaws.{Written, written}
 use Rattle.columns.specs.Names.{partOf, allGraphic}
-use Rattle.columns.specs.Spells.{Spells, spells-none, spells-more}
+use Rattle.columns.proofs.Meant.{Meant, meant-none, meant-more}
 
 pub and-i : (a b : Bool) → a ≡ true → b ≡ true → (a && b) ≡ true
 and-i a b h k = rw (h, k)
@@ -95,9 +95,9 @@ pub data Row : List Kind → ℕ → List (List ℕ) → List ℕ → Type 0 whe
   row-none : {n : ℕ} → Row [] n [] []
   row-more : {n v : ℕ} {c : Kind} {cs : List Kind} {w held : List ℕ} {ws : List (List ℕ)} {vs : List ℕ} → Written c n v w held → Row cs (countAfter c v n) ws vs → Row (c ∷ cs) n (w ∷ ws) (v ∷ vs)
 
-pub row-spells : {n : ℕ} {cs : List Kind} {ws : List (List ℕ)} {vs : List ℕ} → Row cs n ws vs → Spells cs n ws vs
-row-spells row-none = spells-none
-row-spells (row-more f t) = spells-more (f .back) (row-spells t)
+pub row-spells : {n : ℕ} {cs : List Kind} {ws : List (List ℕ)} {vs : List ℕ} → Row cs n ws vs → Meant cs n ws vs
+row-spells row-none = meant-none
+row-spells (row-more f t) = meant-more (f .back) (row-spells t)
 
 pub row-worded : {n : ℕ} {cs : List Kind} {ws : List (List ℕ)} {vs : List ℕ} → Row cs n ws vs → Worded ws
 row-worded row-none = worded-none

@@ -2,6 +2,5 @@ pub mod Columns
 pub mod Spells
 pub mod Places
 pub mod Lines
-pub mod Ranges
 pub mod OneLine
 pub mod Names

@@ -32,3 +32,8 @@ fedLine table sep t vs ls = lineText table sep t vs ls ++ (10 ∷ [])
 abbrev pub thenWrite : Check → Writing → Writing
 thenWrite Holds rest = rest
 thenWrite (check.Refused x) rest = writing.Refused x
+
+-- the words of the columns from number k on
+unfoldable pub wordsFrom : ℕ → ℕ → List Kind → List ℕ → List ℕ → List ℕ → List (List ℕ)
+wordsFrom k base [] t vs ls = []
+wordsFrom k base (c ∷ cs) t vs ls = wordOf c t ls base (getD vs (2 * k) 0) (getD vs (2 * k + 1) 0) ∷ wordsFrom (suc k) (baseAfter c base) cs t vs ls

@@ -40,13 +40,13 @@ lineRead cs s =
     (thenLine (countCheck s 0 (length cs))
     (thenLast (columnsFrom cs 0 s 0) (lastLineCheck s 0)))
 
--- the same with no order of checks: the words of the one line spell the values vs
-pub record OneLine (cs : List Kind) (s vs : List ℕ) : Type 0 where
+-- the same with no order of checks: the words of the one line spell the values vs and the lists ls
+pub record OneLine (cs : List Kind) (s vs : List ℕ) (ls : List (List ℕ)) : Type 0 where
   pub short : length s ≤ textLimit
   pub allowed : run Allowed s ≡ length s
   pub oneLine : linesOf s ≡ lineOf s ∷ []
   pub count : wordCount s 0 ≡ length cs
-  pub spelt : Spells cs 0 (wordsOf (lineOf s)) vs
+  pub spelt : Spells cs 0 (wordsOf (lineOf s)) vs ls
 
 -- what reading such a text promises; a refusal leaves both tables as they were
 pub record LineRead (cs : List Kind) (s out out′ lists lists′ : List ℕ) (r : Columns) : Type 0 where

@@ -1,42 +1,54 @@
 -- Demand 2 holds of BED. Assumes nothing.
-use mathlib.Core.Path.{_≡_, refl, sym, _∙_}
+use mathlib.Core.Path.{_≡_, refl, sym, ap, _∙_}
+use mathlib.Core.Logic.{_↔_}
 use mathlib.Core.Bool.{true}
-use mathlib.Core.List.{List}
+use mathlib.Core.List.{List, [], _++_}
 use Prim.Native.Nat.{ℕ, _≤_}
-use lib.ListN.{length, take}
+use native.Mathlib.Omega.{arith}
+use lib.ListN.{length, take, drop, getD, List·getD-eq-default}
 use Rattle.ledger.specs.declared.Row.{Row}
+use Rattle.ledger.specs.declared.Refusal.{Refusal}
+use Rattle.ledger.specs.declared.Reason.the-variants.{BlockRules}
 use Rattle.ledger.specs.Limits.{textLimit}
 use Rattle.text.specs.declared.Check.the-variants.{Holds}
+use Rattle.text.specs.declared.Check.the-variants as check
 use Rattle.text.specs.declared.Class.the-variants.{Graphic}
 use Rattle.text.specs.Scan.{run}
 use Rattle.text.specs.Words.{wordCount}
 use Rattle.text.proofs.Laws.{either}
 use Rattle.columns.specs.Columns.{valuesFrom}
 use Rattle.columns.specs.Spells.{firsts}
-use Rattle.text.specs.Parts.{partBytes}
+use Rattle.text.specs.Pieces.{lineOf, wordsOf}
+use Rattle.text.specs.Parts.{partIn, partBytes}
 use Rattle.text.proofs.TextLaws.{All, both}
+use Rattle.writing.specs.declared.Writing.{Writing}
 use Rattle.writing.specs.declared.Writing.the-variants.{Written}
+use Rattle.writing.specs.Answers.{roomAnswer, leftAfter}
 use Rattle.blocks.specs.Blocks.{countFits, rowsOf, rowNumbersFit}
-use Rattle.blocks.specs.Rows.{targetsOf, queriesOf, sizesOf}
+use Rattle.blocks.specs.Blocks.{shifted, sumsFrom}
+use Rattle.blocks.specs.Rows.{tableOf, targetsOf, queriesOf, sizesOf}
 use Rattle.bed.specs.declared.Bed.{Bed}
 use Rattle.bed.specs.declared.BedAnswer.the-variants.{Accepted}
-use Rattle.bed.specs.Records.{bedRows}
+use Rattle.bed.specs.Records.{bedTargets, bedQueries, bedSizes, bedStarts, bedRows}
 use Rattle.bed.specs.Read.{bedCheck}
 use Rattle.bed.specs.Table.{bedColumns}
 use Rattle.bed.specs.Rules.{BedLine, BedRules, named, placed}
 use Rattle.bed.specs.Tests.{namesFit, strandFits, fieldsFit, spansFit, rowsFit, bedValid}
-use Rattle.bed.specs.Write.{namesShow, writeCheck, bedText, bedWrite}
-use Rattle.bed.proofs.LineLaws.{line-of, line-is}
-use Rattle.bed.proofs.ValidLaws.{accepted-valid}
+use Rattle.bed.specs.Write.{namesShow, writeCheck, bedText, bedWrite, BedWrote, recordCheck}
+use Rattle.bed.proofs.LineLaws.{line-sizes, line-starts, line-of, line-is}
 use Rattle.bed.proofs.RuleLaws.{rules-of, rules-is}
-use Rattle.bed.proofs.BackLaws.{back-chrom, back-name, back-targets, back-queries, back-sizes, back-read}
+use Rattle.bed.proofs.BackLaws.{back-chrom, back-name}
 use Rattle.demands.specs.Formats.{Names}
 use Rattle.demands.specs.Demand2.{Demand2}
-use Rattle.demands.specs.Bed.{bedNames, BedValid, SameBed, bed}
+use Rattle.demands.specs.Bed.{bedNames, bedHanded, bedNameWords, BedSpells, BedValid, SameBed, bed}
 use Rattle.rows.proofs.ReaderLaws.{read-of}
 use Rattle.table_bed.proofs.RowLaws.{bed-reads}
-use Rattle.demands.proofs.NameLaws.{part-shows}
-use Rattle.demands.proofs.RowLaws.{read-flat, rows-taken, passed-written}
+use Rattle.table_bed.specs.Rows.{RowsRead}
+use Rattle.table_bed.proofs.TableLaws.{left-valid, back-rows}
+use Rattle.columns.proofs.Meant.{listsIn}
+use Rattle.demands.proofs.NameLaws.{part-shows, name-word, name-handed, handed-in}
+use Rattle.demands.proofs.RowLaws.{read-count, front-rows, self-rows, holds-if, breach-if, room-written}
+use Rattle.demands.proofs.LengthLaws.{bed-short}
 use Rattle.columns.proofs.WordLaws.{graphic-all}
 
 -- the test of a record sees only the lengths of its names
@@ -60,7 +72,7 @@ passes r ns ts qs zs k c d =
 
 -- ---- an accepted line: its names, and its rows
 module _ (s : List ℕ) (r : Bed) (ok : bedCheck s ≡ Accepted r) where
-  said : BedLine s (firsts (valuesFrom (take (wordCount s 0) bedColumns) 0 s 0)) r
+  said : BedLine s (firsts (valuesFrom (take (wordCount s 0) bedColumns) 0 s 0)) (listsIn (take (wordCount s 0) bedColumns) (wordsOf (lineOf s))) r (bedStarts s r) (bedSizes s r)
   said = line-of s r ok
 
   chrom-shows : (All Graphic (partBytes s (r .chrom))) × (length (partBytes s (r .chrom)) ≡ r .chrom .length)
@@ -73,18 +85,31 @@ module _ (s : List ℕ) (r : Bed) (ok : bedCheck s ≡ Accepted r) where
   name-shows : (All Graphic (partBytes s (r .name))) × (length (partBytes s (r .name)) ≡ r .name .length)
   name-shows = either (r .words) 3 _ (λ h. rw (said .noName h) none-shows) (λ h. rw (said .name h) (part-shows s (said .allowed) 3))
 
-  accepted-named : BedValid r (bedNames s r) (bedRows s r)
-  accepted-named =
-      let w = read-flat (bed-reads s) r ok in
-      let v : bedValid r (targetsOf (bedRows s r)) (queriesOf (bedRows s r)) (sizesOf (bedRows s r)) ≡ true = rw (w .targets, w .queries, w .sizes) (accepted-valid s r ok) in
-      record {
-        rules = rules-of (named r (bedNames s r .first) (bedNames s r .second)) _ _ _ (valid-named r (bedNames s r) _ _ _ (chrom-shows .1) (name-shows .1) v);
-        chromShows = chrom-shows .0;
-        nameShows = name-shows .0;
-      }
+  names-valid : (ts qs zs : List ℕ) → bedValid r ts qs zs ≡ true → bedValid (named r (bedNames s r .first) (bedNames s r .second)) ts qs zs ≡ true
+  names-valid ts qs zs v = valid-named r (bedNames s r) ts qs zs (chrom-shows .1) (name-shows .1) v
+
+-- and the table that it left
+left : (s : List ℕ) (before after : List Row) (r : Bed) → RowsRead s before after (Accepted r) → BedValid r (bedNames s r) after
+unfolding recordCheck
+left s before after r h =
+    let ok = read-of (bed-reads s) (length before) r (sym (h .is)) .0 in
+    record {
+      rules = rules-of (named r (bedNames s r .first) (bedNames s r .second)) _ _ _ (names-valid s r ok _ _ _ (holds-if _ (left-valid s r before after h)));
+      chromShows = chrom-shows s r ok .0;
+      nameShows = name-shows s r ok .0;
+    }
+
+-- ---- the record checker holds exactly of what obeys the rules
+checked-exactly : (r : Bed) (ts qs zs : List ℕ) → (recordCheck r ts qs zs ≡ Holds) ↔ BedRules r ts qs zs
+unfolding recordCheck
+checked-exactly r ts qs zs = (λ h. rules-of r ts qs zs (holds-if _ h), λ k. rw (rules-is r ts qs zs k))
+
+checked-breach : (r : Bed) (ts qs zs : List ℕ) (x : Refusal) → recordCheck r ts qs zs ≡ check.Refused x → x ≡ record { reason = BlockRules; place = 0 }
+unfolding recordCheck
+checked-breach r ts qs zs x h = breach-if (bedValid r ts qs zs) x h
 
 -- ---- a valid record: written, and read back
-module _ (r : Bed) (ns : Names) (table : List Row) (ok : BedValid r ns table) (short : length (bedText r (ns .first) (ns .second) (targetsOf table) (sizesOf table)) ≤ textLimit) where
+module _ (r : Bed) (ns : Names) (table : List Row) (ok : BedValid r ns table) where
   abbrev ts : List ℕ
   ts = targetsOf table
 
@@ -100,16 +125,22 @@ module _ (r : Bed) (ns : Names) (table : List Row) (ok : BedValid r ns table) (s
   may : writeCheck r (ns .first) (ns .second) ts qs zs ≡ Holds
   may = passes r ns ts qs zs (ok .rules) (ok .chromShows) (ok .nameShows)
 
-  is-written : (room : ℕ) → length text ≤ room → bedWrite r (ns .first) (ns .second) ts qs zs room ≡ Written (length text)
+  pub short : length text ≤ textLimit
+  short = bed-short r (ns .first) (ns .second) ts qs zs (ok .rules)
+
+  pub writes-as : (room : ℕ) → bedWrite r (ns .first) (ns .second) ts qs zs room ≡ roomAnswer (length text) room
   unfolding bedWrite
-  is-written room h = passed-written _ text room may short h
+  writes-as room = rw may
+
+  is-written : (before after : List ℕ) (x : Writing) → BedWrote r (ns .first) (ns .second) ts qs zs before after x → length text ≤ length before
+      → (x ≡ Written (length text)) × (after ≡ text ++ drop (length text) before)
+  is-written before after x w h =
+      let e : x ≡ Written (length text) = w .is ∙ writes-as (length before) ∙ room-written text (length before) short h in
+      (e, w .left ∙ ap (λ (y : Writing). leftAfter y text before) e)
 
   same : SameBed r (placed text r)
   unfolding placed
   same = record { words = refl; chromStart = refl; chromEnd = refl; score = refl; strand = refl; thickStart = refl; thickEnd = refl; itemRgb = refl; blockCount = refl }
-
-  same-rows : bedRows text (placed text r) ≡ take (r .blockCount) table
-  same-rows = rows-taken (r .blockCount) table _ _ _ (back-targets r _ _ ts qs zs may short) (back-queries r _ _ ts qs zs may short) (back-sizes r _ _ ts qs zs may short)
 
   same-names : bedNames text (placed text r) ≡ ns
   same-names =
@@ -117,20 +148,79 @@ module _ (r : Bed) (ns : Names) (table : List Row) (ok : BedValid r ns table) (s
       let b = back-name r (ns .first) (ns .second) ts qs zs may short in
       λ i. record { first = a i; second = b i }
 
+-- what a text spells is what its checker accepts, with the rows of its block columns
+pub spelt-check : (s : List ℕ) (r : Bed) (rows : List Row) → BedSpells s r rows → bedCheck s ≡ Accepted r
+spelt-check s r rows p = line-is s r _ _ _ _ (p .line)
+
+pub spelt-rows : (s : List ℕ) (r : Bed) (rows : List Row) → BedSpells s r rows → rows ≡ bedRows s r
+unfolding bedTargets bedQueries
+spelt-rows s r rows p =
+    let a = line-starts s r _ _ _ _ (p .line) in
+    let b = line-sizes s r _ _ _ _ (p .line) in
+    p .rowsSaid ∙ (λ i. tableOf (shifted (r .chromStart) (a i)) (sumsFrom 0 (b i)) (b i))
+
+pub spelt-of : (s : List ℕ) (r : Bed) → bedCheck s ≡ Accepted r → BedSpells s r (bedRows s r)
+unfolding bedTargets bedQueries
+spelt-of s r ok = record { values = _; lists = _; starts = _; sizes = _; line = line-of s r ok; rowsSaid = refl }
+
+word-count : (s : List ℕ) → wordCount s 0 ≡ length (wordsOf (lineOf s))
+unfolding wordCount
+word-count s = refl
+
+-- its names are its words; one that is left out is none
+name-said : (s vs : List ℕ) (ls : List (List ℕ)) (r : Bed) (starts sizes : List ℕ) → BedLine s vs ls r starts sizes → (partBytes s (r .name) ≡ getD (wordsOf (lineOf s)) 3 []) × (partBytes s (partIn s (r .name)) ≡ partBytes s (r .name))
+unfolding partBytes
+name-said s vs ls r starts sizes line = either (r .words) 3 _
+    (λ h.
+    let n : length (wordsOf (lineOf s)) ≤ 3 = omega (arith, word-count s, line .words) in
+    rw (line .noName h) (sym (List·getD-eq-default (wordsOf (lineOf s)) [] {n = 3} n), handed-in s (record { start = length s; length = 0 }) (omega arith) (omega arith)))
+    (λ h. (name-word s 3 (r .name) (line .name h), name-handed s 3 (r .name) (line .name h)))
+
+pub names-said : (s : List ℕ) (r : Bed) (rows : List Row) → BedSpells s r rows → (bedNames s r ≡ bedNameWords s) × (bedHanded s r ≡ bedNames s r)
+names-said s r rows p =
+    let a = name-word s 0 (r .chrom) (p .line .chrom) in
+    let b = name-handed s 0 (r .chrom) (p .line .chrom) in
+    let c = name-said s _ _ r _ _ (p .line) in
+    let d = c .0 in
+    let e = c .1 in
+    (λ i. record { first = a i; second = d i }, λ i. record { first = b i; second = e i })
+
+-- the record with just these rows is valid
+pub spelt-valid : (s : List ℕ) (r : Bed) (rows : List Row) → BedSpells s r rows → BedValid r (bedNames s r) rows
+spelt-valid s r rows p =
+    let ok = spelt-check s r rows p in
+    let n = read-count (bed-reads s) r ok in
+    let fits : r .blockCount ≤ length rows = omega (arith, ap length (spelt-rows s r rows p)) in
+    left s rows rows r (record { is = sym (bed-reads s .roomy r (length rows) ok fits); rows = self-rows rows (bedRows s r) (r .blockCount) (spelt-rows s r rows p) n })
+
 -- DEMAND 2 OF BED
 pub bed-demand2 : Demand2 bed
 unfolding bed
 bed-demand2 = record {
-  acceptedExactly = λ s room r. (λ e. let k = read-of (bed-reads s) room r e in (record { values = _; line = line-of s r (k .0); rowsSaid = refl }, k .1), λ p. bed-reads s .roomy r room (line-is s r (p .0 .values) (p .0 .line)) (p .1));
-  oneRecord = λ s r r′ rows rows′ p q. let u = line-is s r (p .values) (p .line) in let v = line-is s r′ (q .values) (q .line) in let w : Accepted r ≡ Accepted r′ = sym u ∙ v in cc;
-  justRows = λ s r rows p. p .rowsSaid;
-  acceptedValid = λ s room r e. accepted-named s r (read-of (bed-reads s) room r e .0);
-  written = λ r ns table ok short room h. is-written r ns table ok short room h;
-  readsBack = λ r ns table ok short. record {
-    record′ = placed (text r ns table ok short) r;
-    isRead = λ room h. back-read r (ns .first) (ns .second) (targetsOf table) (queriesOf table) (sizesOf table) (may r ns table ok short) short room h;
-    sameNumbers = same r ns table ok short;
-    sameNames = same-names r ns table ok short;
-    sameRows = same-rows r ns table ok short;
-  };
+  acceptedExactly = λ s before after x h r. (
+    λ e. let k = read-of (bed-reads s) (length before) r (sym (h .is) ∙ e) in record { rows = bedRows s r; spells = spelt-of s r (k .0); fits = k .1 },
+    λ p. h .is ∙ bed-reads s .roomy r (length before) (spelt-check s r (p .rows) (p .spells)) (p .fits),
+  );
+  noRoom = λ s before after x h r rows p l. h .is ∙ bed-reads s .short r (length before) (spelt-check s r rows p) l;
+  oneRecord = λ s r r′ rows rows′ p q.
+      let w : Accepted r ≡ Accepted r′ = sym (spelt-check s r rows p) ∙ spelt-check s r′ rows′ q in
+      let e : r ≡ r′ = cc in
+      (e, spelt-rows s r rows p ∙ ap (λ (a : Bed). bedRows s a) e ∙ sym (spelt-rows s r′ rows′ q));
+  allBlocks = λ s r rows p. ap length (spelt-rows s r rows p) ∙ read-count (bed-reads s) r (spelt-check s r rows p);
+  justRows = λ s before after r rows h p. front-rows rows _ before after (r .blockCount) (spelt-rows s r rows p) (read-count (bed-reads s) r (spelt-check s r rows p)) (h .rows);
+  namesSaid = names-said;
+  checkedExactly = λ r table. checked-exactly r _ _ _;
+  breached = λ r table. checked-breach r _ _ _;
+  leftValid = left;
+  keepsLimit = short;
+  written = λ r ns table before after x ok w h. is-written r ns table ok before after x w h;
+  readsBack = λ r ns table before after x ok h room.
+      let k = back-rows r (ns .first) (ns .second) table (may r ns table ok) (short r ns table ok) before after x room h in
+      record {
+        record′ = placed (text r ns table ok) r;
+        isRead = k .0;
+        sameNumbers = same r ns table ok;
+        sameNames = same-names r ns table ok;
+        sameRows = k .1;
+      };
 }

@@ -1,21 +1,25 @@
 -- The words of a text whose bytes are allowed show: all their bytes are 33 to 126. Assumes nothing.
-use mathlib.Core.Path.{_≡_, refl, ap}
+use mathlib.Core.Path.{_≡_, refl, sym, ap}
 use mathlib.Core.Bool.{Bool, true, false, _&&_}
 use mathlib.Core.List.{List, [], _∷_}
 use Prim.Native.Nat.{ℕ, zero, suc, _-_, _≤_}
 use native.Mathlib.Omega.{arith}
-use lib.ListN.{length, take, drop}
+use lib.ListN.{length, take, drop, getD}
 use lib.Dec.{leb, eqb}
 use borrow.Author.Tests.{le-leb, leb-true, eqb-false}
 use Rattle.text.specs.declared.Class.{Class}
 use Rattle.text.specs.declared.Class.the-variants.{Word, Allowed, Graphic}
 use Rattle.text.specs.Scan.{isIn, oneMore, run, endOf}
 use Rattle.text.specs.Words.{wordAt, bytesOf}
-use Rattle.text.specs.Parts.{partBytes}
-use Rattle.text.proofs.Laws.{more-ones, word-ends}
+use Rattle.text.specs.Parts.{partIn, partBytes}
+use Rattle.text.specs.Pieces.{lineOf, wordsOf}
+use Rattle.text.proofs.PieceLaws.{word-bytes}
+use Rattle.ledger.specs.declared.Part.{Part}
+use Rattle.text.proofs.Laws.{more-ones, word-ends, part-fits}
 use Rattle.text.proofs.TextLaws.{All, both}
 use Rattle.columns.specs.Names.{partOf}
 use Rattle.columns.proofs.WordLaws.{word-length}
+use Rattle.demands.proofs.PlaceLaws.{word-in}
 
 -- a byte of a word that is allowed
 shows : (b : ℕ) → isIn Word b ≡ true → isIn Allowed b ≡ true → isIn Graphic b ≡ true
@@ -78,3 +82,17 @@ word-shows s line k h =
 pub part-shows : (s : List ℕ) → All Allowed s → (k : ℕ) → (All Graphic (partBytes s (partOf (wordAt s 0 k)))) × (length (partBytes s (partOf (wordAt s 0 k))) ≡ partOf (wordAt s 0 k) .length)
 unfolding partBytes
 part-shows s h k = unfold bytesOf in (word-shows s 0 k h, word-length s k)
+
+-- it holds the word's bytes
+pub name-word : (s : List ℕ) (k : ℕ) (p : Part) → p ≡ partOf (wordAt s 0 k) → partBytes s p ≡ getD (wordsOf (lineOf s)) k []
+unfolding partBytes bytesOf
+name-word s k p e = rw e (word-bytes s 0 k)
+
+-- and is handed back whole, as every part that lies in the text
+pub handed-in : (s : List ℕ) (p : Part) → p .start ≤ length s → p .length ≤ length s - p .start → partBytes s (partIn s p) ≡ partBytes s p
+handed-in s p h k = ap (partBytes s) (sym (part-fits s p h k))
+
+pub name-handed : (s : List ℕ) (k : ℕ) (p : Part) → p ≡ partOf (wordAt s 0 k) → partBytes s (partIn s p) ≡ partBytes s p
+name-handed s k p e =
+    let h = word-in s 0 k (omega arith) in
+    handed-in s p (rw e (h .0)) (rw e (omega (arith, h .1)))

@@ -1,43 +1,54 @@
 -- Demand 2 holds of PSL. Assumes nothing.
-use mathlib.Core.Path.{_≡_, refl, sym, _∙_}
+use mathlib.Core.Path.{_≡_, refl, sym, ap, _∙_}
+use mathlib.Core.Logic.{_↔_}
 use mathlib.Core.Bool.{true, _&&_}
-use mathlib.Core.List.{List}
+use mathlib.Core.List.{List, _++_}
 use Prim.Native.Nat.{ℕ, _≤_}
-use lib.ListN.{length, take}
+use native.Mathlib.Omega.{arith}
+use lib.ListN.{length, take, drop}
 use Rattle.ledger.specs.declared.Row.{Row}
+use Rattle.ledger.specs.declared.Refusal.{Refusal}
+use Rattle.ledger.specs.declared.Reason.the-variants.{BlockRules}
 use Rattle.ledger.specs.Parts.{partAt}
 use Rattle.ledger.specs.Limits.{textLimit}
 use Rattle.text.specs.declared.Check.the-variants.{Holds}
+use Rattle.text.specs.declared.Check.the-variants as check
 use Rattle.text.specs.declared.Class.the-variants.{Graphic}
 use Rattle.columns.specs.Columns.{valuesFrom}
 use Rattle.columns.specs.Spells.{firsts}
+use Rattle.text.specs.Pieces.{lineOf, wordsOf}
 use Rattle.text.specs.Parts.{partBytes}
 use Rattle.text.proofs.TextLaws.{All, both}
+use Rattle.writing.specs.declared.Writing.{Writing}
 use Rattle.writing.specs.declared.Writing.the-variants.{Written}
+use Rattle.writing.specs.Answers.{roomAnswer, leftAfter}
 use Rattle.blocks.specs.Blocks.{blocksFill, countFits, rowsOf, rowNumbersFit}
-use Rattle.blocks.specs.Rows.{targetsOf, queriesOf, sizesOf}
+use Rattle.blocks.specs.Rows.{tableOf, targetsOf, queriesOf, sizesOf}
 use Rattle.psl.specs.declared.Psl.{Psl}
 use Rattle.psl.specs.declared.PslAnswer.the-variants.{Accepted}
-use Rattle.psl.specs.Records.{pslRows}
+use Rattle.psl.specs.Records.{pslTargets, pslQueries, pslSizes, pslRows}
 use Rattle.psl.specs.Read.{pslCheck}
 use Rattle.psl.specs.Table.{pslColumns}
 use Rattle.psl.specs.Rules.{PslLine, PslRules, named, placed}
 use Rattle.psl.specs.Rows.{rowsFit, countsFit}
 use Rattle.ledger.specs.Strands.{isTold}
 use Rattle.psl.specs.Tests.{fieldsFit, spansFit, pslValid}
-use Rattle.psl.specs.Write.{wordsShow, writeCheck, pslText, pslWrite}
-use Rattle.psl.proofs.LineLaws.{line-of, line-is}
-use Rattle.psl.proofs.ValidLaws.{accepted-valid}
+use Rattle.psl.specs.Write.{wordsShow, writeCheck, pslText, pslWrite, PslWrote, recordCheck}
+use Rattle.psl.proofs.LineLaws.{line-targets, line-queries, line-sizes, line-of, line-is}
 use Rattle.psl.proofs.RuleLaws.{rules-of, rules-is}
 use Rattle.psl.proofs.BackWordLaws.{on-renamed}
-use Rattle.psl.proofs.BackLaws.{back-query, back-target, back-targets, back-queries, back-sizes, back-read}
+use Rattle.psl.proofs.BackLaws.{back-query, back-target}
 use Rattle.demands.specs.Formats.{Names}
 use Rattle.demands.specs.Demand2.{Demand2}
-use Rattle.demands.specs.Psl.{pslNames, PslValid, SamePsl, psl}
+use Rattle.demands.specs.Psl.{pslNames, pslHanded, pslNameWords, PslSpells, PslValid, SamePsl, psl}
 use Rattle.rows.proofs.ReaderLaws.{read-of}
 use Rattle.table_psl.proofs.RowLaws.{psl-reads}
-use Rattle.demands.proofs.NameLaws.{part-shows}
-use Rattle.demands.proofs.RowLaws.{read-flat, rows-taken, passed-written}
+use Rattle.table_psl.specs.Rows.{RowsRead}
+use Rattle.table_psl.proofs.TableLaws.{left-valid, back-rows}
+use Rattle.columns.proofs.Meant.{listsIn}
+use Rattle.demands.proofs.NameLaws.{part-shows, name-word, name-handed}
+use Rattle.demands.proofs.RowLaws.{read-count, front-rows, self-rows, holds-if, breach-if, room-written}
+use Rattle.demands.proofs.LengthLaws.{psl-short}
 use Rattle.columns.specs.Names.{lengthFits}
 use Rattle.columns.proofs.WordLaws.{graphic-all}
 
@@ -67,7 +78,7 @@ passes r ns ts qs zs k c d =
 
 -- ---- an accepted line: its names, and its rows
 module _ (s : List ℕ) (r : Psl) (ok : pslCheck s ≡ Accepted r) where
-  said : PslLine s (firsts (valuesFrom pslColumns 0 s 0)) r
+  said : PslLine s (firsts (valuesFrom pslColumns 0 s 0)) (listsIn pslColumns (wordsOf (lineOf s))) r (pslTargets s) (pslQueries s) (pslSizes s)
   said = line-of s r ok
 
   query-shows : (All Graphic (partBytes s (r .query .name))) × (length (partBytes s (r .query .name)) ≡ r .query .name .length)
@@ -76,18 +87,31 @@ module _ (s : List ℕ) (r : Psl) (ok : pslCheck s ≡ Accepted r) where
   target-shows : (All Graphic (partBytes s (r .target .name))) × (length (partBytes s (r .target .name)) ≡ r .target .name .length)
   target-shows = rw (said .target .name) (part-shows s (said .line .allowed) 13)
 
-  accepted-named : PslValid r (pslNames s r) (pslRows s)
-  accepted-named =
-      let w = read-flat (psl-reads s) r ok in
-      let v : pslValid r (targetsOf (pslRows s)) (queriesOf (pslRows s)) (sizesOf (pslRows s)) ≡ true = rw (w .targets, w .queries, w .sizes) (accepted-valid s r ok) in
-      record {
-        rules = rules-of (named r (pslNames s r .first) (pslNames s r .second)) _ _ _ (valid-named r (pslNames s r) _ _ _ (query-shows .1) (target-shows .1) v);
-        queryShows = query-shows .0;
-        targetShows = target-shows .0;
-      }
+  names-valid : (ts qs zs : List ℕ) → pslValid r ts qs zs ≡ true → pslValid (named r (pslNames s r .first) (pslNames s r .second)) ts qs zs ≡ true
+  names-valid ts qs zs v = valid-named r (pslNames s r) ts qs zs (query-shows .1) (target-shows .1) v
+
+-- and the table that it left
+left : (s : List ℕ) (before after : List Row) (r : Psl) → RowsRead s before after (Accepted r) → PslValid r (pslNames s r) after
+unfolding recordCheck
+left s before after r h =
+    let ok = read-of (psl-reads s) (length before) r (sym (h .is)) .0 in
+    record {
+      rules = rules-of (named r (pslNames s r .first) (pslNames s r .second)) _ _ _ (names-valid s r ok _ _ _ (holds-if _ (left-valid s r before after h)));
+      queryShows = query-shows s r ok .0;
+      targetShows = target-shows s r ok .0;
+    }
+
+-- ---- the record checker holds exactly of what obeys the rules
+checked-exactly : (r : Psl) (ts qs zs : List ℕ) → (recordCheck r ts qs zs ≡ Holds) ↔ PslRules r ts qs zs
+unfolding recordCheck
+checked-exactly r ts qs zs = (λ h. rules-of r ts qs zs (holds-if _ h), λ k. rw (rules-is r ts qs zs k))
+
+checked-breach : (r : Psl) (ts qs zs : List ℕ) (x : Refusal) → recordCheck r ts qs zs ≡ check.Refused x → x ≡ record { reason = BlockRules; place = 0 }
+unfolding recordCheck
+checked-breach r ts qs zs x h = breach-if (pslValid r ts qs zs) x h
 
 -- ---- a valid record: written, and read back
-module _ (r : Psl) (ns : Names) (table : List Row) (ok : PslValid r ns table) (short : length (pslText r (ns .first) (ns .second) (targetsOf table) (queriesOf table) (sizesOf table)) ≤ textLimit) where
+module _ (r : Psl) (ns : Names) (table : List Row) (ok : PslValid r ns table) where
   abbrev ts : List ℕ
   ts = targetsOf table
 
@@ -103,16 +127,22 @@ module _ (r : Psl) (ns : Names) (table : List Row) (ok : PslValid r ns table) (s
   may : writeCheck r (ns .first) (ns .second) ts qs zs ≡ Holds
   may = passes r ns ts qs zs (ok .rules) (ok .queryShows) (ok .targetShows)
 
-  is-written : (room : ℕ) → length text ≤ room → pslWrite r (ns .first) (ns .second) ts qs zs room ≡ Written (length text)
+  pub short : length text ≤ textLimit
+  short = psl-short r (ns .first) (ns .second) ts qs zs (ok .rules)
+
+  pub writes-as : (room : ℕ) → pslWrite r (ns .first) (ns .second) ts qs zs room ≡ roomAnswer (length text) room
   unfolding pslWrite
-  is-written room h = passed-written _ text room may short h
+  writes-as room = rw may
+
+  is-written : (before after : List ℕ) (x : Writing) → PslWrote r (ns .first) (ns .second) ts qs zs before after x → length text ≤ length before
+      → (x ≡ Written (length text)) × (after ≡ text ++ drop (length text) before)
+  is-written before after x w h =
+      let e : x ≡ Written (length text) = w .is ∙ writes-as (length before) ∙ room-written text (length before) short h in
+      (e, w .left ∙ ap (λ (y : Writing). leftAfter y text before) e)
 
   same : SamePsl r (placed text r)
   unfolding placed
   same = record { counts = refl; strand = refl; qSize = refl; qStart = refl; qEnd = refl; tSize = refl; tStart = refl; tEnd = refl; blockCount = refl }
-
-  same-rows : pslRows text ≡ take (r .blockCount) table
-  same-rows = rows-taken (r .blockCount) table _ _ _ (back-targets r _ _ ts qs zs may short) (back-queries r _ _ ts qs zs may short) (back-sizes r _ _ ts qs zs may short)
 
   same-names : pslNames text (placed text r) ≡ ns
   same-names =
@@ -120,20 +150,65 @@ module _ (r : Psl) (ns : Names) (table : List Row) (ok : PslValid r ns table) (s
       let b = back-target r (ns .first) (ns .second) ts qs zs may short in
       λ i. record { first = a i; second = b i }
 
+-- what a text spells is what its checker accepts, with the rows of its block columns
+pub spelt-check : (s : List ℕ) (r : Psl) (rows : List Row) → PslSpells s r rows → pslCheck s ≡ Accepted r
+spelt-check s r rows p = line-is s r _ _ _ _ _ (p .line)
+
+pub spelt-rows : (s : List ℕ) (r : Psl) (rows : List Row) → PslSpells s r rows → rows ≡ pslRows s
+spelt-rows s r rows p =
+    let a = line-targets s r _ _ _ _ _ (p .line) in
+    let b = line-queries s r _ _ _ _ _ (p .line) in
+    let c = line-sizes s r _ _ _ _ _ (p .line) in
+    p .rowsSaid ∙ (λ i. tableOf (a i) (b i) (c i))
+
+pub spelt-of : (s : List ℕ) (r : Psl) → pslCheck s ≡ Accepted r → PslSpells s r (pslRows s)
+spelt-of s r ok = record { values = _; lists = _; targets = _; queries = _; sizes = _; line = line-of s r ok; rowsSaid = refl }
+
+-- its names are its words
+pub names-said : (s : List ℕ) (r : Psl) (rows : List Row) → PslSpells s r rows → (pslNames s r ≡ pslNameWords s) × (pslHanded s r ≡ pslNames s r)
+names-said s r rows p =
+    let a = name-word s 9 (r .query .name) (p .line .query .name) in
+    let b = name-word s 13 (r .target .name) (p .line .target .name) in
+    let c = name-handed s 9 (r .query .name) (p .line .query .name) in
+    let d = name-handed s 13 (r .target .name) (p .line .target .name) in
+    (λ i. record { first = a i; second = b i }, λ i. record { first = c i; second = d i })
+
+-- the record with just these rows is valid
+pub spelt-valid : (s : List ℕ) (r : Psl) (rows : List Row) → PslSpells s r rows → PslValid r (pslNames s r) rows
+spelt-valid s r rows p =
+    let ok = spelt-check s r rows p in
+    let n = read-count (psl-reads s) r ok in
+    let fits : r .blockCount ≤ length rows = omega (arith, ap length (spelt-rows s r rows p)) in
+    left s rows rows r (record { is = sym (psl-reads s .roomy r (length rows) ok fits); rows = self-rows rows (pslRows s) (r .blockCount) (spelt-rows s r rows p) n })
+
 -- DEMAND 2 OF PSL
 pub psl-demand2 : Demand2 psl
 unfolding psl
 psl-demand2 = record {
-  acceptedExactly = λ s room r. (λ e. let k = read-of (psl-reads s) room r e in (record { values = _; line = line-of s r (k .0); rowsSaid = refl }, k .1), λ p. psl-reads s .roomy r room (line-is s r (p .0 .values) (p .0 .line)) (p .1));
-  oneRecord = λ s r r′ rows rows′ p q. let u = line-is s r (p .values) (p .line) in let v = line-is s r′ (q .values) (q .line) in let w : Accepted r ≡ Accepted r′ = sym u ∙ v in cc;
-  justRows = λ s r rows p. p .rowsSaid;
-  acceptedValid = λ s room r e. accepted-named s r (read-of (psl-reads s) room r e .0);
-  written = λ r ns table ok short room h. is-written r ns table ok short room h;
-  readsBack = λ r ns table ok short. record {
-    record′ = placed (text r ns table ok short) r;
-    isRead = λ room h. back-read r (ns .first) (ns .second) (targetsOf table) (queriesOf table) (sizesOf table) (may r ns table ok short) short room h;
-    sameNumbers = same r ns table ok short;
-    sameNames = same-names r ns table ok short;
-    sameRows = same-rows r ns table ok short;
-  };
+  acceptedExactly = λ s before after x h r. (
+    λ e. let k = read-of (psl-reads s) (length before) r (sym (h .is) ∙ e) in record { rows = pslRows s; spells = spelt-of s r (k .0); fits = k .1 },
+    λ p. h .is ∙ psl-reads s .roomy r (length before) (spelt-check s r (p .rows) (p .spells)) (p .fits),
+  );
+  noRoom = λ s before after x h r rows p l. h .is ∙ psl-reads s .short r (length before) (spelt-check s r rows p) l;
+  oneRecord = λ s r r′ rows rows′ p q.
+      let w : Accepted r ≡ Accepted r′ = sym (spelt-check s r rows p) ∙ spelt-check s r′ rows′ q in
+      let e : r ≡ r′ = cc in
+      (e, spelt-rows s r rows p ∙ ap (λ (a : Psl). pslRows s) e ∙ sym (spelt-rows s r′ rows′ q));
+  allBlocks = λ s r rows p. ap length (spelt-rows s r rows p) ∙ read-count (psl-reads s) r (spelt-check s r rows p);
+  justRows = λ s before after r rows h p. front-rows rows _ before after (r .blockCount) (spelt-rows s r rows p) (read-count (psl-reads s) r (spelt-check s r rows p)) (h .rows);
+  namesSaid = names-said;
+  checkedExactly = λ r table. checked-exactly r _ _ _;
+  breached = λ r table. checked-breach r _ _ _;
+  leftValid = left;
+  keepsLimit = short;
+  written = λ r ns table before after x ok w h. is-written r ns table ok before after x w h;
+  readsBack = λ r ns table before after x ok h room.
+      let k = back-rows r (ns .first) (ns .second) table (may r ns table ok) (short r ns table ok) before after x room h in
+      record {
+        record′ = placed (text r ns table ok) r;
+        isRead = k .0;
+        sameNumbers = same r ns table ok;
+        sameNames = same-names r ns table ok;
+        sameRows = k .1;
+      };
 }

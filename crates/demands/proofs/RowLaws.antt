@@ -1,20 +1,22 @@
 -- Rows and their flat lists, both ways. Assumes nothing.
 use mathlib.Core.Path.{_≡_, refl, sym, ap, _∙_}
-use mathlib.Core.List.{List, [], _∷_}
+use mathlib.Core.Bool.{Bool, true, false}
+use mathlib.Core.List.{List, [], _∷_, _++_, append-nil}
 use Prim.Native.Nat.{ℕ, _≤_}
 use native.Mathlib.Omega.{arith}
-use lib.ListN.{length, take}
+use lib.ListN.{length, drop, drop-of-length-le}
 use borrow.Author.Tests.{le-leb}
-use Rattle.ledger.specs.Limits.{textLimit}
+use Rattle.ledger.specs.Limits.{textLimit, blockLimit}
+use Rattle.ledger.specs.declared.Reason.the-variants.{BlockRules}
 use Rattle.ledger.specs.declared.Refusal.{Refusal}
 use Rattle.ledger.specs.declared.Row.{Row}
 use Rattle.blocks.specs.Rows.{tableOf, targetsOf, queriesOf, sizesOf}
-use Rattle.blocks.proofs.TableLaws.{table-back, take-map}
-use Rattle.text.specs.declared.Check.{Check}
+use Rattle.blocks.proofs.TableLaws.{table-length}
 use Rattle.text.specs.declared.Check.the-variants.{Holds}
+use Rattle.text.specs.declared.Check.the-variants as check
+use Rattle.text.specs.Checks.{require}
 use Rattle.writing.specs.declared.Writing.the-variants.{Written}
 use Rattle.writing.specs.Answers.{roomAnswer}
-use Rattle.columns.specs.Lines.{thenWrite}
 use Rattle.rows.proofs.ReaderLaws.{Reads}
 
 -- the flat lists of a table of three lists of one length are those lists
@@ -38,17 +40,42 @@ flat (t ∷ ts) (q ∷ qs) (z ∷ zs) e f =
       sizes = ap (λ (l : List ℕ). z ∷ l) (w .sizes);
     }
 
--- three lists that are the first n numbers of a table's flat lists make its first n rows
-pub rows-taken : (n : ℕ) (table : List Row) (ts qs zs : List ℕ) → ts ≡ take n (targetsOf table) → qs ≡ take n (queriesOf table) → zs ≡ take n (sizesOf table) → tableOf ts qs zs ≡ take n table
-rows-taken n table ts qs zs et eq ez =
-    rw (et, eq, ez, take-map (λ (b : Row). b .target) n table, take-map (λ (b : Row). b .query) n table, take-map (λ (b : Row). b .size) n table) (table-back (take n table))
-
 -- the columns of what a reader accepts make its table
 pub read-flat : {R A : Type 0} {acc : R → A} {ref : Refusal → A} {blocks : R → ℕ} {filled : A → ℕ} {check : A} {read : ℕ → A} {noRoom : Refusal} {ts qs zs : R → List ℕ}
     → Reads acc ref blocks filled check read noRoom ts qs zs → (r : R) → check ≡ acc r → Flat (ts r) (qs r) (zs r)
 read-flat {ts = ts} {qs = qs} {zs = zs} f r ok = flat (ts r) (qs r) (zs r) (f .queries r ok ∙ sym (f .targets r ok)) (f .sizes r ok ∙ sym (f .targets r ok))
 
--- a text that passes the writer's checks is written, given room
-pub passed-written : (c : Check) (text : List ℕ) (room : ℕ) → c ≡ Holds → length text ≤ textLimit → length text ≤ room → thenWrite c (roomAnswer (length text) room) ≡ Written (length text)
+pub read-count : {R A : Type 0} {acc : R → A} {ref : Refusal → A} {blocks : R → ℕ} {filled : A → ℕ} {check : A} {read : ℕ → A} {noRoom : Refusal} {ts qs zs : R → List ℕ}
+    → Reads acc ref blocks filled check read noRoom ts qs zs → (r : R) → check ≡ acc r → length (tableOf (ts r) (qs r) (zs r)) ≡ blocks r
+read-count {ts = ts} {qs = qs} {zs = zs} f r ok = omega (arith, table-length (ts r) (qs r) (zs r), f .targets r ok, f .queries r ok, f .sizes r ok)
+
+-- rows at the front of a table, n of them
+pub front-rows : (rows said before after : List Row) (n : ℕ) → rows ≡ said → length said ≡ n → after ≡ said ++ drop n before → after ≡ rows ++ drop (length rows) before
+front-rows rows said before after n e l h = rw (e, l) h
+
+-- a test that a checker passed
+pub holds-if : (t : Bool) → require t BlockRules 0 Holds ≡ Holds → t ≡ true
+holds-if true e = refl
+holds-if false e = absurd (let z : _≡_ {A = ℕ} 0 1 = cc in omega arith)
+
+-- and one that it did not pass: 9 at place 0
+pub breach-if : (t : Bool) (x : Refusal) → require t BlockRules 0 Holds ≡ check.Refused x → x ≡ record { reason = BlockRules; place = 0 }
+breach-if true x e = absurd (let z : _≡_ {A = ℕ} 0 1 = cc in omega arith)
+breach-if false x e = cc
+
+-- a text that keeps the limit is written, given room
+pub room-written : (text : List ℕ) (room : ℕ) → length text ≤ textLimit → length text ≤ room → roomAnswer (length text) room ≡ Written (length text)
 unfolding roomAnswer
-passed-written c text room e short h = rw (e, le-leb (length text) textLimit short, le-leb (length text) room h)
+room-written text room short h = rw (le-leb (length text) textLimit short, le-leb (length text) room h)
+
+-- the rows of a text, read into a table that holds just them
+pub self-rows : (rows said : List Row) (n : ℕ) → rows ≡ said → length said ≡ n → rows ≡ said ++ drop n rows
+self-rows rows said n e l =
+    let h : length rows ≤ n = omega (arith, ap length e) in
+    e ∙ sym (append-nil said) ∙ ap (λ (k : List Row). said ++ k) (sym (drop-of-length-le rows h))
+
+-- what a reader refuses with room for any record, its text checker refuses
+pub refused-of : {R A : Type 0} {acc : R → A} {ref : Refusal → A} {blocks : R → ℕ} {filled : A → ℕ} {check : A} {read : ℕ → A} {noRoom : Refusal} {ts qs zs : R → List ℕ}
+    → Reads acc ref blocks filled check read noRoom ts qs zs → (room : ℕ) (x : Refusal) → blockLimit ≤ room → ref x ≡ read room → check ≡ ref x
+refused-of {check = check} f room x h e =
+    f .cases check _ (λ q k. absurd (f .apart q x (sym (f .roomy q room k (omega (arith, f .few q k))) ∙ sym e))) (λ y k. k ∙ sym (f .refused y room k) ∙ sym e)

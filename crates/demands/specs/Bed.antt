@@ -1,31 +1,43 @@
 -- BED as a format of the demands.
 use Prim.Native.Nat.{ℕ}
 use mathlib.Core.Path.{_≡_}
-use mathlib.Core.List.{List}
-use lib.ListN.{length}
+use mathlib.Core.List.{List, []}
+use lib.ListN.{length, getD}
 use Rattle.ledger.specs.declared.Row.{Row}
 use Rattle.text.specs.declared.Class.the-variants.{Graphic}
 use Rattle.text.specs.Scan.{run}
-use Rattle.text.specs.Parts.{partBytes}
-use Rattle.blocks.specs.Rows.{targetsOf, queriesOf, sizesOf}
+use Rattle.text.specs.Pieces.{lineOf, wordsOf}
+use Rattle.text.specs.Parts.{partIn, partBytes}
+use Rattle.blocks.specs.Blocks.{shifted, sumsFrom}
+use Rattle.blocks.specs.Rows.{tableOf, targetsOf, queriesOf, sizesOf}
 use Rattle.bed.specs.declared.Bed.{Bed}
 use Rattle.bed.specs.declared.BedAnswer.{BedAnswer}
-use Rattle.bed.specs.declared.BedAnswer.the-variants.{Accepted}
-use Rattle.bed.specs.Read.{bedRead}
+use Rattle.bed.specs.declared.BedAnswer.the-variants.{Accepted, Refused}
 use Rattle.bed.specs.Rules.{BedLine, BedRules, named}
-use Rattle.bed.specs.Write.{bedText, bedWrite}
-use Rattle.bed.specs.Records.{bedRows}
+use Rattle.bed.specs.Write.{bedText, BedWrote, recordCheck}
+use Rattle.table_bed.specs.Rows.{RowsRead}
+use Rattle.desk.specs.Records.{bedNumbers}
 use Rattle.demands.specs.Formats.{Names, Format}
 
--- the text is a BED line (bed, specs/Rules.antt), its words spell some values, and record and rows are what they say
+-- the text is a BED line (bed, specs/Rules.antt): its words spell some values and lists, and record and rows are what they say
 pub record BedSpells (s : List ℕ) (r : Bed) (rows : List Row) : Type 0 where
   pub values : List ℕ
-  pub line : BedLine s values r
-  pub rowsSaid : rows ≡ bedRows s r
+  pub lists : List (List ℕ)
+  pub starts : List ℕ
+  pub sizes : List ℕ
+  pub line : BedLine s values lists r starts sizes
+  -- a row for each block: chromStart plus its start; the sum of the earlier sizes; its size
+  pub rowsSaid : rows ≡ tableOf (shifted (r .chromStart) starts) (sumsFrom 0 sizes) sizes
 
 -- the names, chrom and name
 abbrev pub bedNames : List ℕ → Bed → Names
 bedNames s r = record { first = partBytes s (r .chrom); second = partBytes s (r .name) }
+
+abbrev pub bedHanded : List ℕ → Bed → Names
+bedHanded s r = record { first = partBytes s (partIn s (r .chrom)); second = partBytes s (partIn s (r .name)) }
+
+abbrev pub bedNameWords : List ℕ → Names
+bedNameWords s = record { first = getD (wordsOf (lineOf s)) 0 []; second = getD (wordsOf (lineOf s)) 3 [] }
 
 pub record BedValid (r : Bed) (ns : Names) (table : List Row) : Type 0 where
   pub rules : BedRules (named r (ns .first) (ns .second)) (targetsOf table) (queriesOf table) (sizesOf table)
@@ -46,15 +58,21 @@ pub record SameBed (r r′ : Bed) : Type 0 where
 unfoldable pub bed : Format
 bed = record {
   Record = Bed;
+  blocks = λ r. r .blockCount;
   Answer = BedAnswer;
   accepted = Accepted;
-  read = bedRead;
-  rows = bedRows;
-  blocks = λ r. r .blockCount;
+  refused = Refused;
   Spells = BedSpells;
   names = bedNames;
+  handed = bedHanded;
+  nameWords = bedNameWords;
+  Reads = RowsRead;
+  check = λ r table. recordCheck r (targetsOf table) (queriesOf table) (sizesOf table);
+  Rules = λ r table. BedRules r (targetsOf table) (queriesOf table) (sizesOf table);
   Valid = BedValid;
   text = λ r ns table. bedText r (ns .first) (ns .second) (targetsOf table) (sizesOf table);
-  write = λ r ns table room. bedWrite r (ns .first) (ns .second) (targetsOf table) (queriesOf table) (sizesOf table) room;
+  Writes = λ r ns table. BedWrote r (ns .first) (ns .second) (targetsOf table) (queriesOf table) (sizesOf table);
   SameNumbers = SameBed;
+  kind = 1;
+  numbers = bedNumbers;
 }

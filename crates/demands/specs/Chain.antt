@@ -1,20 +1,21 @@
 -- The chain as a format of the demands.
 use Prim.Native.Nat.{ℕ}
 use mathlib.Core.Path.{_≡_}
-use mathlib.Core.List.{List}
-use lib.ListN.{length}
+use mathlib.Core.List.{List, []}
+use lib.ListN.{length, getD}
 use Rattle.ledger.specs.declared.Row.{Row}
 use Rattle.text.specs.declared.Class.the-variants.{Graphic}
 use Rattle.text.specs.Scan.{run}
-use Rattle.text.specs.Parts.{partBytes}
+use Rattle.text.specs.Pieces.{lineOf, wordsOf}
+use Rattle.text.specs.Parts.{partIn, partBytes}
 use Rattle.blocks.specs.Rows.{tableOf, targetsOf, queriesOf, sizesOf}
 use Rattle.chain.specs.declared.Chain.{Chain}
 use Rattle.chain.specs.declared.ChainAnswer.{ChainAnswer}
-use Rattle.chain.specs.declared.ChainAnswer.the-variants.{Accepted}
-use Rattle.chain.specs.Read.{chainRead}
+use Rattle.chain.specs.declared.ChainAnswer.the-variants.{Accepted, Refused}
 use Rattle.chain.specs.Rules.{ChainText, ChainRules, named}
-use Rattle.chain.specs.Write.{chainText, chainWrite}
-use Rattle.chain.specs.Records.{chainRows}
+use Rattle.chain.specs.Write.{chainText, ChainWrote, recordCheck}
+use Rattle.table_chain.specs.Rows.{RowsRead}
+use Rattle.desk.specs.Records.{chainNumbers}
 use Rattle.demands.specs.Formats.{Names, Format}
 
 -- the text is a chain (chain, specs/Rules.antt): the words of its header spell some values, its block lines say three lists, and record and rows are what they say
@@ -30,6 +31,12 @@ pub record ChainSpells (s : List ℕ) (r : Chain) (rows : List Row) : Type 0 whe
 -- the names, tName and qName
 abbrev pub chainNames : List ℕ → Chain → Names
 chainNames s r = record { first = partBytes s (r .tName); second = partBytes s (r .qName) }
+
+abbrev pub chainHanded : List ℕ → Chain → Names
+chainHanded s r = record { first = partBytes s (partIn s (r .tName)); second = partBytes s (partIn s (r .qName)) }
+
+abbrev pub chainNameWords : List ℕ → Names
+chainNameWords s = record { first = getD (wordsOf (lineOf s)) 2 []; second = getD (wordsOf (lineOf s)) 7 [] }
 
 pub record ChainValid (r : Chain) (ns : Names) (table : List Row) : Type 0 where
   pub rules : ChainRules (named r (ns .first) (ns .second)) (targetsOf table) (queriesOf table) (sizesOf table)
@@ -51,15 +58,21 @@ pub record SameChain (r r′ : Chain) : Type 0 where
 unfoldable pub chain : Format
 chain = record {
   Record = Chain;
+  blocks = λ r. r .blockCount;
   Answer = ChainAnswer;
   accepted = Accepted;
-  read = chainRead;
-  rows = chainRows;
-  blocks = λ r. r .blockCount;
+  refused = Refused;
   Spells = ChainSpells;
   names = chainNames;
+  handed = chainHanded;
+  nameWords = chainNameWords;
+  Reads = RowsRead;
+  check = λ r table. recordCheck r (targetsOf table) (queriesOf table) (sizesOf table);
+  Rules = λ r table. ChainRules r (targetsOf table) (queriesOf table) (sizesOf table);
   Valid = ChainValid;
   text = λ r ns table. chainText r (ns .first) (ns .second) (targetsOf table) (queriesOf table) (sizesOf table);
-  write = λ r ns table room. chainWrite r (ns .first) (ns .second) (targetsOf table) (queriesOf table) (sizesOf table) room;
+  Writes = λ r ns table. ChainWrote r (ns .first) (ns .second) (targetsOf table) (queriesOf table) (sizesOf table);
   SameNumbers = SameChain;
+  kind = 3;
+  numbers = chainNumbers;
 }

@@ -1,8 +1,10 @@
 pub mod Formats
-pub mod Demand1
-pub mod Demand2
 pub mod Bed
 pub mod Psl
 pub mod Chain
+pub mod Demand1
+pub mod Demand2
 pub mod Demand3
+pub mod Calls
+pub mod Desk
 pub mod Samples

@@ -1,31 +1,42 @@
 -- PSL as a format of the demands.
 use Prim.Native.Nat.{ℕ}
 use mathlib.Core.Path.{_≡_}
-use mathlib.Core.List.{List}
-use lib.ListN.{length}
+use mathlib.Core.List.{List, []}
+use lib.ListN.{length, getD}
 use Rattle.ledger.specs.declared.Row.{Row}
 use Rattle.text.specs.declared.Class.the-variants.{Graphic}
 use Rattle.text.specs.Scan.{run}
-use Rattle.text.specs.Parts.{partBytes}
-use Rattle.blocks.specs.Rows.{targetsOf, queriesOf, sizesOf}
+use Rattle.text.specs.Pieces.{lineOf, wordsOf}
+use Rattle.text.specs.Parts.{partIn, partBytes}
+use Rattle.blocks.specs.Rows.{tableOf, targetsOf, queriesOf, sizesOf}
 use Rattle.psl.specs.declared.Psl.{Psl}
 use Rattle.psl.specs.declared.PslAnswer.{PslAnswer}
-use Rattle.psl.specs.declared.PslAnswer.the-variants.{Accepted}
-use Rattle.psl.specs.Read.{pslRead}
+use Rattle.psl.specs.declared.PslAnswer.the-variants.{Accepted, Refused}
 use Rattle.psl.specs.Rules.{PslLine, PslRules, named}
-use Rattle.psl.specs.Write.{pslText, pslWrite}
-use Rattle.psl.specs.Records.{pslRows}
+use Rattle.psl.specs.Write.{pslText, PslWrote, recordCheck}
+use Rattle.table_psl.specs.Rows.{RowsRead}
+use Rattle.desk.specs.Records.{pslNumbers}
 use Rattle.demands.specs.Formats.{Names, Format}
 
--- the text is a PSL line (psl, specs/Rules.antt), its words spell some values, and record and rows are what they say
+-- the text is a PSL line (psl, specs/Rules.antt): its words spell some values and lists, and record and rows are what they say
 pub record PslSpells (s : List ℕ) (r : Psl) (rows : List Row) : Type 0 where
   pub values : List ℕ
-  pub line : PslLine s values r
-  pub rowsSaid : rows ≡ pslRows s
+  pub lists : List (List ℕ)
+  pub targets : List ℕ
+  pub queries : List ℕ
+  pub sizes : List ℕ
+  pub line : PslLine s values lists r targets queries sizes
+  pub rowsSaid : rows ≡ tableOf targets queries sizes
 
 -- the names, qName and tName
 abbrev pub pslNames : List ℕ → Psl → Names
 pslNames s r = record { first = partBytes s (r .query .name); second = partBytes s (r .target .name) }
+
+abbrev pub pslHanded : List ℕ → Psl → Names
+pslHanded s r = record { first = partBytes s (partIn s (r .query .name)); second = partBytes s (partIn s (r .target .name)) }
+
+abbrev pub pslNameWords : List ℕ → Names
+pslNameWords s = record { first = getD (wordsOf (lineOf s)) 9 []; second = getD (wordsOf (lineOf s)) 13 [] }
 
 pub record PslValid (r : Psl) (ns : Names) (table : List Row) : Type 0 where
   pub rules : PslRules (named r (ns .first) (ns .second)) (targetsOf table) (queriesOf table) (sizesOf table)
@@ -46,15 +57,21 @@ pub record SamePsl (r r′ : Psl) : Type 0 where
 unfoldable pub psl : Format
 psl = record {
   Record = Psl;
+  blocks = λ r. r .blockCount;
   Answer = PslAnswer;
   accepted = Accepted;
-  read = pslRead;
-  rows = λ s r. pslRows s;
-  blocks = λ r. r .blockCount;
+  refused = Refused;
   Spells = PslSpells;
   names = pslNames;
+  handed = pslHanded;
+  nameWords = pslNameWords;
+  Reads = RowsRead;
+  check = λ r table. recordCheck r (targetsOf table) (queriesOf table) (sizesOf table);
+  Rules = λ r table. PslRules r (targetsOf table) (queriesOf table) (sizesOf table);
   Valid = PslValid;
   text = λ r ns table. pslText r (ns .first) (ns .second) (targetsOf table) (queriesOf table) (sizesOf table);
-  write = λ r ns table room. pslWrite r (ns .first) (ns .second) (targetsOf table) (queriesOf table) (sizesOf table) room;
+  Writes = λ r ns table. PslWrote r (ns .first) (ns .second) (targetsOf table) (queriesOf table) (sizesOf table);
   SameNumbers = SamePsl;
+  kind = 2;
+  numbers = pslNumbers;
 }

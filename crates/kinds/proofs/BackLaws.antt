@@ -2,10 +2,9 @@
 use mathlib.Core.Path.{_≡_, refl, sym, ap, _∙_}
 use mathlib.Core.Bool.{Bool, true, false, _&&_, _||_}
 use mathlib.Core.List.{List, [], _∷_, _++_}
-use Prim.Native.Nat.{ℕ, suc, _+_, _-_, _*_, _%_, _≤_, _<_}
+use Prim.Native.Nat.{ℕ, suc, _*_, _%_, _≤_, _<_}
 use native.Mathlib.Omega.{arith}
 use lib.ListN.{length, take, drop, length-append}
-use lib.Seq.{take-append-seam}
 use lib.Dec.{eqb}
 use borrow.Author.Tests.{le-leb, eqb-true, eqb-false, ne-eqb, not-true}
 use Rattle.ledger.specs.Limits.{nameLimit, colourLimit}
@@ -28,7 +27,7 @@ use Rattle.kinds.specs.declared.Kind.{Kind}
 use Rattle.kinds.specs.declared.Kind.the-variants.{Name, Number, Count, Items, Stranded, Word, Colour}
 use Rattle.kinds.specs.Kinds.{leastOf, mostOf, fixedText, isStrand, sameBytes, packed, colourOf, nameOf, strandOf, fixedOf, spelt, itemsIn}
 use Rattle.kinds.specs.Words.{redOf, greenOf, blueOf, colourText, wordOf}
-use Rattle.kinds.specs.Ranges.{InRange, nameBytes, listIn}
+use Rattle.kinds.specs.Ranges.{InRange, listIn}
 
 -- what the round trip asks of one word: it shows, it is there, it spells its value, and it holds its list
 pub record Written (c : Kind) (n v : ℕ) (w held : List ℕ) : Type 0 where
@@ -205,15 +204,3 @@ written (Items r) t ls n base v p h =
 written (Stranded dot) t ls n base v p h = strand-written dot n v h
 written (Word f) t ls n base v p h = rw h (fixed-written f n)
 written Colour t ls n base v p h = colour-written n v h
-
--- and the same name stands where it was found
-pub name-same : (c : Kind) (s t ls rest : List ℕ) (n base v p at : ℕ) → InRange c t ls n base v p → drop at s ≡ wordOf c t ls base v p ++ rest → nameBytes c s v at ≡ nameBytes c t v p
-name-same Name s t ls rest n base v p at h e =
-    let x : take v (take v (drop p t) ++ rest) ≡ take v (drop p t) = rw (h .there) at (take-append-seam (take v (drop p t)) rest) in
-    rw e x
-name-same (Number r) s t ls rest n base v p at h e = refl
-name-same Count s t ls rest n base v p at h e = refl
-name-same (Items r) s t ls rest n base v p at h e = refl
-name-same (Stranded dot) s t ls rest n base v p at h e = refl
-name-same (Word f) s t ls rest n base v p at h e = refl
-name-same Colour s t ls rest n base v p at h e = refl

@@ -2,3 +2,5 @@ pub mod SpellLaws
 pub mod WordLaws
 pub mod BackLaws
 pub mod RangeLaws
+pub mod DecimalLaws
+pub mod SpeltAsLaws

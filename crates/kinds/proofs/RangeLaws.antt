@@ -16,9 +16,8 @@ use Rattle.numbers.specs.Lists.{itemsOf, testItems, valuesOf, thenCount, listOf
 use Rattle.numbers.proofs.ListLaws.{number-range, list-ended, list-range, good-values}
 use Rattle.kinds.specs.declared.Range.{Range}
 use Rattle.kinds.specs.declared.Range.the-variants.{BlockCount}
-use Rattle.kinds.specs.declared.Fixed.{Fixed}
-use Rattle.kinds.specs.declared.Kind.the-variants.{Name, Number, Count, Items, Stranded, Word, Colour}
-use Rattle.kinds.specs.Kinds.{leastOf, mostOf, fixedText, isStrand, sameBytes, packed, colourOf, wholeOf, nameOf, strandOf, fixedOf, spelt, itemsIn}
+use Rattle.kinds.specs.declared.Kind.the-variants.{Name, Number, Count, Items, Stranded, Colour}
+use Rattle.kinds.specs.Kinds.{leastOf, mostOf, isStrand, sameBytes, packed, colourOf, wholeOf, nameOf, strandOf, spelt, itemsIn}
 
 -- a number, and a count
 pub number-spelt : (r : Range) (n : ℕ) (w : List ℕ) (v : ℕ) → spelt (Number r) n w ≡ Means v → (leastOf r ≤ v) × (v ≤ mostOf r)
@@ -69,22 +68,6 @@ strand-spelt dot n w v e =
     let g = whole-is (isStrand dot w) (getD w 0 0) v e in
     let q : w ≡ v ∷ [] = rw (g .1) (one-letter dot w (g .0)) in
     (rw q at (g .0), q)
-
--- a fixed word
-same-is : (a b : List ℕ) → sameBytes a b ≡ true → a ≡ b
-unfolding sameBytes
-same-is [] [] e = refl
-same-is [] (y ∷ b) e = absurd (let z : _≡_ {A = ℕ} 0 1 = cc in omega arith)
-same-is (x ∷ a) [] e = absurd (let z : _≡_ {A = ℕ} 0 1 = cc in omega arith)
-same-is (x ∷ a) (y ∷ b) e =
-    let h = both (eqb x y) (sameBytes a b) e in
-    rw (eqb-true x y (h .0), same-is a b (h .1))
-
-pub fixed-spelt : (f : Fixed) (n : ℕ) (w : List ℕ) (v : ℕ) → spelt (Word f) n w ≡ Means v → (v ≡ 0) × (w ≡ fixedText f)
-unfolding spelt fixedOf
-fixed-spelt f n w v e =
-    let g = whole-is (sameBytes w (fixedText f)) 0 v e in
-    (g .1, same-is w (fixedText f) (g .0))
 
 -- a colour
 pub between-at : {least most : ℕ} {vs : List ℕ} → Between least most vs → (i : ℕ) → getD vs i 0 ≤ most

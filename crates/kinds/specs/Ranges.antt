@@ -37,16 +37,6 @@ InRange (Stranded dot) t ls n base v p = isStrand dot (v ∷ []) ≡ true
 InRange (Word f) t ls n base v p = v ≡ 0
 InRange Colour t ls n base v p = v < suc colourLimit * suc colourLimit * suc colourLimit
 
--- the bytes of a name
-abbrev pub nameBytes : Kind → List ℕ → ℕ → ℕ → List ℕ
-nameBytes Name t v p = take v (drop p t)
-nameBytes (Number r) t v p = []
-nameBytes Count t v p = []
-nameBytes (Items r) t v p = []
-nameBytes (Stranded dot) t v p = []
-nameBytes (Word f) t v p = []
-nameBytes Colour t v p = []
-
 -- the numbers of a list
 abbrev pub listIn : Kind → List ℕ → ℕ → ℕ → List ℕ
 listIn Name ls base v = []

@@ -1,20 +1,17 @@
 -- Conversion to the other strand: twice restores; and it is how the pairs of a `-` chain count the query. Assumes nothing.
-use mathlib.Core.Path.{_≡_, refl, sym, ap, _∙_}
+use mathlib.Core.Path.{_≡_, refl, ap, _∙_}
 use mathlib.Core.Bool.{Bool, true, false, not, _&&_}
-use mathlib.Core.List.{List, [], _∷_, _++_, map, reverse, reverse-cons}
-use Prim.Native.Nat.{ℕ, zero, suc, _+_, _-_, _≤_, _<_}
+use Prim.Native.Nat.{ℕ, _-_, _≤_, _<_}
 use native.Mathlib.Omega.{arith}
 use lib.Dec.{leb, ltb}
 use borrow.Author.Tests.{lt-leb, le-leb, lt-ltb, le-ltb, not-true, not-false, leb-true, ltb-true}
 use Rattle.ledger.specs.declared.Reason.the-variants.{NumberOutOfRange, SpanDisagrees}
-use Rattle.ledger.specs.declared.Strand.the-variants.{Plus, Minus}
 use Rattle.ledger.specs.Limits.{largestPosition, inCoordinates}
 use Rattle.blocks.proofs.RuleLaws.{both}
 use Rattle.lift.specs.declared.Span.{Span}
 use Rattle.lift.specs.declared.SpanAnswer.{SpanAnswer}
 use Rattle.lift.specs.declared.SpanAnswer.the-variants.{Converted}
 use Rattle.lift.specs.Conversion.{notConverted, ifConverted, otherStrand, converted}
-use Rattle.lift.specs.Pairs.{Pair, forwardOn, blockPairs}
 
 abbrev inRange : ℕ → ℕ → ℕ → Bool
 inRange start end size = leb start largestPosition && (leb end largestPosition && leb size largestPosition)
@@ -75,35 +72,3 @@ converts-twice start end size s e =
     let a : size - (size - start) ≡ start = omega arith in
     let b : size - (size - end) ≡ end = omega arith in
     rw (w .is) (converts (size - end) (size - start) size (omega arith) (omega arith) (w .small) ∙ ap Converted (λ i. record { start = a i; end = b i }))
-
--- n bases from a on
-unfoldable pub basesOf : ℕ → ℕ → List ℕ
-basesOf a zero = []
-basesOf a (suc n) = a ∷ basesOf (suc a) n
-
-bases-last : (a n : ℕ) → basesOf a (suc n) ≡ basesOf a n ++ ((a + n) ∷ [])
-unfolding basesOf
-bases-last a zero = let z : a ≡ a + 0 = omega arith in ap (λ (m : ℕ). m ∷ []) z
-bases-last a (suc n) =
-    let z : suc a + n ≡ a + suc n = omega arith in
-    ap (λ (l : List ℕ). a ∷ l) (bases-last (suc a) n ∙ ap (λ (m : ℕ). basesOf (suc a) n ++ (m ∷ [])) z)
-
-reverse-last : (xs : List ℕ) (x : ℕ) → reverse (xs ++ (x ∷ [])) ≡ x ∷ reverse xs
-reverse-last [] x = refl
-reverse-last (y ∷ ys) x = reverse-cons y (ys ++ (x ∷ [])) ∙ ap (λ (l : List ℕ). l ++ (y ∷ [])) (reverse-last ys x) ∙ ap (λ (l : List ℕ). x ∷ l) (sym (reverse-cons y ys))
-
--- THE PAIRS AGREE WITH CONVERSION: the partners of a block's bases are the bases of its query span, and with `-` those of the converted span, from its end
-pub plus-partners : (size t q n : ℕ) → map (λ (x : Pair). x .query) (blockPairs (forwardOn Plus size) t q n) ≡ basesOf q n
-unfolding blockPairs basesOf
-plus-partners size t q zero = refl
-plus-partners size t q (suc n) = ap (λ (l : List ℕ). q ∷ l) (plus-partners size (suc t) (suc q) n)
-
-pub minus-partners : (size t q n : ℕ) → q + n ≤ size → map (λ (x : Pair). x .query) (blockPairs (forwardOn Minus size) t q n) ≡ reverse (basesOf (otherStrand q (q + n) size .start) n)
-unfolding blockPairs
-minus-partners size t q zero h = unfold basesOf in refl
-minus-partners size t q (suc n) h =
-    let a : size - (q + suc n) + n ≡ size - 1 - q = omega arith in
-    let b : size - (suc q + n) ≡ size - (q + suc n) = omega arith in
-    ap (λ (l : List ℕ). (size - 1 - q) ∷ l) (minus-partners size (suc t) (suc q) n (omega arith) ∙ ap (λ (m : ℕ). reverse (basesOf m n)) b)
-    ∙ sym (ap reverse (bases-last (size - (q + suc n)) n ∙ ap (λ (m : ℕ). basesOf (size - (q + suc n)) n ++ (m ∷ [])) a)
-    ∙ reverse-last (basesOf (size - (q + suc n)) n) (size - 1 - q))

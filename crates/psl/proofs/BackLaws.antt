@@ -24,9 +24,10 @@ use Rattle.psl.specs.Records.{pslSizes, pslQueries, pslTargets}
 use Rattle.psl.specs.Read.{roomCheck, pslCheck, pslRead}
 use Rattle.psl.specs.Rules.{PslLine, named, placed}
 use Rattle.psl.specs.Write.{writeCheck, pslWords, pslText}
-use Rattle.psl.proofs.LineLaws.{line-is}
+use Rattle.psl.proofs.LineLaws.{listed-sizes, listed-queries, listed-targets, line-is}
 use Rattle.psl.proofs.BackWordLaws.{on-renamed, MayWrite, may-write, wordValues, sizes-between, queries-between, targets-between, words-spell, words-worded}
 use Rattle.columns.specs.Names.{partOf}
+use Rattle.columns.proofs.Meant.{Meant, listsIn, meant-spells}
 use Rattle.columns.proofs.WordLaws.{part-bytes}
 
 -- what a record that may be written reads back as
@@ -85,13 +86,14 @@ module _ (r : Psl) (qName tName ts qs zs : List ℕ) (ok : MayWrite r qName tNam
   target-read = part-bytes s (wordAt s 0 13) ∙ text-word 13
 
   -- the text is a PSL line that says the record
-  line-read : length s ≤ textLimit → PslLine s (wordValues r qName tName) (placed s r)
+  line-read : length s ≤ textLimit → PslLine s (wordValues r qName tName) (listsIn pslColumns (wordsOf (lineOf s))) (placed s r) (pslTargets s) (pslQueries s) (pslSizes s)
   unfolding placed
   line-read short =
       let k = ok .rules in
       let onQuery = on-renamed (λ (a b : ℕ). Fills a b n qs zs) (r .strand) (named r qName tName .query) (partOf (wordAt s 0 9)) (k .queryBlocks) in
+      let words : Meant pslColumns 0 (wordsOf (lineOf s)) (wordValues r qName tName) = rw text-words (words-spell r qName tName ts qs zs ok) in
       record {
-        line = record { short = short; allowed = text-allowed; oneLine = text-line; count = text-count; spelt = rw text-words (words-spell r qName tName ts qs zs ok) };
+        line = record { short = short; allowed = text-allowed; oneLine = text-line; count = text-count; spelt = meant-spells words };
         matches = refl;
         misMatches = refl;
         repMatches = refl;
@@ -104,6 +106,9 @@ module _ (r : Psl) (qName tName ts qs zs : List ℕ) (ok : MayWrite r qName tNam
         query = record { name = refl; size = refl; start = refl; end = refl };
         target = record { name = refl; size = refl; start = refl; end = refl };
         blockCount = refl;
+        listedSizes = listed-sizes s text-count;
+        listedQueries = listed-queries s text-count;
+        listedTargets = listed-targets s text-count;
         querySpan = record { some = k .querySpan .some; within = k .querySpan .within };
         targetSpan = record { some = k .targetSpan .some; within = k .targetSpan .within };
         targetBlocks = rw (targets-read, sizes-read) (fills-take _ _ n ts zs (k .targetBlocks));
@@ -120,7 +125,7 @@ module _ (r : Psl) (qName tName ts qs zs : List ℕ) (ok : writeCheck r qName tN
   may = may-write r qName tName ts qs zs ok
 
   pub back-check : pslCheck text ≡ Accepted (placed text r)
-  back-check = line-is text (placed text r) (wordValues r qName tName) (line-read r qName tName ts qs zs may short)
+  back-check = line-is text (placed text r) _ _ _ _ _ (line-read r qName tName ts qs zs may short)
 
   pub back-query : partBytes text (placed text r .query .name) ≡ qName
   back-query = query-read r qName tName ts qs zs may

@@ -22,7 +22,7 @@ use Rattle.writing.specs.Digits.{digits}
 use Rattle.kinds.specs.declared.Range.the-variants.{Coordinate, Size}
 use Rattle.kinds.specs.declared.Kind.the-variants.{Number, Count, Stranded}
 use Rattle.kinds.proofs.BackLaws.{Written, written}
-use Rattle.columns.specs.Spells.{Spells}
+use Rattle.columns.proofs.Meant.{Meant}
 use Rattle.blocks.specs.Blocks.{blocksFill, allBetween, countFits, rowsOf, rowNumbersFit}
 use Rattle.blocks.proofs.RuleLaws.{between-of}
 use Rattle.psl.specs.declared.Side.{Side}
@@ -139,7 +139,7 @@ module _ (r : Psl) (qName tName ts qs zs : List ℕ) (ok : MayWrite r qName tNam
       (row-more (list-written Coordinate n (take n ts) (k .someBlock) (length-take-le n ts (k .targetRows)) targets-between)
       row-none))))))))))))))))))))
 
-  pub words-spell : Spells pslColumns 0 (pslWords r qName tName ts qs zs) (wordValues r qName tName)
+  pub words-spell : Meant pslColumns 0 (pslWords r qName tName ts qs zs) (wordValues r qName tName)
   words-spell = row-spells row
 
   pub words-worded : Worded (pslWords r qName tName ts qs zs)

@@ -26,10 +26,11 @@ use Rattle.columns.specs.declared.Columns.{Columns}
 use Rattle.columns.specs.declared.Columns.the-variants.{Next}
 use Rattle.columns.specs.declared.Columns.the-variants as columns
 use Rattle.columns.specs.Columns.{tableOf, columnsFrom, valuesFrom, listsFrom}
-use Rattle.columns.specs.Spells.{Spells, firsts}
+use Rattle.columns.specs.Spells.{firsts}
+use Rattle.columns.proofs.Meant.{Meant}
 use Rattle.columns.specs.Places.{kindAt, countBefore}
 use Rattle.columns.specs.OneLine.{lineRead, LineRead}
-use Rattle.columns.proofs.SpellsLaws.{columns-spell}
+use Rattle.columns.proofs.SpellsLaws.{columns-mean}
 use Rattle.columns.proofs.PlaceLaws.{spelt-at, value-first, values-length, lists-length, lists-at}
 use Rattle.columns.proofs.OneLineLaws.{line-found}
 use Rattle.blocks.specs.Blocks.{rowsOf}
@@ -71,8 +72,8 @@ module _ (s : List ℕ) (e : ℕ) (found : lineRead pslColumns s ≡ Next e) whe
   read : columnsFrom pslColumns 0 s 0 ≡ Next e
   read = line-found pslColumns s e found .read
 
-  spells : Spells pslColumns 0 (wordsOf (lineOf s)) (firsts vs)
-  spells = columns-spell pslColumns 0 s 0 e (line-found pslColumns s e found .count) read
+  spells : Meant pslColumns 0 (wordsOf (lineOf s)) (firsts vs)
+  spells = columns-mean pslColumns 0 s 0 e (line-found pslColumns s e found .count) read
 
   word : (k : ℕ) → getD (wordsOf (lineOf s)) k [] ≡ bytesOf s (wordAt s 0 k)
   word k = sym (word-bytes s 0 k)

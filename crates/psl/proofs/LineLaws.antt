@@ -7,7 +7,8 @@ use native.Mathlib.Omega.{arith}
 use lib.ListN.{length, getD}
 use Rattle.ledger.specs.Parts.{partAt}
 use Rattle.text.specs.declared.Check.the-variants.{Holds}
-use Rattle.text.specs.Words.{wordAt, bytesOf}
+use Rattle.text.specs.Words.{wordAt, wordCount, bytesOf}
+use Rattle.text.specs.Pieces.{lineOf, wordsOf}
 use Rattle.text.proofs.TextLaws.{both}
 use Rattle.text.proofs.CheckLaws.{require-holds}
 use Rattle.text.proofs.PieceLaws.{word-bytes}
@@ -24,7 +25,9 @@ use Rattle.columns.specs.Columns.{valuesFrom}
 use Rattle.columns.specs.Spells.{firsts}
 use Rattle.columns.specs.Places.{kindAt, countBefore}
 use Rattle.columns.specs.OneLine.{lineRead}
-use Rattle.columns.proofs.SpellsLaws.{columns-spell, place-is}
+use Rattle.columns.proofs.SpellsLaws.{columns-mean, place-is}
+use Rattle.kinds.proofs.SpeltAsLaws.{numbersIn}
+use Rattle.columns.proofs.Meant.{listsIn, spells-lists, list-at}
 use Rattle.columns.proofs.PlaceLaws.{spelt-at, value-first, value-second}
 use Rattle.columns.proofs.OneLineLaws.{line-found, one-line-of, LineIs, one-line-is}
 use Rattle.blocks.specs.Blocks.{blocksFill, spanFits}
@@ -129,7 +132,7 @@ module _ (s : List ℕ) (e : ℕ) (found : lineRead pslColumns s ≡ Next e) whe
     unfolding pslColumns
     value-spelt =
         let f = line-found pslColumns s e found in
-        let p = spelt-at (columns-spell pslColumns 0 s 0 e (f .count) (f .read)) k h in
+        let p = spelt-at (columns-mean pslColumns 0 s 0 e (f .count) (f .read)) k h in
         rw (word-bytes s 0 k, ← value-first (lineValues s) k) p
 
     -- and stands at place k
@@ -192,6 +195,29 @@ psl-same r q e f g h i =
     let z : _≡_ {A = Psl} (record { counts = r .counts; strand = r .strand; query = r .query; target = r .target; blockCount = r .blockCount }) q = rw (e, f, g, h, i) in
     z
 
+-- the lists of the block columns are those of their words
+module _ (s : List ℕ) (count : wordCount s 0 ≡ length pslColumns) where
+  word-count : length (wordsOf (lineOf s)) ≡ 21
+  unfolding wordCount pslColumns
+  word-count = count
+
+  module _ (k : ℕ) (h : k < 21) where
+    list-word : getD (listsIn pslColumns (wordsOf (lineOf s))) k [] ≡ numbersIn (getD pslColumns k Name) (bytesOf s (wordAt s 0 k))
+    unfolding pslColumns
+    list-word = list-at pslColumns (wordsOf (lineOf s)) k h (omega (arith, word-count)) ∙ ap (numbersIn (getD pslColumns k Name)) (sym (word-bytes s 0 k))
+
+  pub listed-sizes : pslSizes s ≡ getD (listsIn pslColumns (wordsOf (lineOf s))) 18 []
+  unfolding pslSizes pslColumns
+  listed-sizes = sym (list-word 18 (omega arith))
+
+  pub listed-queries : pslQueries s ≡ getD (listsIn pslColumns (wordsOf (lineOf s))) 19 []
+  unfolding pslQueries pslColumns
+  listed-queries = sym (list-word 19 (omega arith))
+
+  pub listed-targets : pslTargets s ≡ getD (listsIn pslColumns (wordsOf (lineOf s))) 20 []
+  unfolding pslTargets pslColumns
+  listed-targets = sym (list-word 20 (omega arith))
+
 -- an accepted line is a PSL line that says its record
 module _ (s : List ℕ) (r : Psl) (ok : pslCheck s ≡ Accepted r) where
   abbrev a : Accepts s r
@@ -228,12 +254,13 @@ module _ (s : List ℕ) (r : Psl) (ok : pslCheck s ≡ Accepted r) where
   unfolding pslColumns
   some-columns = omega arith
 
-  pub line-of : PslLine s (firsts (valuesFrom pslColumns 0 s 0)) r
+  pub line-of : PslLine s (firsts (valuesFrom pslColumns 0 s 0)) (listsIn pslColumns (wordsOf (lineOf s))) r (pslTargets s) (pslQueries s) (pslSizes s)
   unfolding pslRecord countsOf
   line-of =
       let i = a .is in
       let spans = spans-of r us (a .spans) in
       let rows = rows-of s r accepted-targets accepted-queries accepted-sizes (a .rows) in
+      let count = line-found pslColumns s (a .end) (a .read) .count in
       record {
         line = one-line-of pslColumns s (a .end) some-columns (a .read);
         matches = rw i (first-at 0);
@@ -248,6 +275,9 @@ module _ (s : List ℕ) (r : Psl) (ok : pslCheck s ≡ Accepted r) where
         query = rw i query-says;
         target = rw i target-says;
         blockCount = rw i (first-at 17);
+        listedSizes = listed-sizes s count;
+        listedQueries = listed-queries s count;
+        listedTargets = listed-targets s count;
         querySpan = spans .0;
         targetSpan = spans .1;
         targetBlocks = rows .targets;
@@ -256,9 +286,28 @@ module _ (s : List ℕ) (r : Psl) (ok : pslCheck s ≡ Accepted r) where
       }
 
 -- and a PSL line is accepted, with the record that it says
-module _ (s : List ℕ) (r : Psl) (vs : List ℕ) (line : PslLine s vs r) where
+module _ (s : List ℕ) (r : Psl) (vs : List ℕ) (ls : List (List ℕ)) (ts qs zs : List ℕ) (line : PslLine s vs ls r ts qs zs) where
   reads : LineIs pslColumns s vs
-  reads = one-line-is pslColumns s vs (line .line)
+  reads = one-line-is pslColumns s vs ls (line .line)
+
+  list-said : (k : ℕ) → getD ls k [] ≡ getD (listsIn pslColumns (wordsOf (lineOf s))) k []
+  list-said k = ap (λ (l : List (List ℕ)). getD l k []) (spells-lists (line .line .spelt))
+
+  pub line-sizes : zs ≡ pslSizes s
+  line-sizes = line .listedSizes ∙ list-said 18 ∙ sym (listed-sizes s (line .line .count))
+
+  pub line-queries : qs ≡ pslQueries s
+  line-queries = line .listedQueries ∙ list-said 19 ∙ sym (listed-queries s (line .line .count))
+
+  pub line-targets : ts ≡ pslTargets s
+  line-targets = line .listedTargets ∙ list-said 20 ∙ sym (listed-targets s (line .line .count))
+
+  rows-said : RowsHold s r
+  rows-said = record {
+    targets = rw (line-targets, line-sizes) at (line .targetBlocks);
+    queries = rw (line-queries, line-sizes) at (line .queryBlocks);
+    counts = rw (line-targets, line-queries, line-sizes) at (line .counts);
+  }
 
   value-at : (k : ℕ) → getD vs k 0 ≡ getD (lineValues s) (2 * k) 0
   value-at k = sym (ap (λ (l : List ℕ). getD l k 0) (reads .values)) ∙ value-first (lineValues s) k
@@ -291,8 +340,8 @@ module _ (s : List ℕ) (r : Psl) (vs : List ℕ) (line : PslLine s vs r) where
         read = reads .read;
         is = said;
         spans = spans-is r (lineValues s) (line .querySpan) (line .targetSpan);
-        rows = rows-is s r lt lq lz (record { targets = line .targetBlocks; queries = line .queryBlocks; counts = line .counts });
+        rows = rows-is s r lt lq lz rows-said;
       }
 
-pub line-is : (s : List ℕ) (r : Psl) (vs : List ℕ) → PslLine s vs r → pslCheck s ≡ Accepted r
-line-is s r vs line = accepts-is s r (line-accepts s r vs line)
+pub line-is : (s : List ℕ) (r : Psl) (vs : List ℕ) (ls : List (List ℕ)) (ts qs zs : List ℕ) → PslLine s vs ls r ts qs zs → pslCheck s ≡ Accepted r
+line-is s r vs ls ts qs zs line = accepts-is s r (line-accepts s r vs ls ts qs zs line)

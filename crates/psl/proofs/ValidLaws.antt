@@ -11,6 +11,7 @@ use Rattle.ledger.specs.declared.Strand.the-variants.{Dot}
 use Rattle.ledger.specs.Limits.{nameLimit, blockLimit, largestPosition}
 use Rattle.ledger.specs.Strands.{strandLetter}
 use Rattle.text.specs.Words.{wordAt, bytesOf}
+use Rattle.text.specs.Pieces.{lineOf, wordsOf}
 use Rattle.numbers.specs.declared.Spelt.the-variants.{Means}
 use Rattle.kinds.specs.declared.Range.{Range}
 use Rattle.kinds.specs.declared.Range.the-variants.{Coordinate, Size}
@@ -20,6 +21,7 @@ use Rattle.kinds.proofs.RangeLaws.{number-spelt, count-spelt, name-spelt}
 use Rattle.columns.specs.Spells.{firsts}
 use Rattle.columns.specs.Places.{kindAt, countBefore}
 use Rattle.columns.proofs.PlaceLaws.{value-first}
+use Rattle.columns.proofs.Meant.{listsIn}
 use Rattle.blocks.proofs.RuleLaws.{between-is, ranged-of}
 use Rattle.psl.specs.declared.Psl.{Psl}
 use Rattle.psl.specs.declared.PslAnswer.the-variants.{Accepted}
@@ -40,7 +42,7 @@ module _ (s : List ℕ) (r : Psl) (ok : pslCheck s ≡ Accepted r) where
   abbrev vs : List ℕ
   vs = firsts (lineValues s)
 
-  abbrev line : PslLine s vs r
+  abbrev line : PslLine s vs (listsIn pslColumns (wordsOf (lineOf s))) r (pslTargets s) (pslQueries s) (pslSizes s)
   line = line-of s r ok
 
   abbrev before : ℕ → ℕ

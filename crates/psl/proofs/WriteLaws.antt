@@ -24,8 +24,8 @@ use Rattle.kinds.proofs.SpellLaws.{part-stored}
 use Rattle.columns.specs.Columns.{tableOf}
 use Rattle.columns.specs.Lines.{lineText, fedLine}
 use Rattle.columns.specs.Names.{NamesPut, namesIn, lengthFits, allGraphic}
-use Rattle.columns.specs.Ranges.{wordsFrom}
-use Rattle.columns.proofs.BackLaws.{line-joins}
+use Rattle.columns.specs.Lines.{wordsFrom}
+use Rattle.columns.proofs.JoinLaws.{line-joins}
 use Rattle.columns.proofs.NameLaws.{names-put}
 use Rattle.columns.proofs.PlaceLaws.{sets-keep, sets-there}
 use Rattle.blocks.specs.Blocks.{rowsOf}

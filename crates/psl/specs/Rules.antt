@@ -1,7 +1,7 @@
 -- What a PSL line and a PSL record are: the rules of the UCSC page and of 01, one field for each, with no order of checks in them.
 use Prim.Native.Nat.{ℕ, _+_, _≤_, _<_}
 use mathlib.Core.Path.{_≡_}
-use mathlib.Core.List.{List}
+use mathlib.Core.List.{List, []}
 use lib.ListN.{length, take, getD}
 use Rattle.ledger.specs.declared.Part.{Part}
 use Rattle.ledger.specs.declared.Strand.the-variants.{Dot}
@@ -16,7 +16,6 @@ use Rattle.psl.specs.declared.Counts.{Counts}
 use Rattle.psl.specs.declared.Side.{Side}
 use Rattle.psl.specs.declared.Psl.{Psl}
 use Rattle.psl.specs.Table.{pslColumns}
-use Rattle.psl.specs.Records.{pslSizes, pslQueries, pslTargets}
 use Rattle.psl.specs.Rows.{firstOn, lastOn}
 use Rattle.columns.specs.Names.{partOf}
 
@@ -40,9 +39,9 @@ pub record CountRules (c : Counts) (ts qs zs : List ℕ) : Type 0 where
   pub targetGaps : gapCount ts zs ≡ c .tNumInsert
   pub targetBases : gapBases ts zs ≡ c .tBaseInsert
 
--- the text s is a PSL line whose words spell the values vs, one a column, and the record r is what it says
-pub record PslLine (s vs : List ℕ) (r : Psl) : Type 0 where
-  pub line : OneLine pslColumns s vs
+-- the text s is a PSL line whose words spell the values vs and the lists ls, one a column; the record r with the rows ts, qs, zs is what it says
+pub record PslLine (s vs : List ℕ) (ls : List (List ℕ)) (r : Psl) (ts qs zs : List ℕ) : Type 0 where
+  pub line : OneLine pslColumns s vs ls
   -- the record is what the words spell
   pub matches : r .counts .matches ≡ getD vs 0 0
   pub misMatches : r .counts .misMatches ≡ getD vs 1 0
@@ -56,14 +55,17 @@ pub record PslLine (s vs : List ℕ) (r : Psl) : Type 0 where
   pub query : SideSays s vs 9 (r .query)
   pub target : SideSays s vs 13 (r .target)
   pub blockCount : r .blockCount ≡ getD vs 17 0
+  pub listedSizes : zs ≡ getD ls 18 []
+  pub listedQueries : qs ≡ getD ls 19 []
+  pub listedTargets : ts ≡ getD ls 20 []
   -- the spans
   pub querySpan : SpanIn (r .query)
   pub targetSpan : SpanIn (r .target)
   -- the blocks, on each side in order from first start to last end; with `-` the query's count on the reversed query
-  pub targetBlocks : Fills (r .target .start) (r .target .end) (r .blockCount) (pslTargets s) (pslSizes s)
-  pub queryBlocks : Fills (firstOn (r .strand) (r .query)) (lastOn (r .strand) (r .query)) (r .blockCount) (pslQueries s) (pslSizes s)
+  pub targetBlocks : Fills (r .target .start) (r .target .end) (r .blockCount) ts zs
+  pub queryBlocks : Fills (firstOn (r .strand) (r .query)) (lastOn (r .strand) (r .query)) (r .blockCount) qs zs
   -- the house counts
-  pub counts : CountRules (r .counts) (pslTargets s) (pslQueries s) (pslSizes s)
+  pub counts : CountRules (r .counts) ts qs zs
 
 -- the numbers of a side in their ranges, and its name's length
 pub record SideRange (x : Side) : Type 0 where

@@ -1,7 +1,7 @@
 -- Demand 3 on the tally: after every list of regions its fields are the sums; and what a step does to any tally. Assumes nothing.
 use mathlib.Core.Path.{_≡_, refl, sym, ap, _∙_}
 use mathlib.Core.Bool.{Bool, true, false, not, _&&_}
-use mathlib.Core.List.{List, [], _∷_, _++_}
+use mathlib.Core.List.{List, [], _∷_}
 use Prim.Native.Nat.{ℕ, suc, _+_, _-_, _≤_, _<_}
 use native.Mathlib.Omega.{arith}
 use lib.Dec.{leb, eqb}
@@ -120,15 +120,6 @@ batch rs = sent-added rs zeroTally zero-good
       kept = none-plus (total keptOf (counted rs 0)) i;
       dropped = none-plus (total droppedOf (counted rs 0)) i;
     })
-
-sent-append : (xs ys : List Sent) (t : Tally) → sentThrough t (xs ++ ys) ≡ sentThrough (sentThrough t xs) ys
-unfolding sentThrough
-sent-append [] ys t = refl
-sent-append (x ∷ xs) ys t = sent-append xs ys (tallyStep t (x .chain) (x .rows) (x .start) (x .end) .tally)
-
--- after the first regions of a list the tally is their sums, and the rest goes on from there
-pub batch-after : (xs ys : List Sent) → (sentThrough zeroTally xs ≡ sums xs) × (sentThrough zeroTally (xs ++ ys) ≡ sentThrough (sums xs) ys)
-batch-after xs ys = (batch xs, sent-append xs ys zeroTally ∙ ap (λ (t : Tally). sentThrough t ys) (batch xs))
 
 -- ---- what a refusal does to a tally, good or bad
 carried-refused : (size : ℕ) (ps : List Pair) (a e : ℕ) (x : Refusal) → carried size ps a e ≡ Refused x → (x .reason ≡ NoPair) × (kept ps a e ≡ 0)

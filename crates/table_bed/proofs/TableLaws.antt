@@ -3,7 +3,6 @@ use mathlib.Core.Path.{_≡_, sym, ap, _∙_}
 use mathlib.Core.List.{List, _++_}
 use Prim.Native.Nat.{ℕ, _≤_}
 use lib.ListN.{length, take, drop}
-use borrow.Author.Tests.{le-leb}
 use Rattle.ledger.specs.Limits.{textLimit}
 use Rattle.ledger.specs.declared.Row.{Row}
 use Rattle.ledger.specs.declared.Refusal.{Refusal}
@@ -15,7 +14,6 @@ use Rattle.bed.specs.declared.Bed.{Bed}
 use Rattle.bed.specs.declared.BedAnswer.{BedAnswer}
 use Rattle.bed.specs.declared.BedAnswer.the-variants.{Accepted, Refused}
 use Rattle.bed.specs.Records.{bedTargets, bedQueries, bedSizes, bedRows}
-use Rattle.bed.specs.Read.{roomCheck, bedCheck, bedRead}
 use Rattle.bed.specs.Tests.{bedValid}
 use Rattle.bed.specs.Write.{writeCheck, bedText, recordCheck}
 use Rattle.bed.specs.Rules.{placed}
@@ -23,14 +21,6 @@ use Rattle.bed.proofs.ValidLaws.{accepted-valid}
 use Rattle.bed.proofs.BackLaws.{back-read, back-targets, back-queries, back-sizes}
 use Rattle.table_bed.specs.Rows.{tableAfter, RowsRead}
 use Rattle.table_bed.proofs.RowLaws.{bed-reads, checkSeen}
-
--- A TEXT THAT IS ACCEPTED, and rows enough: the record is the text's, its rows stand at the table's front, and the others are as they were
-pub read-rows : (s : List ℕ) (r : Bed) (before after : List Row) (x : BedAnswer) → bedCheck s ≡ Accepted r → r .blockCount ≤ length before → RowsRead s before after x
-    → (x ≡ Accepted r) × (after ≡ bedRows s r ++ drop (r .blockCount) before)
-unfolding bedRead roomCheck
-read-rows s r before after x ok room h =
-    let e : x ≡ Accepted r = h .is ∙ rw (ok, le-leb (r .blockCount) (length before) room) in
-    (e, h .rows ∙ ap (λ (y : BedAnswer). tableAfter y s before) e)
 
 -- A REFUSAL leaves the table
 pub refused-rows : (s : List ℕ) (y : Refusal) (before after : List Row) → RowsRead s before after (Refused y) → after ≡ before

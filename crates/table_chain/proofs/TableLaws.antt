@@ -3,7 +3,6 @@ use mathlib.Core.Path.{_≡_, sym, ap, _∙_}
 use mathlib.Core.List.{List, _++_}
 use Prim.Native.Nat.{ℕ, _≤_}
 use lib.ListN.{length, take, drop}
-use borrow.Author.Tests.{le-leb}
 use Rattle.ledger.specs.Limits.{textLimit}
 use Rattle.ledger.specs.declared.Row.{Row}
 use Rattle.ledger.specs.declared.Refusal.{Refusal}
@@ -15,7 +14,6 @@ use Rattle.chain.specs.declared.Chain.{Chain}
 use Rattle.chain.specs.declared.ChainAnswer.{ChainAnswer}
 use Rattle.chain.specs.declared.ChainAnswer.the-variants.{Accepted, Refused}
 use Rattle.chain.specs.Records.{chainTargets, chainQueries, chainSizes, chainRows}
-use Rattle.chain.specs.Read.{roomCheck, chainCheck, chainRead}
 use Rattle.chain.specs.Tests.{chainValid}
 use Rattle.chain.specs.Write.{writeCheck, chainText, recordCheck}
 use Rattle.chain.specs.Rules.{placed}
@@ -23,14 +21,6 @@ use Rattle.chain.proofs.ValidLaws.{accepted-valid}
 use Rattle.chain.proofs.BackLaws.{back-read, back-targets, back-queries, back-sizes}
 use Rattle.table_chain.specs.Rows.{tableAfter, RowsRead}
 use Rattle.table_chain.proofs.RowLaws.{chain-reads, checkSeen}
-
--- A TEXT THAT IS ACCEPTED, and rows enough: the record is the text's, its rows stand at the table's front, and the others are as they were
-pub read-rows : (s : List ℕ) (r : Chain) (before after : List Row) (x : ChainAnswer) → chainCheck s ≡ Accepted r → r .blockCount ≤ length before → RowsRead s before after x
-    → (x ≡ Accepted r) × (after ≡ chainRows s r ++ drop (r .blockCount) before)
-unfolding chainRead roomCheck
-read-rows s r before after x ok room h =
-    let e : x ≡ Accepted r = h .is ∙ rw (ok, le-leb (r .blockCount) (length before) room) in
-    (e, h .rows ∙ ap (λ (y : ChainAnswer). tableAfter y s before) e)
 
 -- A REFUSAL leaves the table
 pub refused-rows : (s : List ℕ) (y : Refusal) (before after : List Row) → RowsRead s before after (Refused y) → after ≡ before

@@ -3,7 +3,6 @@ use mathlib.Core.Path.{_≡_, sym, ap, _∙_}
 use mathlib.Core.List.{List, _++_}
 use Prim.Native.Nat.{ℕ, _≤_}
 use lib.ListN.{length, take, drop}
-use borrow.Author.Tests.{le-leb}
 use Rattle.ledger.specs.Limits.{textLimit}
 use Rattle.ledger.specs.declared.Row.{Row}
 use Rattle.ledger.specs.declared.Refusal.{Refusal}
@@ -15,7 +14,6 @@ use Rattle.psl.specs.declared.Psl.{Psl}
 use Rattle.psl.specs.declared.PslAnswer.{PslAnswer}
 use Rattle.psl.specs.declared.PslAnswer.the-variants.{Accepted, Refused}
 use Rattle.psl.specs.Records.{pslTargets, pslQueries, pslSizes, pslRows}
-use Rattle.psl.specs.Read.{roomCheck, pslCheck, pslRead}
 use Rattle.psl.specs.Tests.{pslValid}
 use Rattle.psl.specs.Write.{writeCheck, pslText, recordCheck}
 use Rattle.psl.specs.Rules.{placed}
@@ -23,14 +21,6 @@ use Rattle.psl.proofs.ValidLaws.{accepted-valid}
 use Rattle.psl.proofs.BackLaws.{back-read, back-targets, back-queries, back-sizes}
 use Rattle.table_psl.specs.Rows.{tableAfter, RowsRead}
 use Rattle.table_psl.proofs.RowLaws.{psl-reads, checkSeen}
-
--- A TEXT THAT IS ACCEPTED, and rows enough: the record is the text's, its rows stand at the table's front, and the others are as they were
-pub read-rows : (s : List ℕ) (r : Psl) (before after : List Row) (x : PslAnswer) → pslCheck s ≡ Accepted r → r .blockCount ≤ length before → RowsRead s before after x
-    → (x ≡ Accepted r) × (after ≡ pslRows s ++ drop (r .blockCount) before)
-unfolding pslRead roomCheck
-read-rows s r before after x ok room h =
-    let e : x ≡ Accepted r = h .is ∙ rw (ok, le-leb (r .blockCount) (length before) room) in
-    (e, h .rows ∙ ap (λ (y : PslAnswer). tableAfter y s before) e)
 
 -- A REFUSAL leaves the table
 pub refused-rows : (s : List ℕ) (y : Refusal) (before after : List Row) → RowsRead s before after (Refused y) → after ≡ before

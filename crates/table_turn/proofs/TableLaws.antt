@@ -7,10 +7,9 @@ use lib.Seq.{take-append-seam}
 use Rattle.ledger.specs.declared.Row.{Row}
 use Rattle.ledger.specs.declared.Refusal.{Refusal}
 use Rattle.chain.specs.declared.Chain.{Chain}
-use Rattle.lift.specs.Accepted.{used}
 use Rattle.turn.specs.declared.TurnAnswer.the-variants.{Turned, Refused}
 use Rattle.turn.specs.Turns.{turnedRows}
-use Rattle.turn.proofs.TurnLaws.{counted, Turnable, turnable, Turning, turning-of, twice-of}
+use Rattle.turn.proofs.TurnLaws.{counted, Turnable, turnable, Turning, turning-of}
 use Rattle.table_turn.specs.Turns.{RowsTurned}
 
 -- A REFUSAL leaves the table
@@ -30,10 +29,3 @@ module _ (c : Chain) (rows before after : List Row) (d : Chain) (h : RowsTurned 
   -- A TURN THAT IS NOT REFUSED: the record and the table that it leaves are accepted, hold the pairs with the sides exchanged, lift back, and turn back
   pub rows-turning : Turning c rows d after
   rows-turning = turning-of c rows (length before) d made after begins
-
--- TURNED AND TURNED BACK: the record, and the rows that it counts
-pub rows-twice : (c : Chain) (rows before after : List Row) (d : Chain) (before′ after′ : List Row) (e : Chain) → RowsTurned c rows before after (Turned d)
-    → RowsTurned d after before′ after′ (Turned e) → (e ≡ c) × (used c after′ ≡ used c rows)
-rows-twice c rows before after d before′ after′ e h k =
-    twice-of c rows (length before) d (made c rows before after d h) after (begins c rows before after d h) (length before′) e (made d after before′ after′ e k) after′
-    (begins d after before′ after′ e k)

@@ -64,24 +64,6 @@ word-next s line i w w′ e e′ = rw (add-one, ← e) e′
 pub word-there : (s : List ℕ) (line i k : ℕ) (w : Extent) → w ≡ wordAt s line i → i ≤ k → k ≤ i → w ≡ wordAt s line k
 word-there s line i k w e h l = let q : k ≡ i = omega arith in rw q e
 
--- a scan within a line ends within it
-abbrev Within : Class → List ℕ → Type 0
-Within c s = run Line s ≡ run c s + run Line (drop (run c s) s)
-
-within-step : (c : Class) (x : ℕ) (s : List ℕ) (t : Bool) → isIn c x ≡ t → (isIn c x ≡ true → isIn Line x ≡ true) → Within c s → Within c (x ∷ s)
-unfolding run
-within-step c x s true e f h = rw (f e, e) (omega arith)
-within-step c x s false e f h = rw e (omega arith)
-
-run-within : (c : Class) → ((b : ℕ) → isIn c b ≡ true → isIn Line b ≡ true) → (s : List ℕ) → Within c s
-unfolding run
-run-within c f [] = refl
-run-within c f (x ∷ s) = within-step c x s (isIn c x) refl (f x) (run-within c f s)
-
-line-within : (c : Class) → ((b : ℕ) → isIn c b ≡ true → isIn Line b ≡ true) → (s : List ℕ) (i : ℕ) → lineEnd s (endOf c s i) ≡ lineEnd s i
-unfolding lineEnd endOf
-line-within c f s i = omega (arith, run-within c f (drop i s), ap (run Line) (drop-drop (run c (drop i s)) i s))
-
 pub blank-line : (b : ℕ) → isIn Blank b ≡ true → isIn Line b ≡ true
 blank-line b h = go (eqb b 10) refl
   where
@@ -100,14 +82,6 @@ pub word-ends : (s : List ℕ) (line k : ℕ) → wordAt s line k .end ≡ endOf
 unfolding wordAt nextWord
 word-ends s line zero = refl
 word-ends s line (suc k) = refl
-
--- every word of a line, there or not, has the line's end for its own
-pub same-line : (s : List ℕ) (line k : ℕ) → lineEnd s (wordAt s line k .start) ≡ lineEnd s line
-unfolding wordAt nextWord
-same-line s line zero = line-within Blank blank-line s line
-same-line s line (suc k) =
-    line-within Blank blank-line s (wordAt s line k .end)
-    ∙ ap (lineEnd s) (word-ends s line k) ∙ line-within Word word-line s (wordAt s line k .start) ∙ same-line s line k
 
 -- where a scan has ended, none of the class follows
 pub run-ended : (c : Class) (s : List ℕ) → run c (drop (run c s) s) ≡ 0
@@ -135,13 +109,6 @@ pub no-line : (s : List ℕ) → run Blank s ≡ 0 → run Word s ≡ 0 → run 
 unfolding run
 no-line [] h l = refl
 no-line (x ∷ s) h l = feed (eqb x 32) (eqb x 9) (eqb x 10) (run Blank s) (run Word s) (run Line s) h l
-
--- a word that is not there stands at the line's end
-pub missing : (s : List ℕ) (line k : ℕ) → wordAt s line k .start ≡ wordAt s line k .end → wordAt s line k .start ≡ lineEnd s line
-unfolding lineEnd endOf
-missing s line k h =
-    let w : run Word (drop (wordAt s line k .start) s) ≡ 0 = omega (arith, word-ends s line k) in
-    omega (arith, no-line (drop (wordAt s line k .start) s) (starts-unblank s line k) w, same-line s line k)
 
 -- an empty word is its own next word, and so every later one
 empty-next : (s : List ℕ) (w : Extent) → run Blank (drop (w .start) s) ≡ 0 → w .end ≡ endOf Word s (w .start) → w .start ≡ w .end → nextWord s (w .end) ≡ w

@@ -72,10 +72,6 @@ pub lines-none : linesOf [] ≡ []
 unfolding linesOf piecesOf
 lines-none = refl
 
-pub lines-feed : linesOf (10 ∷ []) ≡ [] ∷ []
-unfolding linesOf piecesOf
-lines-feed = refl
-
 -- past the end there is nothing, one place later or not
 rest-same : (s : List ℕ) (e : ℕ) → length s ≤ e → drop (e + 1) s ≡ drop e s
 rest-same s e h = let k : length s ≤ e + 1 = omega arith in drop-of-length-le s k ∙ sym (drop-of-length-le s h)
@@ -231,14 +227,6 @@ word-is s line (suc k) l =
     by-word s line _
     (λ h. rw (word-later s line k) (word-is s (nextWord s line .end) k (omega (arith, count-more s line h))))
     (λ h. absurd (omega (arith, count-none s line h)))
-
-pub word-past : (s : List ℕ) (line k : ℕ) → wordCount s line ≤ k → wordAt s line k .start ≡ wordAt s line k .end
-unfolding wordAt
-word-past s line zero l = by-word s line _ (λ h. absurd (omega (arith, count-more s line h))) (λ h. h)
-word-past s line (suc k) l =
-    by-word s line _
-    (λ h. rw (word-later s line k) (word-past s (nextWord s line .end) k (omega (arith, count-more s line h))))
-    (λ h. rw (none-later s line (suc k) h) h)
 
 -- counting words one after the other
 same-word : (s : List ℕ) (a : ℕ) → run Blank (drop a s) ≡ 0 → nextWord s a ≡ record { start = a; end = endOf Word s a }

@@ -1,5 +1,5 @@
 -- Demand 3 on turned chains: the same pairs with the sides exchanged, accepted again, lifted back, and restored by turning twice. Assumes nothing.
-use mathlib.Core.Path.{_≡_, refl, sym, ap, _∙_}
+use mathlib.Core.Path.{_≡_, refl, ap, _∙_}
 use mathlib.Core.Bool.{Bool, true, false}
 use mathlib.Core.List.{List, [], _∷_, map, reverse, reverse-cons, List·Memᴰ, List·Memᴰ·head, List·Memᴰ·tail, List·Memᴰ·not-nil, List·Memᴰ·cases-cons, Memᴰ·append-left, Memᴰ·append-right}
 use mathlib.Core.Logic.{⊎-elim}
@@ -256,20 +256,7 @@ module _ (c : Chain) (rows : List Row) (room : ℕ) (d : Chain) (m : Turnable c 
         restoredRows = rows-twice c rows (m .ok) rows′ wide here;
       })
 
-  -- and such a turn of that
-  pub twice-of : (room′ : ℕ) (e : Chain) → Turnable d rows′ room′ e → (rows″ : List Row) → take (d .blockCount) rows″ ≡ turnedRows d rows′ → (e ≡ c) × (used c rows″ ≡ used c rows)
-  twice-of room′ e k rows″ back =
-      let count : c .blockCount ≡ d .blockCount = unfold turned in ap (λ (y : Chain). y .blockCount) (sym (turning-of .restored)) in
-      (k .is ∙ turning-of .restored, ap (λ (n : ℕ). take n rows″) count ∙ back ∙ turning-of .restoredRows)
-
 -- ALL OF THEM for every turn that is not refused
 pub turning : (c : Chain) (rows : List Row) (ts qs zs ts′ qs′ zs′ : List ℕ) (d : Chain) → TurnedInto c rows ts qs zs ts′ qs′ zs′ (Turned d) → Turning c rows d (tableOf ts′ qs′ zs′)
 turning c rows ts qs zs ts′ qs′ zs′ d w =
     turning-of c rows (rowsOf ts qs zs) d (turnable c rows (rowsOf ts qs zs) d (w .is)) (tableOf ts′ qs′ zs′) (turned-stored c rows ts qs zs ts′ qs′ zs′ d w)
-
--- TURNED AND TURNED BACK: the record, and the rows that it counts
-pub turning-twice : (c : Chain) (rows : List Row) (ts qs zs ts′ qs′ zs′ us vs ws us′ vs′ ws′ : List ℕ) (d e : Chain) → TurnedInto c rows ts qs zs ts′ qs′ zs′ (Turned d)
-    → TurnedInto d (tableOf ts′ qs′ zs′) us vs ws us′ vs′ ws′ (Turned e) → (e ≡ c) × (used c (tableOf us′ vs′ ws′) ≡ used c rows)
-turning-twice c rows ts qs zs ts′ qs′ zs′ us vs ws us′ vs′ ws′ d e w x =
-    twice-of c rows (rowsOf ts qs zs) d (turnable c rows (rowsOf ts qs zs) d (w .is)) (tableOf ts′ qs′ zs′) (turned-stored c rows ts qs zs ts′ qs′ zs′ d w)
-    (rowsOf us vs ws) e (turnable d (tableOf ts′ qs′ zs′) (rowsOf us vs ws) e (x .is)) (tableOf us′ vs′ ws′) (turned-stored d (tableOf ts′ qs′ zs′) us vs ws us′ vs′ ws′ e x)

@@ -1,0 +1,193 @@
+-- Every refusal of a text stands in it: its place is no more than the text's length. Assumes nothing.
+use mathlib.Core.Path.{_≡_}
+use mathlib.Core.Bool.{Bool, true, false, not, _&&_}
+use mathlib.Core.List.{List, [], _∷_}
+use Prim.Native.Nat.{ℕ, zero, suc, _+_, _-_, _*_, _≤_, zero-le}
+use native.Mathlib.Omega.{arith}
+use native.Mathlib.Nat.{le-refl}
+use lib.ListN.{length, drop, getD, length-take, length-drop}
+use lib.Dec.{leb, eqb}
+use borrow.Author.Tests.{lt-ltb, le-ltb}
+use Rattle.ledger.specs.declared.Reason.{Reason}
+use Rattle.ledger.specs.declared.Reason.the-variants.{TextTooLong, WrongCount, ByteNotAllowed, NumberMisspelt, NumberOutOfRange, BadWord, ListLength}
+use Rattle.ledger.specs.Limits.{textLimit, nameLimit, colourLimit}
+use Rattle.text.specs.declared.Class.{Class}
+use Rattle.text.specs.declared.Class.the-variants.{Blank, Word, Line, Allowed, Item}
+use Rattle.text.specs.declared.Check.{Check}
+use Rattle.text.specs.declared.Check.the-variants.{Holds}
+use Rattle.text.specs.declared.Check.the-variants as check
+use Rattle.text.specs.declared.Extent.{Extent}
+use Rattle.text.specs.Scan.{isIn, endOf}
+use Rattle.text.specs.Pieces.{pickPieces, onto, piecesOf}
+use Rattle.text.specs.Words.{lineEnd, nextLine, nextWord, wordAt, bytesOf}
+use Rattle.text.specs.Checks.{require, textCheck, wordsCheck, lastLineCheck}
+use Rattle.text.proofs.CheckLaws.{run-most}
+use Rattle.text.proofs.Laws.{either}
+use Rattle.numbers.specs.declared.Spelt.{Spelt}
+use Rattle.numbers.specs.declared.Spelt.the-variants.{Means, Faulty}
+use Rattle.numbers.specs.Spelling.{faultIn}
+use Rattle.numbers.specs.Spelling as spelling
+use Rattle.numbers.specs.Numbers.{wellSpelt, value, numberOf}
+use Rattle.numbers.specs.Lists.{itemsOf, orItem, testItems, openEnd, thenCount, listEnd, listOf}
+use Rattle.kinds.specs.declared.Kind.{Kind}
+use Rattle.kinds.specs.declared.Kind.the-variants.{Name, Number, Count, Items, Stranded, Colour}
+use Rattle.kinds.specs.declared.Kind.the-variants as kind
+use Rattle.kinds.specs.Kinds.{countAfter, fixedText, isStrand, wholeOf, nameOf, strandOf, fixedOf, colourOf, spelt, sameBytes}
+use Rattle.columns.specs.declared.Columns.{Columns}
+use Rattle.columns.specs.declared.Columns.the-variants.{Next}
+use Rattle.columns.specs.declared.Columns.the-variants as columns
+use Rattle.columns.specs.Columns.{fieldOf, fieldFrom, thenColumns, columnsFrom, thenNumbers, valuesFrom}
+use Rattle.columns.specs.OneLine.{countCheck, thenLine, thenLast, lineRead}
+use Rattle.demands.proofs.LengthLaws.{spread}
+
+-- ---- the words of a text stand in it
+module _ (s : List ℕ) where
+  scan-in : (c : Class) (i : ℕ) → i ≤ length s → endOf c s i ≤ length s
+  unfolding endOf
+  scan-in c i h = omega (arith, run-most c (drop i s), length-drop i s)
+
+  pub next-in : (i : ℕ) → i ≤ length s → (nextWord s i .start ≤ length s) × (nextWord s i .end ≤ length s)
+  unfolding nextWord
+  next-in i h = (scan-in Blank i h, scan-in Word (endOf Blank s i) (scan-in Blank i h))
+
+  pub word-in : (line k : ℕ) → line ≤ length s → (wordAt s line k .start ≤ length s) × (wordAt s line k .end ≤ length s)
+  unfolding wordAt
+  word-in line zero h = next-in line h
+  word-in line (suc k) h = next-in (wordAt s line k .end) (word-in line k h .1)
+
+  pub line-in : (line : ℕ) → line ≤ length s → nextLine s line ≤ length s
+  unfolding nextLine lineEnd
+  line-in line h = either (length s) (endOf Line s line) _
+      (λ k. rw (le-ltb (endOf Line s line) (length s) k) (scan-in Line line h))
+      (λ k. rw (lt-ltb (endOf Line s line) (length s) k) (omega arith))
+
+-- ---- where a check is refused
+abbrev pub placeOf : Check → ℕ
+placeOf Holds = 0
+placeOf (check.Refused x) = x .place
+
+pub required : (n : ℕ) (t : Bool) (why : Reason) (at : ℕ) (rest : Check) → at ≤ n → placeOf rest ≤ n → placeOf (require t why at rest) ≤ n
+required n true why at rest h k = k
+required n false why at rest h k = h
+
+module _ (s : List ℕ) where
+  pub text-place : placeOf (textCheck s) ≤ length s
+  unfolding textCheck
+  text-place =
+      required (length s) (leb (length s) textLimit) TextTooLong 0 _ zero-le
+      (required (length s) (leb (length s) (endOf Allowed s 0)) ByteNotAllowed (endOf Allowed s 0) Holds (scan-in s Allowed 0 zero-le) zero-le)
+
+  pub words-place : (line n most : ℕ) (good : Bool) → line ≤ length s → placeOf (wordsCheck s line n most good) ≤ length s
+  unfolding wordsCheck lineEnd
+  words-place line n most good h = required (length s) (leb n most) WrongCount _ _ (word-in s line most h .0) (required (length s) good WrongCount _ Holds (scan-in s Line line h) zero-le)
+
+  pub last-place : (line : ℕ) → line ≤ length s → placeOf (lastLineCheck s line) ≤ length s
+  unfolding lastLineCheck
+  last-place line h = required (length s) (leb (length s) (nextLine s line)) WrongCount _ Holds (next-in s (nextLine s line) (line-in s line h) .0) zero-le
+
+-- ---- a fault in a word stands in it
+fault-require : (n : ℕ) (t : Bool) (why : Reason) (at : ℕ) (rest : Spelt) → at ≤ n → faultIn rest ≤ n → faultIn (spelling.require t why at rest) ≤ n
+fault-require n true why at rest h k = k
+fault-require n false why at rest h k = h
+
+number-near : (least most n : ℕ) (w : List ℕ) → faultIn (numberOf least most w) ≤ n
+unfolding numberOf
+number-near least most n w = fault-require n (wellSpelt w) NumberMisspelt 0 _ zero-le (fault-require n (leb least (value w) && leb (value w) most) NumberOutOfRange 0 (Means (value w)) zero-le zero-le)
+
+whole-near : (n : ℕ) (t : Bool) (v : ℕ) → faultIn (wholeOf t v) ≤ n
+whole-near n t v = fault-require n t BadWord 0 (Means v) zero-le zero-le
+
+-- pieces with a byte more for each are one byte longer at most
+pieces-spread : (c : Class) (w : List ℕ) → spread (piecesOf c w) ≤ length w + 1
+unfolding piecesOf
+pieces-spread c [] = omega arith
+pieces-spread c (b ∷ w) = go (isIn c b) (piecesOf c w) (pieces-spread c w)
+  where
+    go : (t : Bool) (xs : List (List ℕ)) → spread xs ≤ length w + 1 → spread (pickPieces t (onto b xs) ([] ∷ xs)) ≤ suc (length w) + 1
+    go true [] h = omega arith
+    go true (x ∷ xs) h = omega arith
+    go false xs h = omega arith
+
+items-near : (least most n at : ℕ) (xs : List (List ℕ)) → faultIn (testItems least most n at xs) ≤ at + spread xs - 1
+unfolding testItems
+items-near least most n at [] = zero-le
+items-near least most n at (x ∷ xs) = go (numberOf least most x) (items-near least most (n + 1) (at + length x + 1) xs)
+  where
+    go : (y : Spelt) → faultIn (testItems least most (n + 1) (at + length x + 1) xs) ≤ at + length x + 1 + spread xs - 1
+        → faultIn (orItem y at (testItems least most (n + 1) (at + length x + 1) xs)) ≤ at + (length x + 1 + spread xs) - 1
+    go (Means v) h = omega arith
+    go (Faulty why p) h = omega arith
+
+list-near : (least most : ℕ) (comma : Bool) (n : ℕ) (w : List ℕ) → faultIn (listOf least most comma n w) ≤ length w
+unfolding listOf listEnd itemsOf
+list-near least most comma n w = go (testItems least most 0 0 (piecesOf Item w)) (omega (arith, items-near least most 0 0 (piecesOf Item w), pieces-spread Item w))
+  where
+    go : (x : Spelt) → faultIn x ≤ length w
+        → faultIn (thenCount x (λ m. spelling.require (not (openEnd comma w)) NumberMisspelt (length w) (spelling.require (eqb m n) ListLength 0 (Means m)))) ≤ length w
+    go (Means m) h = fault-require (length w) (not (openEnd comma w)) NumberMisspelt (length w) (spelling.require (eqb m n) ListLength 0 (Means m)) (le-refl (length w)) (fault-require (length w) (eqb m n) ListLength 0 (Means m) zero-le zero-le)
+    go (Faulty why at) h = h
+
+colour-near : (w : List ℕ) → faultIn (colourOf w) ≤ length w
+unfolding colourOf
+colour-near w = go (sameBytes w (48 ∷ [])) (listOf 0 colourLimit false 3 w) _ (list-near 0 colourLimit false 3 w)
+  where
+    go : (t : Bool) (x : Spelt) (v : ℕ) → faultIn x ≤ length w → faultIn (spelling.pickSpelt t (Means 0) (thenCount x (λ m. Means v))) ≤ length w
+    go true x v h = zero-le
+    go false (Means m) v h = zero-le
+    go false (Faulty why at) v h = h
+
+spelt-near : (k : Kind) (n : ℕ) (w : List ℕ) → faultIn (spelt k n w) ≤ length w
+unfolding spelt nameOf strandOf fixedOf
+spelt-near Name n w = whole-near (length w) (leb 1 (length w) && leb (length w) nameLimit) (length w)
+spelt-near (Number r) n w = number-near _ _ (length w) w
+spelt-near Count n w = number-near _ _ (length w) w
+spelt-near (Items r) n w = list-near _ _ true n w
+spelt-near (Stranded dot) n w = whole-near (length w) (isStrand dot w) (getD w 0 0)
+spelt-near (kind.Word f) n w = whole-near (length w) (sameBytes w (fixedText f)) 0
+spelt-near Colour n w = colour-near w
+
+-- ---- the columns of a line
+abbrev pub columnsPlace : Columns → ℕ
+columnsPlace (Next e) = 0
+columnsPlace (columns.Refused x) = x .place
+
+module _ (s : List ℕ) where
+  fault-in : (w : Extent) (off : ℕ) → w .start ≤ length s → off ≤ length (bytesOf s w) → w .start + off ≤ length s
+  unfolding bytesOf
+  fault-in w off h k = omega (arith, length-take (w .end - w .start) (drop (w .start) s), length-drop (w .start) s)
+
+  pub columns-place : (cs : List Kind) (n at : ℕ) → at ≤ length s → columnsPlace (columnsFrom cs n s at) ≤ length s
+  unfolding columnsFrom fieldFrom
+  columns-place [] n at h = zero-le
+  columns-place (k ∷ ks) n at h =
+      go (spelt k n (bytesOf s (nextWord s at))) (spelt-near k n (bytesOf s (nextWord s at))) (λ v. columns-place ks (countAfter k v n) (nextWord s at .end) (next-in s at h .1))
+    where
+      go : (x : Spelt) → faultIn x ≤ length (bytesOf s (nextWord s at)) → ((v : ℕ) → columnsPlace (columnsFrom ks (countAfter k v n) s (nextWord s at .end)) ≤ length s)
+          → columnsPlace (thenColumns (fieldOf x (nextWord s at)) (λ v w. columnsFrom ks (countAfter k v n) s (w .end))) ≤ length s
+      go (Means v) l f = f v
+      go (Faulty why off) l f = fault-in (nextWord s at) off (next-in s at h .0) l
+
+  -- the places that the columns hold
+  pub values-place : (cs : List Kind) (n at i : ℕ) → at ≤ length s → getD (valuesFrom cs n s at) (2 * i + 1) 0 ≤ length s
+  unfolding valuesFrom fieldFrom
+  values-place [] n at i h = zero-le
+  values-place (k ∷ ks) n at i h = go (spelt k n (bytesOf s (nextWord s at))) i (λ v j. values-place ks (countAfter k v n) (nextWord s at .end) j (next-in s at h .1))
+    where
+      go : (x : Spelt) (i : ℕ) → ((v j : ℕ) → getD (valuesFrom ks (countAfter k v n) s (nextWord s at .end)) (2 * j + 1) 0 ≤ length s)
+          → getD (thenNumbers (fieldOf x (nextWord s at)) (λ v w. v ∷ w .start ∷ valuesFrom ks (countAfter k v n) s (w .end))) (2 * i + 1) 0 ≤ length s
+      go (Means v) zero f = next-in s at h .0
+      go (Means v) (suc i) f = let e : 2 * suc i + 1 ≡ suc (suc (2 * i + 1)) = omega arith in rw e (f v i)
+      go (Faulty why off) i f = zero-le
+
+  -- a text of one line
+  pub line-place : (cs : List Kind) → columnsPlace (lineRead cs s) ≤ length s
+  unfolding lineRead countCheck
+  line-place cs = then-line (textCheck s) _ (text-place s) (then-line (wordsCheck s 0 _ _ _) _ (words-place s 0 _ _ _ zero-le) (then-last (columnsFrom cs 0 s 0) (columns-place cs 0 0 zero-le)))
+    where
+      then-line : (c : Check) (rest : Columns) → placeOf c ≤ length s → columnsPlace rest ≤ length s → columnsPlace (thenLine c rest) ≤ length s
+      then-line Holds rest h k = k
+      then-line (check.Refused x) rest h k = h
+
+      then-last : (x : Columns) → columnsPlace x ≤ length s → columnsPlace (thenLast x (lastLineCheck s 0)) ≤ length s
+      then-last (Next e) h = then-line (lastLineCheck s 0) (Next e) (last-place s 0 zero-le) zero-le
+      then-last (columns.Refused y) h = h
