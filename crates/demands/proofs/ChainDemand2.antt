@@ -44,7 +44,7 @@ use Rattle.table_chain.proofs.RowLaws.{chain-reads}
 use Rattle.table_chain.specs.Rows.{RowsRead}
 use Rattle.table_chain.proofs.TableLaws.{left-valid, back-rows}
 use Rattle.demands.proofs.NameLaws.{part-shows, name-word, name-handed}
-use Rattle.demands.proofs.RowLaws.{read-count, front-rows, self-rows, holds-if, breach-if, room-written}
+use Rattle.demands.proofs.RowLaws.{read-count, front-rows, self-rows, holds-if, breach-if, room-written, room-short}
 use Rattle.demands.proofs.LengthLaws.{chain-short}
 use Rattle.columns.proofs.WordLaws.{graphic-all}
 
@@ -193,6 +193,7 @@ chain-demand2 = record {
   leftValid = left;
   keepsLimit = short;
   written = λ r ns table before after x ok w h. is-written r ns table ok before after x w h;
+  noBuffer = λ r ns table before after x ok w h. w .is ∙ writes-as r ns table ok (length before) ∙ room-short (text r ns table ok) (length before) (short r ns table ok) h;
   readsBack = λ r ns table before after x ok h room.
       let k = back-rows r (ns .first) (ns .second) table (may r ns table ok) (short r ns table ok) before after x room h in
       record {

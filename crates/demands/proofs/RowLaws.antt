@@ -2,12 +2,12 @@
 use mathlib.Core.Path.{_≡_, refl, sym, ap, _∙_}
 use mathlib.Core.Bool.{Bool, true, false}
 use mathlib.Core.List.{List, [], _∷_, _++_, append-nil}
-use Prim.Native.Nat.{ℕ, _≤_}
+use Prim.Native.Nat.{ℕ, _≤_, _<_}
 use native.Mathlib.Omega.{arith}
 use lib.ListN.{length, drop, drop-of-length-le}
-use borrow.Author.Tests.{le-leb}
+use borrow.Author.Tests.{le-leb, lt-leb}
 use Rattle.ledger.specs.Limits.{textLimit, blockLimit}
-use Rattle.ledger.specs.declared.Reason.the-variants.{BlockRules}
+use Rattle.ledger.specs.declared.Reason.the-variants.{BlockRules, NoRoom}
 use Rattle.ledger.specs.declared.Refusal.{Refusal}
 use Rattle.ledger.specs.declared.Row.{Row}
 use Rattle.blocks.specs.Rows.{tableOf, targetsOf, queriesOf, sizesOf}
@@ -16,6 +16,7 @@ use Rattle.text.specs.declared.Check.the-variants.{Holds}
 use Rattle.text.specs.declared.Check.the-variants as check
 use Rattle.text.specs.Checks.{require}
 use Rattle.writing.specs.declared.Writing.the-variants.{Written}
+use Rattle.writing.specs.declared.Writing.the-variants as writing
 use Rattle.writing.specs.Answers.{roomAnswer}
 use Rattle.rows.proofs.ReaderLaws.{Reads}
 
@@ -67,6 +68,10 @@ breach-if false x e = cc
 pub room-written : (text : List ℕ) (room : ℕ) → length text ≤ textLimit → length text ≤ room → roomAnswer (length text) room ≡ Written (length text)
 unfolding roomAnswer
 room-written text room short h = rw (le-leb (length text) textLimit short, le-leb (length text) room h)
+
+pub room-short : (text : List ℕ) (room : ℕ) → length text ≤ textLimit → room < length text → roomAnswer (length text) room ≡ writing.Refused (record { reason = NoRoom; place = 0 })
+unfolding roomAnswer
+room-short text room short h = rw (le-leb (length text) textLimit short, lt-leb (length text) room h)
 
 -- the rows of a text, read into a table that holds just them
 pub self-rows : (rows said : List Row) (n : ℕ) → rows ≡ said → length said ≡ n → rows ≡ said ++ drop n rows

@@ -13,6 +13,7 @@ use Rattle.text.specs.declared.Check.the-variants.{Holds}
 use Rattle.text.specs.declared.Check.the-variants as check
 use Rattle.writing.specs.declared.Writing.{Writing}
 use Rattle.writing.specs.declared.Writing.the-variants.{Written}
+use Rattle.writing.specs.declared.Writing.the-variants as writing
 use Rattle.demands.specs.Formats.{Names, Format}
 
 -- the text obeys and spells the record with some rows, and there is room for them
@@ -49,6 +50,9 @@ pub record Demand2 (f : Format) : Type 0 where
   pub keepsLimit : (r : f .Record) (ns : Names) (table : List Row) → f .Valid r ns table → length (f .text r ns table) ≤ textLimit
   pub written : (r : f .Record) (ns : Names) (table : List Row) (before after : List ℕ) (x : Writing) → f .Valid r ns table → f .Writes r ns table before after x
       → length (f .text r ns table) ≤ length before → (x ≡ Written (length (f .text r ns table))) × (after ≡ f .text r ns table ++ drop (length (f .text r ns table)) before)
+  -- too little room is 11
+  pub noBuffer : (r : f .Record) (ns : Names) (table : List Row) (before after : List ℕ) (x : Writing) → f .Valid r ns table → f .Writes r ns table before after x
+      → length before < length (f .text r ns table) → x ≡ writing.Refused (record { reason = NoRoom; place = 0 })
   -- and that text reads back as the same record
   pub readsBack : (r : f .Record) (ns : Names) (table before after : List Row) (x : f .Answer) → f .Valid r ns table → f .Reads (f .text r ns table) before after x
       → f .blocks r ≤ length before → ReadBack f r ns table (f .text r ns table) before after x
