@@ -144,14 +144,3 @@ rules-is r ts qs zs b =
     let sums = sums-is n (take n qs) (take n zs) lq lz (sums-take n qs zs (b .sums)) in
     let rows : rowsFit r (take n ts) (take n qs) (take n zs) ≡ true = and-i _ _ one (and-i _ _ blocks sums) in
     and-i _ _ counts (and-i _ _ (and-i _ _ chrom name) (and-i _ _ strand (and-i _ _ fields (and-i _ _ numbers (and-i _ _ spans rows)))))
-
--- THE TEST SEES ONLY THE ROWS IN USE
-module _ (r : Bed) (ts ts′ qs qs′ zs zs′ : List ℕ) where
-  pub valid-used : r .blockCount ≤ length ts → r .blockCount ≤ length ts′ → r .blockCount ≤ length qs → r .blockCount ≤ length qs′ → r .blockCount ≤ length zs → r .blockCount ≤ length zs′
-      → take (r .blockCount) ts ≡ take (r .blockCount) ts′ → take (r .blockCount) qs ≡ take (r .blockCount) qs′ → take (r .blockCount) zs ≡ take (r .blockCount) zs′
-      → bedValid r ts qs zs ≡ bedValid r ts′ qs′ zs′
-  unfolding bedValid
-  valid-used lt lt′ lq lq′ lz lz′ et eq ez =
-      let h : r .blockCount ≤ rowsOf ts qs zs = omega arith in
-      let h′ : r .blockCount ≤ rowsOf ts′ qs′ zs′ = omega arith in
-      rw (le-leb (r .blockCount) (rowsOf ts qs zs) h, le-leb (r .blockCount) (rowsOf ts′ qs′ zs′) h′, et, eq, ez)

@@ -182,9 +182,6 @@ module _ (r : Chain) (tName qName ts qs zs : List ℕ) (ok : MayWrite r tName qN
   abbrev words : List (List ℕ)
   words = headWords r tName qName
 
-  abbrev named-rules : ChainRules (named r tName qName) ts qs zs
-  named-rules = ok .rules
-
   head-row : Row chainColumns 0 words (wordValues r tName qName)
   unfolding chainColumns headWords
   head-row =

@@ -52,10 +52,10 @@ digits-on acc (b ∷ w) h a l =
     ∙ append-assoc (digits acc) (b ∷ []) w
 
 -- a well-spelt word is the digits of its value
-spelt-digits : (w : List ℕ) → wellSpelt w ≡ true → value w < Most → w ≡ digits (value w)
+well-spelt-digits : (w : List ℕ) → wellSpelt w ≡ true → value w < Most → w ≡ digits (value w)
 unfolding wellSpelt endOf value valueFrom run
-spelt-digits [] h l = absurd (let z : _≡_ {A = Bool} false true = h in let o : _≡_ {A = ℕ} 0 1 = cc in omega arith)
-spelt-digits (b ∷ w) h l =
+well-spelt-digits [] h l = absurd (let z : _≡_ {A = Bool} false true = h in let o : _≡_ {A = ℕ} 0 1 = cc in omega arith)
+well-spelt-digits (b ∷ w) h l =
     let s = both (not (eqb (suc (length w)) 0)) _ h in
     let p = both (eqb (0 + run Digit (b ∷ w)) (suc (length w))) _ (s .1) in
     let e : run Digit (b ∷ w) ≡ suc (length w) = omega (arith, eqb-true (0 + run Digit (b ∷ w)) (suc (length w)) (p .0)) in
@@ -90,7 +90,7 @@ number-as least most v w l h = go (wellSpelt w) (leb least (value w)) (leb (valu
         let e : value w ≡ v = cc in
         let low = leb-true least (value w) q in
         let high = leb-true (value w) most r in
-        record { low = omega arith; high = omega arith; word = spelt-digits w p (omega arith) ∙ ap digits e }
+        record { low = omega arith; high = omega arith; word = well-spelt-digits w p (omega arith) ∙ ap digits e }
 
 pub as-number : (least most v : ℕ) (w : List ℕ) → most < Most → Decimal least most w v → numberOf least most w ≡ Means v
 as-number least most v w l d = rw (d .word) (number-digits least most v (d .low) (d .high) (omega (arith, d .high)))

@@ -5,7 +5,7 @@ use mathlib.Core.List.{List, [], _∷_, _++_}
 use Prim.Native.Nat.{ℕ, zero, suc, _+_, _-_, _≤_, _<_}
 use native.Mathlib.Omega.{arith}
 use lib.ListN.{length, take, drop, getD, drop-of-length-le}
-use lib.Seq.{drop-cons, drop-drop, take-append-seam, take-length}
+use lib.Seq.{drop-cons, drop-drop, take-append-seam}
 use lib.Dec.{eqb}
 use Rattle.text.specs.declared.Class.{Class}
 use Rattle.text.specs.declared.Class.the-variants.{Blank, Word, Line, Graphic}
@@ -296,10 +296,6 @@ unfolding lineOf run
 line-fed line rest h =
     let r : run Line (line ++ (10 ∷ rest)) ≡ length line = omega (arith, run-append Line line (10 ∷ rest) h) in
     rw r (take-append-seam line (10 ∷ rest))
-
-pub line-last : (line : List ℕ) → All Line line → lineOf line ≡ line
-unfolding lineOf
-line-last line h = rw h (take-length line)
 
 pub line-joined : (sep : ℕ) (ws : List (List ℕ)) (rest : List ℕ) → isIn Blank sep ≡ true → Worded ws → lineOf (joined sep ws ++ (10 ∷ rest)) ≡ joined sep ws
 line-joined sep ws rest b s = line-fed (joined sep ws) rest (joined-in-line sep ws b s)
