@@ -1,17 +1,13 @@
 -- Demand 2 holds of BED. Assumes nothing.
-use mathlib.Core.Path.{_≡_, refl, sym, ap, _∙_}
-use mathlib.Core.Logic.{_↔_}
+use mathlib.Core.Path.{_≡_, refl, sym, _∙_}
 use mathlib.Core.Bool.{true}
-use mathlib.Core.List.{List, [], _++_}
+use mathlib.Core.List.{List, []}
 use Prim.Native.Nat.{ℕ, _≤_}
 use native.Mathlib.Omega.{arith}
-use lib.ListN.{length, take, drop, getD, List·getD-eq-default}
+use lib.ListN.{length, take, getD, List·getD-eq-default}
 use Rattle.ledger.specs.declared.Row.{Row}
-use Rattle.ledger.specs.declared.Refusal.{Refusal}
-use Rattle.ledger.specs.declared.Reason.the-variants.{BlockRules}
 use Rattle.ledger.specs.Limits.{textLimit}
 use Rattle.text.specs.declared.Check.the-variants.{Holds}
-use Rattle.text.specs.declared.Check.the-variants as check
 use Rattle.text.specs.declared.Class.the-variants.{Graphic}
 use Rattle.text.specs.Scan.{run}
 use Rattle.text.specs.Words.{wordCount}
@@ -21,20 +17,18 @@ use Rattle.columns.specs.Spells.{firsts}
 use Rattle.text.specs.Pieces.{lineOf, wordsOf}
 use Rattle.text.specs.Parts.{partIn, partBytes}
 use Rattle.text.proofs.TextLaws.{All, both}
-use Rattle.writing.specs.declared.Writing.{Writing}
-use Rattle.writing.specs.declared.Writing.the-variants.{Written}
-use Rattle.writing.specs.Answers.{roomAnswer, leftAfter}
+use Rattle.writing.specs.Answers.{roomAnswer}
 use Rattle.blocks.specs.Blocks.{countFits, rowsOf, rowNumbersFit}
 use Rattle.blocks.specs.Blocks.{shifted, sumsFrom}
 use Rattle.blocks.specs.Rows.{tableOf, targetsOf, queriesOf, sizesOf}
 use Rattle.bed.specs.declared.Bed.{Bed}
 use Rattle.bed.specs.declared.BedAnswer.the-variants.{Accepted}
 use Rattle.bed.specs.Records.{bedTargets, bedQueries, bedSizes, bedStarts, bedRows}
-use Rattle.bed.specs.Read.{bedCheck}
+use Rattle.bed.specs.Read.{bedRead, bedCheck}
 use Rattle.bed.specs.Table.{bedColumns}
 use Rattle.bed.specs.Rules.{BedLine, BedRules, named, placed}
 use Rattle.bed.specs.Tests.{namesFit, strandFits, fieldsFit, spansFit, rowsFit, bedValid}
-use Rattle.bed.specs.Write.{namesShow, writeCheck, bedText, bedWrite, BedWrote, recordCheck}
+use Rattle.bed.specs.Write.{namesShow, writeCheck, bedText, bedWrite, recordCheck}
 use Rattle.bed.proofs.LineLaws.{line-sizes, line-starts, line-of, line-is}
 use Rattle.bed.proofs.RuleLaws.{rules-of, rules-is}
 use Rattle.bed.proofs.BackLaws.{back-chrom, back-name}
@@ -43,11 +37,13 @@ use Rattle.demands.specs.Demand2.{Demand2}
 use Rattle.demands.specs.Bed.{bedNames, bedHanded, bedNameWords, BedSpells, BedValid, SameBed, bed}
 use Rattle.rows.proofs.ReaderLaws.{read-of}
 use Rattle.table_bed.proofs.RowLaws.{bed-reads}
-use Rattle.table_bed.specs.Rows.{RowsRead}
+use Rattle.table_bed.specs.Rows.{RowsRead, rowsFilled}
 use Rattle.table_bed.proofs.TableLaws.{left-valid, back-rows}
 use Rattle.columns.proofs.Meant.{listsIn}
 use Rattle.demands.proofs.NameLaws.{part-shows, name-word, name-handed, handed-in}
-use Rattle.demands.proofs.RowLaws.{read-count, front-rows, self-rows, holds-if, breach-if, room-written, room-short}
+use Rattle.demands.proofs.RowLaws.{holds-if}
+use Rattle.demands.proofs.FormatLaws.{Shown, demand2-of}
+use Rattle.demands.proofs.FormatLaws as demands
 use Rattle.demands.proofs.LengthLaws.{bed-short}
 use Rattle.columns.proofs.WordLaws.{graphic-all}
 
@@ -99,15 +95,6 @@ left s before after r h =
       nameShows = name-shows s r ok .0;
     }
 
--- ---- the record checker holds exactly of what obeys the rules
-checked-exactly : (r : Bed) (ts qs zs : List ℕ) → (recordCheck r ts qs zs ≡ Holds) ↔ BedRules r ts qs zs
-unfolding recordCheck
-checked-exactly r ts qs zs = (λ h. rules-of r ts qs zs (holds-if _ h), λ k. rw (rules-is r ts qs zs k))
-
-checked-breach : (r : Bed) (ts qs zs : List ℕ) (x : Refusal) → recordCheck r ts qs zs ≡ check.Refused x → x ≡ record { reason = BlockRules; place = 0 }
-unfolding recordCheck
-checked-breach r ts qs zs x h = breach-if (bedValid r ts qs zs) x h
-
 -- ---- a valid record: written, and read back
 module _ (r : Bed) (ns : Names) (table : List Row) (ok : BedValid r ns table) where
   abbrev ts : List ℕ
@@ -131,12 +118,6 @@ module _ (r : Bed) (ns : Names) (table : List Row) (ok : BedValid r ns table) wh
   pub writes-as : (room : ℕ) → bedWrite r (ns .first) (ns .second) ts qs zs room ≡ roomAnswer (length text) room
   unfolding bedWrite
   writes-as room = rw may
-
-  is-written : (before after : List ℕ) (x : Writing) → BedWrote r (ns .first) (ns .second) ts qs zs before after x → length text ≤ length before
-      → (x ≡ Written (length text)) × (after ≡ text ++ drop (length text) before)
-  is-written before after x w h =
-      let e : x ≡ Written (length text) = w .is ∙ writes-as (length before) ∙ room-written text (length before) short h in
-      (e, w .left ∙ ap (λ (y : Writing). leftAfter y text before) e)
 
   same : SameBed r (placed text r)
   unfolding placed
@@ -185,43 +166,41 @@ names-said s r rows p =
     let e = c .1 in
     (λ i. record { first = a i; second = d i }, λ i. record { first = b i; second = e i })
 
--- the record with just these rows is valid
-pub spelt-valid : (s : List ℕ) (r : Bed) (rows : List Row) → BedSpells s r rows → BedValid r (bedNames s r) rows
-spelt-valid s r rows p =
-    let ok = spelt-check s r rows p in
-    let n = read-count (bed-reads s) r ok in
-    let fits : r .blockCount ≤ length rows = omega (arith, ap length (spelt-rows s r rows p)) in
-    left s rows rows r (record { is = sym (bed-reads s .roomy r (length rows) ok fits); rows = self-rows rows (bedRows s r) (r .blockCount) (spelt-rows s r rows p) n })
-
--- DEMAND 2 OF BED
-pub bed-demand2 : Demand2 bed
-unfolding bed
-bed-demand2 = record {
-  acceptedExactly = λ s before after x h r. (
-    λ e. let k = read-of (bed-reads s) (length before) r (sym (h .is) ∙ e) in record { rows = bedRows s r; spells = spelt-of s r (k .0); fits = k .1 },
-    λ p. h .is ∙ bed-reads s .roomy r (length before) (spelt-check s r (p .rows) (p .spells)) (p .fits),
-  );
-  noRoom = λ s before after x h r rows p l. h .is ∙ bed-reads s .short r (length before) (spelt-check s r rows p) l;
-  oneRecord = λ s r r′ rows rows′ p q.
-      let w : Accepted r ≡ Accepted r′ = sym (spelt-check s r rows p) ∙ spelt-check s r′ rows′ q in
-      let e : r ≡ r′ = cc in
-      (e, spelt-rows s r rows p ∙ ap (λ (a : Bed). bedRows s a) e ∙ sym (spelt-rows s r′ rows′ q));
-  allBlocks = λ s r rows p. ap length (spelt-rows s r rows p) ∙ read-count (bed-reads s) r (spelt-check s r rows p);
-  justRows = λ s before after r rows h p. front-rows rows _ before after (r .blockCount) (spelt-rows s r rows p) (read-count (bed-reads s) r (spelt-check s r rows p)) (h .rows);
+-- WHAT BED SHOWS
+pub bed-shown : Shown bed
+unfolding bed recordCheck
+bed-shown = record {
+  filled = rowsFilled;
+  checkText = bedCheck;
+  read = bedRead;
+  targets = bedTargets;
+  queries = bedQueries;
+  sizes = bedSizes;
+  reads = bed-reads;
+  answered = λ s before after x h. h .is;
+  stored = λ s before after r h. h .rows;
+  promised = λ s before after r e h. record { is = e; rows = h };
+  speltCheck = spelt-check;
+  speltRows = spelt-rows;
+  speltOf = spelt-of;
+  one = λ r r′ e. cc;
   namesSaid = names-said;
-  checkedExactly = λ r table. checked-exactly r _ _ _;
-  breached = λ r table. checked-breach r _ _ _;
   leftValid = left;
-  keepsLimit = short;
-  written = λ r ns table before after x ok w h. is-written r ns table ok before after x w h;
-  noBuffer = λ r ns table before after x ok w h. w .is ∙ writes-as r ns table ok (length before) ∙ room-short (text r ns table ok) (length before) (short r ns table ok) h;
+  valid = λ r table. bedValid r (targetsOf table) (queriesOf table) (sizesOf table);
+  checks = λ r table. refl;
+  rulesOf = λ r table h. rules-of r _ _ _ h;
+  rulesIs = λ r table h. rules-is r _ _ _ h;
+  short = short;
+  writes = λ r ns table before after x ok w. (w .is ∙ writes-as r ns table ok (length before), w .left);
   readsBack = λ r ns table before after x ok h room.
       let k = back-rows r (ns .first) (ns .second) table (may r ns table ok) (short r ns table ok) before after x room h in
-      record {
-        record′ = placed (text r ns table ok) r;
-        isRead = k .0;
-        sameNumbers = same r ns table ok;
-        sameNames = same-names r ns table ok;
-        sameRows = k .1;
-      };
+      record { record′ = placed (text r ns table ok) r; isRead = k .0; sameNumbers = same r ns table ok; sameNames = same-names r ns table ok; sameRows = k .1 };
 }
+
+pub bed-demand2 : Demand2 bed
+bed-demand2 = demand2-of bed bed-shown
+
+-- the record that a text spells is valid, with just the rows that it spells
+pub spelt-valid : (s : List ℕ) (r : Bed) (rows : List Row) → BedSpells s r rows → BedValid r (bedNames s r) rows
+unfolding bed
+spelt-valid = demands.spelt-valid bed bed-shown

@@ -50,7 +50,7 @@ chain-refusals = record {
 }
 
 -- the numbers of the ledger
-thirteen : (why : Reason) → (1 ≤ reasonNumber why) × (reasonNumber why ≤ 13)
+pub thirteen : (why : Reason) → (1 ≤ reasonNumber why) × (reasonNumber why ≤ 13)
 thirteen TextTooLong = (omega arith, omega arith)
 thirteen WrongCount = (omega arith, omega arith)
 thirteen ByteNotAllowed = (omega arith, omega arith)

@@ -1,7 +1,7 @@
 -- Demands 2 and 3 hold at the entries. Assumes nothing.
 use mathlib.Core.Path.{_≡_, refl, sym, ap, _∙_}
 use mathlib.Core.List.{List, [], _∷_}
-use Prim.Native.Nat.{ℕ, _+_, _≤_}
+use Prim.Native.Nat.{ℕ, _+_, _%_, _≤_}
 use native.Mathlib.Omega.{arith}
 use lib.ListN.{length, length-append}
 use lib.Seq.{take-all}
@@ -42,8 +42,8 @@ use Rattle.table_psl.proofs.RowLaws.{psl-reads}
 use Rattle.table_chain.proofs.RowLaws.{chain-reads}
 use Rattle.binary.specs.Bytes.{wordsBytes}
 use Rattle.binary.proofs.BackLaws.{rows-length}
-use Rattle.answers.specs.Answers.{mostTold, told, Outcome, gives, refuses, Answered, roomed, numbered, recordNumbers, recorded}
-use Rattle.answers.proofs.AnswerLaws.{told-itself}
+use Rattle.answers.specs.Answers.{mostTold, told, Outcome, gives, refuses, refusalCode, Answered, roomed, numbered, recordNumbers, recorded}
+use Rattle.answers.proofs.AnswerLaws.{told-itself, refused-reason}
 use Rattle.desk.specs.Records.{bedNumbers, pslNumbers, chainNumbers}
 use Rattle.desk.specs.Entries.{byKind, written, nameBytes, bedWritten, pslWritten, chainWritten, checkedBed, checkedPsl, checkedChain, checked, parsedBed, parsedPsl, parsedChain, parsed, formattedBed, formattedPsl, formattedChain, formatted, inWord, ofPosition, positionLifted, ofRegion, regionLifted, turnWritten, turnedText, tallied}
 use Rattle.demands.specs.Formats.{Names, Format}
@@ -51,13 +51,14 @@ use Rattle.demands.specs.Demand2.{Demand2}
 use Rattle.demands.specs.Bed.{BedSpells, bedNames, bed}
 use Rattle.demands.specs.Psl.{PslSpells, pslNames, psl}
 use Rattle.demands.specs.Chain.{ChainSpells, chainNames, ChainValid, chain}
-use Rattle.demands.specs.Desk.{RefusedBy, Gives, GivenRoom, Refuses, AtDesk, PositionTold, RegionTold, turnedIn, ChainsAtDesk, Desk}
+use Rattle.demands.specs.Desk.{RefusedBy, Gives, GivenRoom, Refuses, SpellsOne, AtDesk, PositionTold, RegionTold, turnedIn, ChainsAtDesk, Desk}
 use Rattle.demands.proofs.RowLaws.{read-flat, refused-of}
 use Rattle.demands.proofs.TextPlaceLaws.{bed-in, bed-long, psl-in, psl-long, chain-in, chain-long}
 use Rattle.demands.proofs.BedDemand2 as ofBed
 use Rattle.demands.proofs.PslDemand2 as ofPsl
 use Rattle.demands.proofs.ChainDemand2 as ofChain
 use Rattle.demands.proofs.RefusalLaws.{position-at, region-at}
+use Rattle.demands.proofs.Demand1Laws.{thirteen}
 use Rattle.demands.proofs.CallLaws.{tally-told}
 use Rattle.demands.proofs.Demand3Laws.{spelled-accepted}
 
@@ -95,6 +96,14 @@ record Entries (f : Format) : Type 0 where
   valid : (s : List ℕ) (r : f .Record) (rows : List Row) → f .Spells s r rows → f .Valid r (f .names s r) rows
   refusedAs : (s : List ℕ) (x : Refusal) → Refuses f s x → (checked (f .kind) s ≡ refuses x) × ((room : ℕ) → parsed (f .kind) s room ≡ refuses x) × ((room : ℕ) → formatted (f .kind) s room ≡ refuses x)
   lowPlace : (s : List ℕ) (x : Refusal) → Refuses f s x → x .place ≤ textLimit
+  decided : (s : List ℕ) (P : Type 0) → (SpellsOne f s → P)
+      → ((x : Refusal) → checked (f .kind) s ≡ refuses x → ((room : ℕ) → parsed (f .kind) s room ≡ refuses x) → ((room : ℕ) → formatted (f .kind) s room ≡ refuses x) → P) → P
+
+-- what a refusal answers is no count
+no-count : (x : Refusal) (a : ℕ) → a ≡ refusalCode x → a % 16 ≡ 0 → ⊥
+no-count x a e z =
+    let n : a % 16 ≡ reasonNumber (x .reason) = ap (λ (k : ℕ). k % 16) e ∙ refused-reason x in
+    omega (arith, thirteen (x .reason) .0)
 
 module _ (f : Format) (d : Demand2 f) (e : Entries f) where
   all-numbers : (s : List ℕ) (r : f .Record) (rows : List Row) → f .Spells s r rows → length (recordNumbers (f .numbers r) rows) ≤ mostTold
@@ -112,6 +121,9 @@ module _ (f : Format) (d : Demand2 f) (e : Entries f) where
     parses = parses;
     formats = λ s r rows p b b′ a h. text-given b b′ a (length s) (f .text r (f .names s r) rows) (omega (arith, e .shortText s r rows p)) (d .keepsLimit r (f .names s r) rows (e .valid s r rows p))
         (rw (e .formattedAs s r rows p (length b)) at h);
+    checkOnly = λ s a h z. e .decided s _ (λ y. y) (λ x c p g. absurd (no-count x a (h ∙ ap (λ (o : Outcome). o .answer) c) z));
+    parseOnly = λ s b b′ a h z. e .decided s _ (λ y. y) (λ x c p g. absurd (no-count x a (h .is ∙ ap (λ (o : Outcome). o .answer) (p (length b))) z));
+    formatOnly = λ s b b′ a h z. e .decided s _ (λ y. y) (λ x c p g. absurd (no-count x a (h .is ∙ ap (λ (o : Outcome). o .answer) (g (length b))) z));
     checkRefused = λ s x w a h.
         h ∙ ap (λ (o : Outcome). o .answer) (e .refusedAs s x w .0) ∙ ap (λ (n : ℕ). n + reasonNumber (x .reason)) (sym (told-itself (x .place) (omega (arith, e .lowPlace s x w))));
     parseRefused = λ s x w b b′ a h. refused-by b b′ a x (omega (arith, e .lowPlace s x w)) (rw (e .refusedAs s x w .1 (length b)) at h);
@@ -159,6 +171,7 @@ bed-entries = record {
       let k = refused-of (bed-reads s) (length (w .before)) x (w .wide) (w .reads .is) in
       let q : x .place ≤ length s = rw k at (bed-in s) in
       either (length s) textLimit _ (λ h. omega arith) (λ h. let z : x .place ≡ 0 = rw k at (bed-long s h) in omega arith);
+  decided = λ s P f g. bed-reads s .cases _ P (λ r e. f (record { one = r; rows = _; spells = ofBed.spelt-of s r e })) (λ x e. g x (rw e) (λ room. rw e) (λ room. rw e));
 }
 
 -- ---- PSL
@@ -192,6 +205,7 @@ psl-entries = record {
       let k = refused-of (psl-reads s) (length (w .before)) x (w .wide) (w .reads .is) in
       let q : x .place ≤ length s = rw k at (psl-in s) in
       either (length s) textLimit _ (λ h. omega arith) (λ h. let z : x .place ≡ 0 = rw k at (psl-long s h) in omega arith);
+  decided = λ s P f g. psl-reads s .cases _ P (λ r e. f (record { one = r; rows = _; spells = ofPsl.spelt-of s r e })) (λ x e. g x (rw e) (λ room. rw e) (λ room. rw e));
 }
 
 -- ---- chains: a record with names that stand in the text, whichever side they are on
@@ -262,9 +276,14 @@ chain-entries = record {
       let k = refused-of (chain-reads s) (length (w .before)) x (w .wide) (w .reads .is) in
       let q : x .place ≤ length s = rw k at (chain-in s) in
       either (length s) textLimit _ (λ h. omega arith) (λ h. let z : x .place ≡ 0 = rw k at (chain-long s h) in omega arith);
+  decided = λ s P f g. chain-reads s .cases _ P (λ r e. f (record { one = r; rows = _; spells = ofChain.spelt-of s r e })) (λ x e. g x (rw e) (λ room. rw e) (λ room. rw e));
 }
 
 -- ---- lifts and turns of a chain's text
+spelt-or : (s : List ℕ) (P : Type 0) → (SpellsOne chain s → P) → ((x : Refusal) → chainCheck s ≡ chainAnswer.Refused x → P) → P
+unfolding chain
+spelt-or s P f g = chain-reads s .cases (chainCheck s) P (λ r e. f (record { one = r; rows = _; spells = ofChain.spelt-of s r e })) g
+
 position-told : (y : PositionAnswer) (end : ℕ) (b b′ : List ℕ) (a : ℕ) → end ≤ mostTold → ((x : Refusal) → y ≡ position.Refused x → x .place ≡ 0) → Answered (ofPosition y end (length b)) b b′ a → PositionTold y end b b′ a
 position-told (position.Lifted q d) end b b′ a h f k = numbers-given b b′ a end (q ∷ inWord d ∷ []) h (omega arith) k
 position-told (position.Refused x) end b b′ a h f k = refused-by b b′ a x (omega (arith, f x refl)) k
@@ -286,6 +305,10 @@ chain-calls =
       turns = λ s c rows p b b′ a h.
           text-given b b′ a (length s) (turnedIn s c rows) (end-low s c rows p) (ofChain.short (turned c) (chainNames s (turned c)) (turnedRows c rows) (turned-valid s c rows p)) (rw (turned-as s c rows p (length b)) at h);
       tallies = tally-told;
+      positionOnly = λ s q b b′ a h z. spelt-or s _ (λ y. y) (λ x e. absurd (no-count x a (rw e at (h .is)) z));
+      regionOnly = λ s start end b b′ a h z. spelt-or s _ (λ y. y) (λ x e. absurd (no-count x a (rw e at (h .is)) z));
+      turnOnly = λ s b b′ a h z. spelt-or s _ (λ y. y) (λ x e. absurd (no-count x a (rw e at (h .is)) z));
+      tallyOnly = λ s start end b b′ a h z. spelt-or s _ (λ y. y) (λ x e. absurd (no-count x a (rw e at (h .is)) z));
       positionRefused = λ s x w q b b′ a h. refused-by b b′ a x (low s x w) (rw (refused s x w) at h);
       regionRefused = λ s x w start end b b′ a h. refused-by b b′ a x (low s x w) (rw (refused s x w) at h);
       turnRefused = λ s x w b b′ a h. refused-by b b′ a x (low s x w) (rw (refused s x w) at h);

@@ -1,5 +1,4 @@
 -- The standard text of a record that obeys its rules keeps the text limit: no number has more than twenty digits, and no record more blocks than its limit. Assumes nothing.
-use mathlib.Core.Path.{_≡_, refl, ap}
 use mathlib.Core.Bool.{Bool, true, false}
 use mathlib.Core.List.{List, [], _∷_, _++_}
 use Prim.Native.Nat.{ℕ, zero, suc, _+_, _-_, _*_, _≤_}
@@ -13,6 +12,7 @@ use Rattle.writing.specs.Digits.{digits, listText, pickBytes}
 use Rattle.writing.proofs.DigitLaws.{digits-length}
 use Rattle.kinds.specs.Words.{redOf, greenOf, blueOf, colourText}
 use Rattle.blocks.specs.Blocks.{subtracted}
+use Rattle.blocks.proofs.RuleLaws.{subtracted-length}
 use Rattle.bed.specs.declared.Bed.{Bed}
 use Rattle.bed.specs.Rules as bed
 use Rattle.bed.specs.Write.{bedWords, bedText}
@@ -51,11 +51,6 @@ list-short (v ∷ vs) = rw length-append (omega (arith, digits-length v, list-sh
 
 first-short : (n : ℕ) (vs : List ℕ) → n ≤ blockLimit → length (listText (take n vs)) ≤ 21 * blockLimit
 first-short n vs h = omega (arith, list-short (take n vs), length-take n vs)
-
-subtracted-length : (a : ℕ) (xs : List ℕ) → length (subtracted a xs) ≡ length xs
-unfolding subtracted
-subtracted-length a [] = refl
-subtracted-length a (x ∷ xs) = ap suc (subtracted-length a xs)
 
 colour-short : (v : ℕ) → length (colourText v) ≤ 62
 unfolding colourText

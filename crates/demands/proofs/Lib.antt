@@ -3,6 +3,7 @@ pub mod LengthLaws
 pub mod PlaceLaws
 pub mod NameLaws
 pub mod TextPlaceLaws
+pub mod FormatLaws
 pub mod BedDemand2
 pub mod PslDemand2
 pub mod ChainDemand2

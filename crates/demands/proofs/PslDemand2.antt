@@ -1,39 +1,32 @@
 -- Demand 2 holds of PSL. Assumes nothing.
-use mathlib.Core.Path.{_≡_, refl, sym, ap, _∙_}
-use mathlib.Core.Logic.{_↔_}
+use mathlib.Core.Path.{_≡_, refl, sym, _∙_}
 use mathlib.Core.Bool.{true, _&&_}
-use mathlib.Core.List.{List, _++_}
+use mathlib.Core.List.{List}
 use Prim.Native.Nat.{ℕ, _≤_}
-use native.Mathlib.Omega.{arith}
-use lib.ListN.{length, take, drop}
+use lib.ListN.{length, take}
 use Rattle.ledger.specs.declared.Row.{Row}
-use Rattle.ledger.specs.declared.Refusal.{Refusal}
-use Rattle.ledger.specs.declared.Reason.the-variants.{BlockRules}
 use Rattle.ledger.specs.Parts.{partAt}
 use Rattle.ledger.specs.Limits.{textLimit}
 use Rattle.text.specs.declared.Check.the-variants.{Holds}
-use Rattle.text.specs.declared.Check.the-variants as check
 use Rattle.text.specs.declared.Class.the-variants.{Graphic}
 use Rattle.columns.specs.Columns.{valuesFrom}
 use Rattle.columns.specs.Spells.{firsts}
 use Rattle.text.specs.Pieces.{lineOf, wordsOf}
 use Rattle.text.specs.Parts.{partBytes}
 use Rattle.text.proofs.TextLaws.{All, both}
-use Rattle.writing.specs.declared.Writing.{Writing}
-use Rattle.writing.specs.declared.Writing.the-variants.{Written}
-use Rattle.writing.specs.Answers.{roomAnswer, leftAfter}
+use Rattle.writing.specs.Answers.{roomAnswer}
 use Rattle.blocks.specs.Blocks.{blocksFill, countFits, rowsOf, rowNumbersFit}
 use Rattle.blocks.specs.Rows.{tableOf, targetsOf, queriesOf, sizesOf}
 use Rattle.psl.specs.declared.Psl.{Psl}
 use Rattle.psl.specs.declared.PslAnswer.the-variants.{Accepted}
 use Rattle.psl.specs.Records.{pslTargets, pslQueries, pslSizes, pslRows}
-use Rattle.psl.specs.Read.{pslCheck}
+use Rattle.psl.specs.Read.{pslRead, pslCheck}
 use Rattle.psl.specs.Table.{pslColumns}
 use Rattle.psl.specs.Rules.{PslLine, PslRules, named, placed}
 use Rattle.psl.specs.Rows.{rowsFit, countsFit}
 use Rattle.ledger.specs.Strands.{isTold}
 use Rattle.psl.specs.Tests.{fieldsFit, spansFit, pslValid}
-use Rattle.psl.specs.Write.{wordsShow, writeCheck, pslText, pslWrite, PslWrote, recordCheck}
+use Rattle.psl.specs.Write.{wordsShow, writeCheck, pslText, pslWrite, recordCheck}
 use Rattle.psl.proofs.LineLaws.{line-targets, line-queries, line-sizes, line-of, line-is}
 use Rattle.psl.proofs.RuleLaws.{rules-of, rules-is}
 use Rattle.psl.proofs.BackWordLaws.{on-renamed}
@@ -43,11 +36,13 @@ use Rattle.demands.specs.Demand2.{Demand2}
 use Rattle.demands.specs.Psl.{pslNames, pslHanded, pslNameWords, PslSpells, PslValid, SamePsl, psl}
 use Rattle.rows.proofs.ReaderLaws.{read-of}
 use Rattle.table_psl.proofs.RowLaws.{psl-reads}
-use Rattle.table_psl.specs.Rows.{RowsRead}
+use Rattle.table_psl.specs.Rows.{RowsRead, rowsFilled}
 use Rattle.table_psl.proofs.TableLaws.{left-valid, back-rows}
 use Rattle.columns.proofs.Meant.{listsIn}
 use Rattle.demands.proofs.NameLaws.{part-shows, name-word, name-handed}
-use Rattle.demands.proofs.RowLaws.{read-count, front-rows, self-rows, holds-if, breach-if, room-written, room-short}
+use Rattle.demands.proofs.RowLaws.{holds-if}
+use Rattle.demands.proofs.FormatLaws.{Shown, demand2-of}
+use Rattle.demands.proofs.FormatLaws as demands
 use Rattle.demands.proofs.LengthLaws.{psl-short}
 use Rattle.columns.specs.Names.{lengthFits}
 use Rattle.columns.proofs.WordLaws.{graphic-all}
@@ -101,15 +96,6 @@ left s before after r h =
       targetShows = target-shows s r ok .0;
     }
 
--- ---- the record checker holds exactly of what obeys the rules
-checked-exactly : (r : Psl) (ts qs zs : List ℕ) → (recordCheck r ts qs zs ≡ Holds) ↔ PslRules r ts qs zs
-unfolding recordCheck
-checked-exactly r ts qs zs = (λ h. rules-of r ts qs zs (holds-if _ h), λ k. rw (rules-is r ts qs zs k))
-
-checked-breach : (r : Psl) (ts qs zs : List ℕ) (x : Refusal) → recordCheck r ts qs zs ≡ check.Refused x → x ≡ record { reason = BlockRules; place = 0 }
-unfolding recordCheck
-checked-breach r ts qs zs x h = breach-if (pslValid r ts qs zs) x h
-
 -- ---- a valid record: written, and read back
 module _ (r : Psl) (ns : Names) (table : List Row) (ok : PslValid r ns table) where
   abbrev ts : List ℕ
@@ -133,12 +119,6 @@ module _ (r : Psl) (ns : Names) (table : List Row) (ok : PslValid r ns table) wh
   pub writes-as : (room : ℕ) → pslWrite r (ns .first) (ns .second) ts qs zs room ≡ roomAnswer (length text) room
   unfolding pslWrite
   writes-as room = rw may
-
-  is-written : (before after : List ℕ) (x : Writing) → PslWrote r (ns .first) (ns .second) ts qs zs before after x → length text ≤ length before
-      → (x ≡ Written (length text)) × (after ≡ text ++ drop (length text) before)
-  is-written before after x w h =
-      let e : x ≡ Written (length text) = w .is ∙ writes-as (length before) ∙ room-written text (length before) short h in
-      (e, w .left ∙ ap (λ (y : Writing). leftAfter y text before) e)
 
   same : SamePsl r (placed text r)
   unfolding placed
@@ -173,43 +153,41 @@ names-said s r rows p =
     let d = name-handed s 13 (r .target .name) (p .line .target .name) in
     (λ i. record { first = a i; second = b i }, λ i. record { first = c i; second = d i })
 
--- the record with just these rows is valid
-pub spelt-valid : (s : List ℕ) (r : Psl) (rows : List Row) → PslSpells s r rows → PslValid r (pslNames s r) rows
-spelt-valid s r rows p =
-    let ok = spelt-check s r rows p in
-    let n = read-count (psl-reads s) r ok in
-    let fits : r .blockCount ≤ length rows = omega (arith, ap length (spelt-rows s r rows p)) in
-    left s rows rows r (record { is = sym (psl-reads s .roomy r (length rows) ok fits); rows = self-rows rows (pslRows s) (r .blockCount) (spelt-rows s r rows p) n })
-
--- DEMAND 2 OF PSL
-pub psl-demand2 : Demand2 psl
-unfolding psl
-psl-demand2 = record {
-  acceptedExactly = λ s before after x h r. (
-    λ e. let k = read-of (psl-reads s) (length before) r (sym (h .is) ∙ e) in record { rows = pslRows s; spells = spelt-of s r (k .0); fits = k .1 },
-    λ p. h .is ∙ psl-reads s .roomy r (length before) (spelt-check s r (p .rows) (p .spells)) (p .fits),
-  );
-  noRoom = λ s before after x h r rows p l. h .is ∙ psl-reads s .short r (length before) (spelt-check s r rows p) l;
-  oneRecord = λ s r r′ rows rows′ p q.
-      let w : Accepted r ≡ Accepted r′ = sym (spelt-check s r rows p) ∙ spelt-check s r′ rows′ q in
-      let e : r ≡ r′ = cc in
-      (e, spelt-rows s r rows p ∙ ap (λ (a : Psl). pslRows s) e ∙ sym (spelt-rows s r′ rows′ q));
-  allBlocks = λ s r rows p. ap length (spelt-rows s r rows p) ∙ read-count (psl-reads s) r (spelt-check s r rows p);
-  justRows = λ s before after r rows h p. front-rows rows _ before after (r .blockCount) (spelt-rows s r rows p) (read-count (psl-reads s) r (spelt-check s r rows p)) (h .rows);
+-- WHAT PSL SHOWS
+pub psl-shown : Shown psl
+unfolding psl recordCheck
+psl-shown = record {
+  filled = rowsFilled;
+  checkText = pslCheck;
+  read = pslRead;
+  targets = λ s r. pslTargets s;
+  queries = λ s r. pslQueries s;
+  sizes = λ s r. pslSizes s;
+  reads = psl-reads;
+  answered = λ s before after x h. h .is;
+  stored = λ s before after r h. h .rows;
+  promised = λ s before after r e h. record { is = e; rows = h };
+  speltCheck = spelt-check;
+  speltRows = spelt-rows;
+  speltOf = spelt-of;
+  one = λ r r′ e. cc;
   namesSaid = names-said;
-  checkedExactly = λ r table. checked-exactly r _ _ _;
-  breached = λ r table. checked-breach r _ _ _;
   leftValid = left;
-  keepsLimit = short;
-  written = λ r ns table before after x ok w h. is-written r ns table ok before after x w h;
-  noBuffer = λ r ns table before after x ok w h. w .is ∙ writes-as r ns table ok (length before) ∙ room-short (text r ns table ok) (length before) (short r ns table ok) h;
+  valid = λ r table. pslValid r (targetsOf table) (queriesOf table) (sizesOf table);
+  checks = λ r table. refl;
+  rulesOf = λ r table h. rules-of r _ _ _ h;
+  rulesIs = λ r table h. rules-is r _ _ _ h;
+  short = short;
+  writes = λ r ns table before after x ok w. (w .is ∙ writes-as r ns table ok (length before), w .left);
   readsBack = λ r ns table before after x ok h room.
       let k = back-rows r (ns .first) (ns .second) table (may r ns table ok) (short r ns table ok) before after x room h in
-      record {
-        record′ = placed (text r ns table ok) r;
-        isRead = k .0;
-        sameNumbers = same r ns table ok;
-        sameNames = same-names r ns table ok;
-        sameRows = k .1;
-      };
+      record { record′ = placed (text r ns table ok) r; isRead = k .0; sameNumbers = same r ns table ok; sameNames = same-names r ns table ok; sameRows = k .1 };
 }
+
+pub psl-demand2 : Demand2 psl
+psl-demand2 = demand2-of psl psl-shown
+
+-- the record that a text spells is valid, with just the rows that it spells
+pub spelt-valid : (s : List ℕ) (r : Psl) (rows : List Row) → PslSpells s r rows → PslValid r (pslNames s r) rows
+unfolding psl
+spelt-valid = demands.spelt-valid psl psl-shown

@@ -1,5 +1,5 @@
 -- DEMANDS 2 AND 3 AT THE ENTRIES (docs/DESK.md): the answer a of a call and the lent bytes, b before and b′ after it, are those of the record that the text spells.
-use Prim.Native.Nat.{ℕ, _+_, _*_, _≤_, _<_}
+use Prim.Native.Nat.{ℕ, _+_, _*_, _%_, _≤_, _<_}
 use mathlib.Core.Path.{_≡_}
 use mathlib.Core.List.{List, [], _∷_, _++_}
 use lib.ListN.{length, drop}
@@ -52,14 +52,23 @@ pub record Refuses (f : Format) (s : List ℕ) (x : Refusal) : Type 0 where
   pub wide : blockLimit ≤ length before
   pub reads : f .Reads s before after (f .refused x)
 
--- DEMAND 2 of a format: check tells the blocks, parse the numbers of the record and its rows, format the standard text; a text that
--- is refused is refused as its reader refuses it
+-- the text spells some record
+pub record SpellsOne (f : Format) (s : List ℕ) : Type 0 where
+  pub one : f .Record
+  pub rows : List Row
+  pub spells : f .Spells s one rows
+
+-- DEMAND 2 of a format: check tells the blocks, parse the numbers of the record and its rows, format the standard text, of a text that spells a record
+-- and of no other; a text that is refused is refused as its reader refuses it
 pub record AtDesk (f : Format) : Type 0 where
   pub checks : (s : List ℕ) (r : f .Record) (rows : List Row) → f .Spells s r rows → (a : ℕ) → a ≡ checked (f .kind) s .answer → a ≡ 16 * f .blocks r
   pub parses : (s : List ℕ) (r : f .Record) (rows : List Row) → f .Spells s r rows → (b b′ : List ℕ) (a : ℕ) → Answered (parsed (f .kind) s (length b)) b b′ a
       → GivenRoom (length s) (length (recordNumbers (f .numbers r) rows)) (recordBytes (f .numbers r) rows) b b′ a
   pub formats : (s : List ℕ) (r : f .Record) (rows : List Row) → f .Spells s r rows → (b b′ : List ℕ) (a : ℕ) → Answered (formatted (f .kind) s (length b)) b b′ a
       → GivenRoom (length s) (length (f .text r (f .names s r) rows)) (f .text r (f .names s r) rows) b b′ a
+  pub checkOnly : (s : List ℕ) (a : ℕ) → a ≡ checked (f .kind) s .answer → a % 16 ≡ 0 → SpellsOne f s
+  pub parseOnly : (s b b′ : List ℕ) (a : ℕ) → Answered (parsed (f .kind) s (length b)) b b′ a → a % 16 ≡ 0 → SpellsOne f s
+  pub formatOnly : (s b b′ : List ℕ) (a : ℕ) → Answered (formatted (f .kind) s (length b)) b b′ a → a % 16 ≡ 0 → SpellsOne f s
   pub checkRefused : (s : List ℕ) (x : Refusal) → Refuses f s x → (a : ℕ) → a ≡ checked (f .kind) s .answer → a ≡ 16 * x .place + reasonNumber (x .reason)
   pub parseRefused : (s : List ℕ) (x : Refusal) → Refuses f s x → (b b′ : List ℕ) (a : ℕ) → Answered (parsed (f .kind) s (length b)) b b′ a → RefusedBy x b b′ a
   pub formatRefused : (s : List ℕ) (x : Refusal) → Refuses f s x → (b b′ : List ℕ) (a : ℕ) → Answered (formatted (f .kind) s (length b)) b b′ a → RefusedBy x b b′ a
@@ -83,7 +92,8 @@ abbrev pub turnedIn : List ℕ → Chain → List Row → List ℕ
 turnedIn s c rows =
     chainText (turned c) (partBytes s (c .qName)) (partBytes s (c .tName)) (targetsOf (turnedRows c rows)) (queriesOf (turnedRows c rows)) (sizesOf (turnedRows c rows))
 
--- DEMAND 3 of a chain's text: its lifts and its turn are those of the chain that it spells; a text that is refused is refused so here too
+-- DEMAND 3 of a chain's text: its lifts, its turn and its tally are those of the chain that it spells, and no other text has any; one that is refused is
+-- refused so here too
 pub record ChainsAtDesk : Type 0 where
   pub positions : (s : List ℕ) (c : Chain) (rows : List Row) → ChainSpells s c rows → (p : ℕ) (b b′ : List ℕ) (a : ℕ) → Answered (positionLifted s p (length b)) b b′ a
       → PositionTold (liftPosition c rows p) (length s) b b′ a
@@ -95,6 +105,10 @@ pub record ChainsAtDesk : Type 0 where
   pub tallies : (s : List ℕ) (c : Chain) (rows : List Row) → ChainSpells s c rows → (t u : Tally) (start end : ℕ) (x : RegionAnswer) → RegionTallied t c rows start end u x
       → Between 0 largestNumber (t .asked ∷ t .kept ∷ t .dropped ∷ []) → (rest b′ : List ℕ) (a : ℕ) → Answered (tallied s start end (tallyBytes t ++ rest)) (tallyBytes t ++ rest) b′ a
       → TallyCode x a × (b′ ≡ tallyBytes u ++ rest)
+  pub positionOnly : (s : List ℕ) (p : ℕ) (b b′ : List ℕ) (a : ℕ) → Answered (positionLifted s p (length b)) b b′ a → a % 16 ≡ 0 → SpellsOne chain s
+  pub regionOnly : (s : List ℕ) (start end : ℕ) (b b′ : List ℕ) (a : ℕ) → Answered (regionLifted s start end (length b)) b b′ a → a % 16 ≡ 0 → SpellsOne chain s
+  pub turnOnly : (s b b′ : List ℕ) (a : ℕ) → Answered (turnedText s (length b)) b b′ a → a % 16 ≡ 0 → SpellsOne chain s
+  pub tallyOnly : (s : List ℕ) (start end : ℕ) (b b′ : List ℕ) (a : ℕ) → Answered (tallied s start end b) b b′ a → a % 16 ≡ 0 → SpellsOne chain s
   pub positionRefused : (s : List ℕ) (x : Refusal) → Refuses chain s x → (p : ℕ) (b b′ : List ℕ) (a : ℕ) → Answered (positionLifted s p (length b)) b b′ a → RefusedBy x b b′ a
   pub regionRefused : (s : List ℕ) (x : Refusal) → Refuses chain s x → (start end : ℕ) (b b′ : List ℕ) (a : ℕ) → Answered (regionLifted s start end (length b)) b b′ a → RefusedBy x b b′ a
   pub turnRefused : (s : List ℕ) (x : Refusal) → Refuses chain s x → (b b′ : List ℕ) (a : ℕ) → Answered (turnedText s (length b)) b b′ a → RefusedBy x b b′ a

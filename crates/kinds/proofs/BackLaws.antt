@@ -37,7 +37,7 @@ pub record Written (c : Kind) (n v : ℕ) (w held : List ℕ) : Type 0 where
   pub holds : itemsIn c w ≡ held
 
 -- every greatest value has fewer digits than a word of the machine
-most-small : (r : Range) → mostOf r < Most
+pub most-small : (r : Range) → mostOf r < Most
 most-small Coordinate = omega arith
 most-small Size = omega arith
 most-small BedScore = omega arith

@@ -20,22 +20,14 @@ use Rattle.numbers.specs.Spelling.{pickSpelt}
 use Rattle.numbers.specs.Ranges.{Between}
 use Rattle.numbers.specs.Lists.{lastByte, openEnd, thenCount, listOf, valuesOf}
 use Rattle.writing.specs.Digits.{digits}
-use Rattle.writing.proofs.DigitLaws.{Most, some-digits, digits-items}
-use Rattle.kinds.specs.declared.Range.{Range}
-use Rattle.kinds.specs.declared.Range.the-variants.{Coordinate, Size, BedScore, ChainScore, ChainId, BlockCount}
+use Rattle.writing.proofs.DigitLaws.{some-digits, digits-items}
+use Rattle.kinds.specs.declared.Range.the-variants.{BlockCount}
 use Rattle.kinds.specs.declared.Kind.{Kind}
 use Rattle.kinds.specs.declared.Kind.the-variants.{Name, Number, Count, Items, Stranded, Word, Colour}
 use Rattle.kinds.specs.Kinds.{leastOf, mostOf, fixedText, isStrand, sameBytes, packed, wholeOf, nameOf, strandOf, fixedOf, colourOf, spelt}
 use Rattle.kinds.specs.SpeltAs.{parted, Letter, Mixed, SpeltAs}
+use Rattle.kinds.proofs.BackLaws.{most-small}
 use Rattle.kinds.proofs.DecimalLaws.{number-as, as-number, list-read, not-open, numbers-in, numbers-count, numbers-word, list-as, as-shut, as-list}
-
-most-small : (r : Range) → mostOf r < Most
-most-small Coordinate = omega arith
-most-small Size = omega arith
-most-small BedScore = omega arith
-most-small ChainScore = omega arith
-most-small ChainId = omega arith
-most-small BlockCount = omega arith
 
 -- a word that is good as a whole
 whole-as : (t : Bool) (u v : ℕ) → wholeOf t u ≡ Means v → (t ≡ true) × (u ≡ v)
