@@ -69,46 +69,24 @@ fn a_line_keeps_its_bases_and_its_length() {
     );
 }
 
-/// An input is never written, by whatever name.
+/// An input is no output, by whatever name; `faults.rs` has more ways.
 #[test]
 fn no_input_is_destroyed() {
-    let folder = Folder::new("no-input-destroyed");
-    let setup =
-        "cp $E/regions.bed r.bed; cp $E/a.chain c.chain; ln r.bed h.bed; ln -s r.bed s.bed;";
     for script in [
         "$T lift $E/a.chain r.bed h.bed u",
-        "$T lift $E/a.chain r.bed s.bed u",
-        "$T lift $E/a.chain r.bed o h.bed",
         "$T lift $E/a.chain - r.bed u < r.bed",
-        "$T lift $E/a.chain - h.bed u < s.bed",
         "$T lift - $E/regions.bed c.chain u < c.chain",
-        "$T lift c.chain r.bed o ./c.chain",
-        "$T lift c.chain ./c.chain o u",
-        "$T lift c.chain r.bed - u >> r.bed",
-        "$T lift c.chain r.bed /dev/stdout u >> c.chain",
-        "$T lift --summary h.bed c.chain r.bed o u",
-        "$T format --out h.bed r.bed",
-        "$T format r.bed >> h.bed",
-        "$T turn --out c.chain - < c.chain",
-        "$T check r.bed >> s.bed",
-        // The first input alone would be written to the second.
-        "$T check c.chain r.bed >> h.bed",
-        "$T format c.chain r.bed >> h.bed",
-        "$T format --kind bed c.chain - < r.bed >> h.bed",
     ] {
-        let _ = std::fs::remove_dir_all(&folder.path);
         let folder = Folder::new("no-input-destroyed");
-        folder.sh(setup);
+        folder.sh("cp $E/regions.bed r.bed; cp $E/a.chain c.chain; ln r.bed h.bed");
         let ran = folder.sh(script);
-        assert_eq!(ran.status, Some(2), "{script}");
-        assert!(
-            ran.errors.contains("are one file"),
-            "{script}: {}",
-            ran.errors
-        );
         let same = folder.sh("cmp r.bed $E/regions.bed && cmp c.chain $E/a.chain");
-        assert_eq!(same.status, Some(0), "{script}: {}", same.out);
-        assert_eq!(folder.names(), ["c.chain", "h.bed", "r.bed", "s.bed"]);
+        assert_eq!(
+            (same.status, ran.status),
+            (Some(0), Some(2)),
+            "{script}: {}",
+            same.out
+        );
     }
 }
 

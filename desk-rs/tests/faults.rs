@@ -1,32 +1,123 @@
-//! Files under odd names, full discs, readers that go away, and kills: an output is
-//! whole or as it was.
+//! Files under other names, folders that are shut, full discs, readers that go away,
+//! and kills: afterwards an output is the old file or the whole new one, byte for
+//! byte, and no input has changed.
 
 mod common;
 
-use std::fs;
+use std::fs::{self, OpenOptions};
+use std::io::Write;
 use std::os::unix::fs::{MetadataExt, PermissionsExt};
 use std::os::unix::process::CommandExt;
-use std::process::Stdio;
+use std::process::{Child, Stdio};
 use std::thread;
 use std::time::{Duration, Instant};
 
 use common::{program, Folder, Ran};
 
 const LIFT: &str = "$T lift $E/a.chain $E/regions.bed";
+const OLD: &str = "old\n";
 
-/// A chain that moves nothing, and this many lines for it.
-fn with_many_lines(folder: &Folder, count: u32) {
-    folder.write(
-        "s.chain",
-        "chain 1 chr1 200000000 + 0 200000000 chrQ 200000000 + 0 200000000 1\n200000000\n",
-    );
-    let line = |at: u32| format!("chr1\t{}\t{}\n", at % 9 + 1, 100_000_000 + at);
-    folder.write("s.bed", (0..count).map(line).collect::<String>());
+/// A folder with a chain that moves nothing, many lines for it, some of another chrom,
+/// and an old OUT and UNMAPPED.
+struct Trial {
+    folder: Folder,
+    inputs: Vec<(&'static str, String)>,
+}
+
+impl Trial {
+    fn new(name: &str, count: u32) -> Trial {
+        let folder = Folder::new(name);
+        let chain =
+            "chain 1 chr1 200000000 + 0 200000000 chrQ 200000000 + 0 200000000 1\n200000000\n";
+        let line = |at: u32| {
+            let chrom = if at % 16 == 15 { "chr2" } else { "chr1" };
+            format!("{chrom}\t{}\t{}\n", at % 9 + 1, 100_000_000 + at)
+        };
+        let lines: String = (0..count).map(line).collect();
+        let other = lines.replace("chr1", "chr3");
+        let inputs = vec![
+            ("s.chain", chain.to_string()),
+            ("s.bed", lines),
+            ("t.bed", other),
+        ];
+        for (name, bytes) in &inputs {
+            folder.write(name, bytes);
+        }
+        let trial = Trial { folder, inputs };
+        trial.with_old_outputs();
+        trial
+    }
+
+    fn with_old_outputs(&self) {
+        self.folder.write("o", OLD);
+        self.folder.write("u", OLD);
+    }
+
+    /// OUT and UNMAPPED.
+    fn outputs(&self) -> (String, String) {
+        (self.folder.read("o"), self.folder.read("u"))
+    }
+
+    /// That nothing is changed but what `o` and `u` may hold.
+    fn has_its_inputs(&self, after: &str) {
+        for (name, bytes) in &self.inputs {
+            assert!(self.folder.read(name) == *bytes, "{after}: {name}");
+        }
+    }
+
+    /// That nothing is changed, and no temporary left.
+    fn is_untouched(&self, after: &str) {
+        self.has_its_inputs(after);
+        assert_eq!(self.outputs(), (OLD.into(), OLD.into()), "{after}");
+        assert!(self.folder.is_clean(), "{after}");
+    }
+
+    fn spawn(&self, script: &str) -> Child {
+        let mut shell = self.folder.shell(script);
+        shell.stderr(Stdio::null()).spawn().expect("a shell runs")
+    }
 }
 
 fn mode(folder: &Folder, name: &str) -> u32 {
     let known = fs::metadata(folder.path.join(name)).expect("a file is there");
     known.permissions().mode() & 0o7777
+}
+
+#[test]
+fn an_input_by_another_name_is_never_written() {
+    for script in [
+        "$T lift $E/a.chain r.bed h.bed u",
+        "$T lift $E/a.chain r.bed s.bed u",
+        "$T lift $E/a.chain r.bed o h.bed",
+        "$T lift $E/a.chain - r.bed u < r.bed",
+        "$T lift $E/a.chain - h.bed u < s.bed",
+        "$T lift - $E/regions.bed c.chain u < c.chain",
+        "$T lift c.chain r.bed o ./c.chain",
+        "$T lift c.chain ./c.chain o u",
+        "$T lift c.chain r.bed - u >> r.bed",
+        "$T lift c.chain r.bed /dev/stdout u >> c.chain",
+        "$T lift --summary h.bed c.chain r.bed o u",
+        "$T format --out h.bed r.bed",
+        "$T format r.bed >> h.bed",
+        "$T turn --out c.chain - < c.chain",
+        "$T check r.bed >> s.bed",
+        // What is told of the first input would go to the second.
+        "$T check c.chain r.bed >> h.bed",
+        "$T format c.chain r.bed >> h.bed",
+        "$T format --kind bed c.chain - < r.bed >> h.bed",
+    ] {
+        let folder = Folder::new("other-names");
+        folder.sh(
+            "cp $E/regions.bed r.bed; cp $E/a.chain c.chain; ln r.bed h.bed; ln -s r.bed s.bed",
+        );
+        let ran = folder.sh(script);
+        assert_eq!(ran.status, Some(2), "{script}");
+        let told = ran.errors.contains("are one file");
+        assert!(told, "{script}: {}", ran.errors);
+        let same = folder.sh("cmp r.bed $E/regions.bed && cmp c.chain $E/a.chain");
+        assert_eq!(same.status, Some(0), "{script}: {}", same.out);
+        assert_eq!(folder.names(), ["c.chain", "h.bed", "r.bed", "s.bed"]);
+    }
 }
 
 #[test]
@@ -47,7 +138,7 @@ fn a_link_is_followed_and_stays() {
 
 #[test]
 fn another_name_of_an_old_output_keeps_the_old_bytes() {
-    let folder = Folder::new("other-name");
+    let folder = Folder::new("hard-link");
     folder.sh("echo old > o; ln o other");
     let ran = folder.sh(&format!("{LIFT} o u"));
     assert_eq!(
@@ -78,116 +169,124 @@ fn devices_and_pipes_are_written_directly() {
 
 #[test]
 fn a_full_device_is_told() {
-    let folder = Folder::new("full");
-    folder.write("u", "old\n");
+    let trial = Trial::new("full", 100);
     for script in [
-        format!("{LIFT} /dev/full u"),
-        format!("{LIFT} - u > /dev/full"),
-        format!("{LIFT} /dev/stdout u > /dev/full"),
-        "$T format --out /dev/full $E/exons.bed".to_string(),
-        "$T format $E/exons.bed > /dev/full".to_string(),
-        "$T check $E/exons.bed > /dev/full".to_string(),
-        "$T turn $E/a.chain > /dev/full".to_string(),
+        "$T lift s.chain s.bed /dev/full u",
+        "$T lift s.chain s.bed o /dev/full",
+        "$T lift s.chain s.bed - u > /dev/full",
+        "$T lift s.chain s.bed /dev/stdout u > /dev/full",
+        "$T format --out /dev/full s.bed",
+        "$T format s.bed > /dev/full",
+        "$T check s.bed > /dev/full",
+        "$T turn s.chain > /dev/full",
     ] {
-        let ran = folder.sh(&script);
-        assert_eq!(
-            (ran.status, folder.read("u").as_str()),
-            (Some(2), "old\n"),
-            "{script}"
-        );
-        assert!(
-            ran.errors.contains("No space left"),
-            "{script}: {}",
-            ran.errors
-        );
-        assert_eq!(folder.names(), ["u"]);
+        let ran = trial.folder.sh(script);
+        assert_eq!(ran.status, Some(2), "{script}");
+        let told = ran.errors.contains("No space left");
+        assert!(told, "{script}: {}", ran.errors);
+        trial.is_untouched(script);
     }
 }
 
+/// The limit falls into the middle of a line; with a handler and without.
 #[test]
 fn a_limit_on_file_size_leaves_every_output() {
-    let folder = Folder::new("limit");
-    with_many_lines(&folder, 60_000);
-    folder.sh("sed s/chr1/chr2/ s.bed > t.bed; echo old > o; echo old > u; echo old > f");
-    for script in [
-        "$T lift s.chain s.bed o u",
-        "$T lift s.chain t.bed o u",
-        "$T lift s.chain t.bed o u",
-        "$T format --out f s.bed",
-        "$T format --out f s.bed t.bed",
+    let trial = Trial::new("limit", 60_000);
+    for (script, limited) in [
+        ("$T lift s.chain s.bed o u", "chrQ\t1\t100000000\n"),
+        ("$T lift s.chain t.bed o u", "# no chain has the target"),
+        ("$T format --out o s.bed", "chr1\t1\t100000000\n"),
+        ("$T format --out o t.bed s.bed", "chr3\t1\t100000000\n"),
     ] {
-        let ran = folder.sh(&format!("trap '' XFSZ; ulimit -f 100; {script}"));
-        assert_eq!(ran.status, Some(2), "{script}");
-        for name in ["o", "u", "f"] {
-            assert_eq!(folder.read(name), "old\n", "{script}");
+        let ran = trial
+            .folder
+            .sh(&format!("trap '' XFSZ; ulimit -f 100; {script}"));
+        assert_eq!(ran.status, Some(2), "{script}: {}", ran.errors);
+        trial.is_untouched(script);
+        let ran = trial.folder.sh(&format!("{script}; true"));
+        let written = match limited.starts_with('#') {
+            true => trial.folder.read("u"),
+            false => trial.folder.read("o"),
+        };
+        assert!(written.starts_with(limited), "{script}: {}", ran.errors);
+        // Shells count blocks of 512 or of 1024 bytes.
+        for limit in [51_200, 102_400] {
+            assert!(written.len() > limit && written.as_bytes()[limit - 1] != b'\n');
         }
-        assert!(folder.is_clean(), "{script}");
+        trial.with_old_outputs();
     }
+    trial
+        .folder
+        .sh("ulimit -f 100; $T lift s.chain s.bed o u; true");
+    trial.has_its_inputs("a signal");
+    assert_eq!(trial.outputs(), (OLD.into(), OLD.into()));
 }
 
 #[test]
 fn a_reader_that_goes_away_leaves_the_other_output() {
-    let folder = Folder::new("pipe");
-    with_many_lines(&folder, 60_000);
-    folder.write("u", "old\n");
+    let trial = Trial::new("pipe", 60_000);
     for script in [
         "$T lift s.chain s.bed - u",
         "$T lift s.chain s.bed /dev/stdout u",
         "$T format s.bed",
     ] {
         let piped = format!("{{ {script} --quiet 2> errors; echo $? > status; }} | head -n 1");
-        let ran = folder.sh(&piped);
+        let ran = trial.folder.sh(&piped);
         assert!(ran.out.starts_with("chr"), "{script}");
-        assert_eq!(
-            (
-                folder.read("status").as_str(),
-                folder.read("errors").as_str()
-            ),
-            ("2\n", "")
-        );
-        assert_eq!(folder.read("u"), "old\n");
-        assert!(folder.is_clean(), "{script}");
+        let (status, errors) = (trial.folder.read("status"), trial.folder.read("errors"));
+        assert_eq!((status.as_str(), errors.as_str()), ("2\n", ""), "{script}");
+        trial.is_untouched(script);
     }
 }
 
+/// Twenty runs, each killed at a time from a seed.
 #[test]
 fn a_kill_leaves_every_output_old_or_new() {
-    let folder = Folder::new("kill");
-    with_many_lines(&folder, 40_000);
-    folder.write("more.bed", folder.read("s.bed") + "chr2\t1\t2\n");
-    let script = "exec $T lift --quiet s.chain more.bed o u";
+    let trial = Trial::new("kill", 20_000);
+    let script = "exec $T lift --quiet s.chain s.bed o u";
     let started = Instant::now();
-    folder.sh(script);
-    let whole = started.elapsed();
-    let new = (folder.read("o"), folder.read("u"));
-    let old = ("old\n".to_string(), "old too\n".to_string());
-    let (mut seen_old, mut dice) = (0, 12_345_u32);
-    for _ in 0..40 {
-        folder.write("o", &old.0);
-        folder.write("u", &old.1);
-        let mut shell = folder.shell(script);
-        let mut child = shell
-            .stderr(Stdio::null())
-            .spawn()
-            .expect("the command runs");
+    trial.folder.sh(script);
+    let whole = started.elapsed().as_micros() as u64;
+    let (old, new) = ((OLD.to_string(), OLD.to_string()), trial.outputs());
+    let mut dice = 12_345_u32;
+    for _ in 0..20 {
+        trial.with_old_outputs();
+        let mut child = trial.spawn(script);
         dice = dice.wrapping_mul(1_664_525).wrapping_add(1_013_904_223);
-        thread::sleep(Duration::from_micros(
-            whole.as_micros() as u64 * u64::from(dice >> 16) / 60_000,
-        ));
+        let sleep = whole * u64::from(dice >> 16) / 60_000;
+        thread::sleep(Duration::from_micros(sleep));
         let _ = child.kill();
         child.wait().expect("the command ends");
-        let left = (folder.read("o"), folder.read("u"));
+        let left = trial.outputs();
         // UNMAPPED takes its place before OUT.
         let between = left.0 == old.0 && left.1 == new.1;
         assert!(left == old || left == new || between);
-        seen_old += u32::from(left == old);
+        trial.has_its_inputs("a kill");
     }
-    assert!(seen_old > 0, "no run was killed in time");
-    let ran = folder.sh(script);
-    assert_eq!(
-        (ran.status, (folder.read("o"), folder.read("u"))),
-        (Some(1), new)
-    );
+    let ran = trial.folder.sh(script);
+    assert_eq!(ran.status, Some(1), "{}", ran.errors);
+    assert!(trial.outputs() == new);
+}
+
+/// A run that is surely in the middle of its lines: more of them never come.
+#[test]
+fn a_kill_in_the_middle_leaves_the_old_output() {
+    let trial = Trial::new("kill-middle", 20_000);
+    trial.folder.sh("mkfifo in");
+    let mut child = trial.spawn("exec $T lift --quiet s.chain in o u");
+    let mut lines = OpenOptions::new()
+        .write(true)
+        .open(trial.folder.path.join("in"))
+        .expect("the command reads");
+    // More than a pipe holds, so that the command has read and written by then.
+    lines
+        .write_all(trial.inputs[1].1.as_bytes())
+        .expect("the command reads");
+    assert!(!trial.folder.is_clean(), "a temporary is there");
+    child.kill().expect("the command runs");
+    child.wait().expect("the command ends");
+    trial.has_its_inputs("a kill");
+    assert_eq!(trial.outputs(), (OLD.into(), OLD.into()));
 }
 
 /// Somebody who isn't root, for whom modes count; root runs it as nobody.
@@ -199,7 +298,8 @@ fn folders_and_files_that_may_not_be_written_are_told() {
     fs::create_dir(&folder.path).expect("a folder can be made");
     fs::copy(program(), folder.path.join("t")).expect("the command can be copied");
     folder.sh("cp $E/a.chain $E/regions.bed .; mkdir shut; echo old > shut/o; echo old > o");
-    folder.sh("chmod 755 . t; chmod 644 a.chain regions.bed; chmod 444 o; chmod 555 shut; mkdir open; chmod 777 open");
+    folder.sh("chmod 755 . t; chmod 644 a.chain regions.bed; chmod 444 o; chmod 555 shut");
+    folder.sh("mkdir open; chmod 777 open");
     let is_root = fs::metadata("/proc/self").is_ok_and(|known| known.uid() == 0);
     for (script, told) in [
         (
@@ -226,6 +326,8 @@ fn folders_and_files_that_may_not_be_written_are_told() {
         assert!(ran.errors.contains(told), "{script}: {}", ran.errors);
         let left = folder.sh("ls -A open; cat o shut/o; ls -A shut");
         assert_eq!(left.out, "old\nold\no\n", "{script}");
+        let same = folder.sh("cmp a.chain $E/a.chain && cmp regions.bed $E/regions.bed");
+        assert_eq!(same.status, Some(0), "{script}");
     }
     folder.sh("chmod 755 shut");
     fs::remove_dir_all(&folder.path).expect("the folder can be removed");

@@ -2,7 +2,12 @@
 
 mod common;
 
-use common::{run_on, Folder};
+use std::io::Write;
+use std::process::Stdio;
+use std::thread;
+use std::time::{Duration, Instant};
+
+use common::{command, run_on, Folder, Ran};
 
 #[test]
 fn compressed_files_are_unpacked() {
@@ -85,6 +90,55 @@ fn a_damaged_compressed_file_gives_no_output() {
             ran.errors
         );
     }
+}
+
+/// More of a damaged file may never come.
+#[test]
+fn a_damaged_compressed_file_is_not_waited_for() {
+    let mut child = command(&["check", "--kind", "bed", "-"])
+        .stdin(Stdio::piped())
+        .stdout(Stdio::piped())
+        .stderr(Stdio::piped())
+        .spawn()
+        .expect("the command runs");
+    let mut input = child.stdin.take().expect("a pipe");
+    // A header, then bytes that no compressed file has.
+    let damaged = [&b"\x1F\x8B\x08\0\0\0\0\0\0\x03"[..], &[0xFF; 1 << 20]].concat();
+    // The command may end before it has read all.
+    let _ = input.write_all(&damaged);
+    let late = Instant::now() + Duration::from_secs(120);
+    while child.try_wait().expect("a child").is_none() {
+        if Instant::now() > late {
+            let _ = child.kill();
+        }
+        thread::sleep(Duration::from_millis(20));
+    }
+    let ran = Ran::of(child.wait_with_output().expect("the command ends"));
+    assert_eq!(ran.status, Some(2), "{}", ran.errors);
+    drop(input);
+}
+
+/// A terminal is what `script` gives; without it there is none to try.
+#[test]
+fn long_work_shows_its_progress_at_a_terminal() {
+    let folder = Folder::new("progress");
+    let slow = "(echo chr1 1 2; sleep 3; echo chr1 1 2) | $T check --kind bed -";
+    let ran = folder.sh(slow);
+    assert_eq!((ran.errors.as_str(), ran.status), ("", Some(0)));
+    if folder.sh("command -v script").status != Some(0) {
+        println!("left out: there is no `script`");
+        return;
+    }
+    let at_terminal = |command: &str| {
+        let script = format!("script -qec '{command} > out' /dev/null < /dev/null");
+        folder.sh(&script).out
+    };
+    let shown = at_terminal(slow);
+    assert!(
+        shown.starts_with("\rstandard input: 1 line read\r") && shown.ends_with("\r\u{1b}[K"),
+        "{shown:?}"
+    );
+    assert_eq!(at_terminal(&format!("{slow} --quiet")), "");
 }
 
 #[test]

@@ -60,6 +60,7 @@ fn main() -> ExitCode {
 }
 
 fn run(command: &Command) -> Status {
+    progress::began();
     let outcome = match command {
         Command::Help => help(),
         Command::Check(inputs, how) => check::run(inputs, *how),

@@ -8,8 +8,12 @@ use std::time::{Duration, Instant};
 const FIRST: Duration = Duration::from_secs(2);
 const PAUSE: Duration = Duration::from_millis(500);
 
-/// When the run's work began, whatever the number of files.
 static BEGAN: OnceLock<Instant> = OnceLock::new();
+
+/// When the run's work began, whatever the number of files: at the first call.
+pub fn began() -> Instant {
+    *BEGAN.get_or_init(Instant::now)
+}
 
 pub struct Progress {
     terminal: bool,
@@ -19,8 +23,7 @@ pub struct Progress {
 
 impl Progress {
     pub fn new(quiet: bool) -> Progress {
-        let began = *BEGAN.get_or_init(Instant::now);
-        Progress::from(!quiet && io::stderr().is_terminal(), began)
+        Progress::from(!quiet && io::stderr().is_terminal(), began())
     }
 
     fn from(terminal: bool, began: Instant) -> Progress {
@@ -34,7 +37,8 @@ impl Progress {
     /// Shows the number, if it is time.
     pub fn show(&mut self, file: &str, lines: u64) {
         if self.terminal && self.is_due(Instant::now()) {
-            let _ = write!(io::stderr(), "\r{file}: {lines} lines read");
+            let s = if lines == 1 { "" } else { "s" };
+            let _ = write!(io::stderr(), "\r{file}: {lines} line{s} read");
         }
     }
 
