@@ -105,6 +105,12 @@ fn an_input_by_another_name_is_never_written() {
         "$T check c.chain r.bed >> h.bed",
         "$T format c.chain r.bed >> h.bed",
         "$T format --kind bed c.chain - < r.bed >> h.bed",
+        // What is told would go to an input.
+        "$T check r.bed 2>> h.bed",
+        "$T check r.bed >> h.bed 2>&1",
+        "$T format --out o c.chain r.bed 2>> s.bed",
+        "$T lift c.chain - o u < r.bed 2>> h.bed",
+        "$T lift c.chain r.bed o u 2>> c.chain",
     ] {
         let folder = Folder::new("other-names");
         folder.sh(
@@ -112,8 +118,9 @@ fn an_input_by_another_name_is_never_written() {
         );
         let ran = folder.sh(script);
         assert_eq!(ran.status, Some(2), "{script}");
+        let silent = script.contains("2>");
         let told = ran.errors.contains("are one file");
-        assert!(told, "{script}: {}", ran.errors);
+        assert!(told != silent, "{script}: {}", ran.errors);
         let same = folder.sh("cmp r.bed $E/regions.bed && cmp c.chain $E/a.chain");
         assert_eq!(same.status, Some(0), "{script}: {}", same.out);
         assert_eq!(folder.names(), ["c.chain", "h.bed", "r.bed", "s.bed"]);

@@ -68,6 +68,29 @@ fn a_region_may_grow_so_far() {
         .starts_with("# its blocks are lifted to a region of 39 bases, and stood in one of 19\n"));
 }
 
+/// The summary counts what would be lifted, and nothing that would fail otherwise.
+#[test]
+fn a_line_that_grows_is_not_near() {
+    let folder = Folder::new("near");
+    folder.write(
+        "a.chain",
+        "chain 1 t 200 + 0 200 q 2000 + 0 1199 1\n50 1 0\n49 0 1000\n100\n",
+    );
+    let near = "of which 1 would be with --min-kept 0.95";
+    folder.write(
+        "a.bed",
+        "t\t0\t200\tn\t0\t+\t0\t200\t0\t2\t100,100,\t0,100,\n",
+    );
+    let (_, unmapped, ran) = lifted(&folder, "");
+    assert!(unmapped.starts_with("# block 1 of 2 (0-100): keeps 99 of 100 bases\n"));
+    assert!(!ran.errors.contains(near), "{}", ran.errors);
+    folder.write("a.bed", "t\t0\t100\tn\n");
+    let (_, _, ran) = lifted(&folder, "");
+    assert!(ran.errors.contains(near), "{}", ran.errors);
+    let (_, _, ran) = lifted(&folder, "--max-grow 6");
+    assert!(ran.errors.contains(near), "{}", ran.errors);
+}
+
 #[test]
 fn blocks_and_thick_parts_are_lifted_on_both_strands() {
     let folder = Folder::new("strands");

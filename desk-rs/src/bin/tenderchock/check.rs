@@ -6,10 +6,11 @@ use crate::args::{Input, Telling};
 use crate::explain::ROW_HEADING;
 use crate::outcome::{Outcome, Status};
 use crate::report::{self, Report};
-use crate::same_file::{none_is_standard_output, standard_output};
+use crate::same_file::{none_is_standard_error, none_is_standard_output, standard_output};
 use crate::source::Source;
 
 pub fn run(inputs: &[Input], how: Telling) -> Outcome {
+    none_is_standard_error(inputs)?;
     none_is_standard_output(inputs)?;
     let mut out = BufWriter::new(standard_output()?);
     if how.tsv {

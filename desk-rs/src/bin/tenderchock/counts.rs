@@ -206,3 +206,21 @@ impl Row {
         format!("{name}\t{}\n", words.join("\t"))
     }
 }
+
+#[cfg(test)]
+mod tests {
+    use super::*;
+
+    #[test]
+    fn every_line_is_lifted_unmapped_or_passed_over() {
+        let mut counts = Counts::new(false);
+        assert!(counts.is_empty());
+        counts.add(b"t", &Ended::lifted(0), Tally::default());
+        counts.add(b"t", &Ended::unmapped(Reason::Kept, 0), Tally::default());
+        counts.add(b"", &Ended::refused(), Tally::default());
+        assert!(!counts.is_empty() && counts.balanced(5, 2).is_ok());
+        for (read, passed_over) in [(4, 2), (6, 2), (5, 1)] {
+            assert!(counts.balanced(read, passed_over).is_err());
+        }
+    }
+}

@@ -20,7 +20,7 @@ input, and as OUT standard output. `--` ends the options.
   --quiet         tell refusals only: no notes, no summary
   --strict        a note counts as a refusal
   --tsv           check: refusals and notes as rows of a table; a note has the number 0
-  --out FILE      format, turn: write FILE; if a text is refused, it is not written
+  --out FILE      format, turn: write FILE; if a text is refused, nothing is written
   --keep-going    format, turn: write what is accepted all the same
   --tabs          format, turn: a chain's block lines with tabs
 
@@ -37,7 +37,7 @@ name looks like a date that a spreadsheet made. A summary ends the work on each 
 
 What is written. A file is written under another name in its folder, and takes its place when all is
 written: a run that fails leaves every file as it was. No two of a run's files may be one. `turn`
-writes nothing if a chain is refused. A blank line ends each chain.
+writes nothing if a chain is refused. A blank line ends each chain that is written.
 
 lift. The blocks of a line (a line of up to 9 columns has one, its span) are lifted one by one through
 the chain whose target is the line's chrom and in which it keeps bases. OUT gets the line on the

@@ -10,11 +10,12 @@ use crate::lines::Lines;
 use crate::outcome::{self, Outcome, Status, Trouble};
 use crate::output::{commit, Output};
 use crate::report::{walk, Report};
-use crate::same_file::{apart, Use};
+use crate::same_file::{apart, none_is_standard_error, Use};
 use crate::source::Source;
 use crate::target::Target;
 
 pub fn run(files: &LiftFiles, options: &Lifting, how: Telling) -> Outcome {
+    none_is_standard_error(&[files.chain.clone(), files.bed.clone()])?;
     let chain = Source::open(&files.chain)?;
     let bed = Source::open(&files.bed)?;
     let outputs = Outputs::create(files, &chain, &bed)?;

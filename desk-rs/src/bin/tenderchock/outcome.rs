@@ -45,6 +45,8 @@ pub enum Trouble {
     OneFile(String, String),
     /// Lines read, and lines accounted for: a fault of this program.
     Lost(u64, u64),
+    /// Standard error goes to an input, so that nothing may be told there.
+    Speechless,
 }
 
 impl Trouble {
@@ -63,11 +65,14 @@ impl Trouble {
 
     /// Tells it on standard error; a reader that went away needs no word.
     pub fn tell(&self) {
-        let error = match self {
-            Trouble::Output(_, error) | Trouble::Stream(error) => Some(error.kind()),
-            _ => None,
+        let quiet = match self {
+            Trouble::Output(_, error) | Trouble::Stream(error) => {
+                error.kind() == io::ErrorKind::BrokenPipe
+            }
+            Trouble::Speechless => true,
+            _ => false,
         };
-        if error != Some(io::ErrorKind::BrokenPipe) {
+        if !quiet {
             say(&self.to_string());
         }
     }
@@ -87,6 +92,7 @@ impl fmt::Display for Trouble {
                 f,
                 "{read} lines were read and {told} accounted for: this is a fault of tenderchock; nothing is written"
             ),
+            Trouble::Speechless => write!(f, "standard error is an input"),
         }
     }
 }

@@ -8,7 +8,7 @@ use crate::args::{Input, Rewriting, Telling};
 use crate::outcome::{self, Outcome, Status, Trouble};
 use crate::output::{commit, Output};
 use crate::report::{self, Report, Verdict};
-use crate::same_file::{apart, none_is_standard_output, Use};
+use crate::same_file::{apart, none_is_standard_error, none_is_standard_output, Use};
 use crate::source::Source;
 use crate::spool::Spool;
 use crate::target::Target;
@@ -30,6 +30,7 @@ impl Way {
 }
 
 pub fn run(way: Way, inputs: &[Input], options: &Rewriting, how: Telling) -> Outcome {
+    none_is_standard_error(inputs)?;
     match &options.out {
         Some(path) => to_file(way, inputs, path, options, how),
         None => to_standard_output(way, inputs, options, how),

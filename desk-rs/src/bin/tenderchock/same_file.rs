@@ -48,6 +48,11 @@ impl Identity {
         Ok(Identity::of(&standard_output()?.metadata()?))
     }
 
+    fn of_standard_error() -> io::Result<Identity> {
+        let file = File::from(io::stderr().as_fd().try_clone_to_owned()?);
+        Ok(Identity::of(&file.metadata()?))
+    }
+
     pub fn is(&self, other: &Identity) -> bool {
         self == other && *self != Identity::Shared
     }
@@ -101,14 +106,28 @@ pub fn apart(uses: &[Use]) -> Result<(), Trouble> {
     Ok(())
 }
 
-/// Tells an input that standard output goes to, before anything is written there. One
-/// that can't be looked at is told when it is opened.
+/// Tells an input that standard output goes to, before anything is written there.
 pub fn none_is_standard_output(inputs: &[Input]) -> Result<(), Trouble> {
-    for input in inputs {
-        if let Ok(identity) = Identity::of_input(input) {
-            let used = Use::new("the input", &input.path, &identity);
-            apart(&[used, Use::standard_output()?])?;
+    let standard = Identity::of_standard_output()?;
+    match found(inputs, &standard) {
+        Some(input) => {
+            let used = Use::new("the input", &input.path, &standard);
+            apart(&[used, Use::standard_output()?])
         }
+        None => Ok(()),
     }
-    Ok(())
+}
+
+/// Ends a run whose messages would go into an input.
+pub fn none_is_standard_error(inputs: &[Input]) -> Result<(), Trouble> {
+    match found(inputs, &Identity::of_standard_error()?) {
+        Some(_) => Err(Trouble::Speechless),
+        None => Ok(()),
+    }
+}
+
+/// The input that is this file. One that can't be looked at is told when it is opened.
+fn found<'i>(inputs: &'i [Input], identity: &Identity) -> Option<&'i Input> {
+    let is = |input: &&Input| Identity::of_input(input).is_ok_and(|of| of.is(identity));
+    inputs.iter().find(is)
 }
