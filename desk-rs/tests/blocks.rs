@@ -163,9 +163,8 @@ fn single(line: &str) -> (String, Single) {
     (words[3].to_string(), single)
 }
 
-#[test]
-fn lines_are_lifted_as_their_exons_are() {
-    let folder = Folder::new("blocks");
+/// Four chains, and transcripts for them.
+fn drawn() -> (String, Vec<Transcript>) {
     let mut dice = Dice(20_240_607);
     let chains: String = [
         chain(&mut dice, 1, "t1", 0, 150_000),
@@ -174,32 +173,46 @@ fn lines_are_lifted_as_their_exons_are() {
         chain(&mut dice, 5, "t2", 300_000, 399_000),
     ]
     .concat();
-    let transcripts: Vec<Transcript> = (0..LINES).map(|_| transcript(&mut dice)).collect();
+    let transcripts = (0..LINES).map(|_| transcript(&mut dice)).collect();
+    (chains, transcripts)
+}
+
+/// Lifts the transcripts and their exons; answers the lines of both by name.
+fn lifted(
+    folder: &Folder,
+    chains: &str,
+    transcripts: &[Transcript],
+) -> (HashMap<String, String>, HashMap<String, Single>) {
     let all = |text: fn(&Transcript, usize) -> String| -> String {
-        transcripts
-            .iter()
-            .enumerate()
-            .map(|(name, one)| text(one, name))
-            .collect()
+        let each = transcripts.iter().enumerate();
+        each.map(|(name, one)| text(one, name)).collect()
     };
     folder.write("a.chain", chains);
     folder.write("lines.bed", all(Transcript::line));
     folder.write("singles.bed", all(Transcript::singles));
-    let ran = folder.sh("$T lift a.chain singles.bed singles.out singles.bad; $T lift a.chain lines.bed lines.out lines.bad");
-    assert_eq!(ran.status, Some(1), "{}", ran.errors);
-    let singles: HashMap<String, Single> = folder.read("singles.out").lines().map(single).collect();
-    let text = folder.read("lines.out");
-    let lifted: HashMap<&str, &str> = text
-        .lines()
-        .map(|line| (line.split('\t').nth(3).expect("a name"), line))
-        .collect();
+    for name in ["lines", "singles"] {
+        let ran = folder.sh(&format!(
+            "$T lift --quiet a.chain {name}.bed {name}.out {name}.bad"
+        ));
+        assert_eq!(ran.status, Some(1), "{}", ran.errors);
+    }
+    let named = |line: &str| (single(line).0, line.to_string());
+    (
+        folder.read("lines.out").lines().map(named).collect(),
+        folder.read("singles.out").lines().map(single).collect(),
+    )
+}
+
+#[test]
+fn lines_are_lifted_as_their_exons_are() {
+    let folder = Folder::new("blocks");
+    let (chains, transcripts) = drawn();
+    let (lines, singles) = lifted(&folder, &chains, &transcripts);
     let (mut plus, mut minus, mut lost) = (0, 0, 0);
     for (name, transcript) in transcripts.iter().enumerate() {
         let wanted = transcript.wanted(name, &singles);
-        let found = lifted
-            .get(format!("x{name}").as_str())
-            .map(|line| line.to_string());
-        assert_eq!(found, wanted, "{}", transcript.line(name));
+        let found = lines.get(&format!("x{name}"));
+        assert_eq!(found, wanted.as_ref(), "{}", transcript.line(name));
         match wanted {
             Some(line) if line.contains("\t+\t") => plus += 1,
             Some(_) => minus += 1,

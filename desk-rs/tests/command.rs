@@ -3,9 +3,8 @@
 mod common;
 
 use std::io::Write;
-use std::process::Stdio;
 
-use common::{command, run, run_on, Folder, Ran};
+use common::{piped, run, run_on, Folder, Ran};
 
 #[test]
 fn good_files_are_accepted() {
@@ -271,12 +270,7 @@ fn no_bytes_make_it_panic() {
 #[test]
 fn a_reader_that_goes_away_makes_no_noise() {
     let many = b"chr1 x 2\n".repeat(20_000);
-    let mut child = command(&["check", "--kind", "bed", "-"])
-        .stdin(Stdio::piped())
-        .stdout(Stdio::piped())
-        .stderr(Stdio::piped())
-        .spawn()
-        .expect("the command runs");
+    let mut child = piped(&["check", "--kind", "bed", "-"]);
     drop(child.stdout.take());
     let _ = child.stdin.take().map(|mut stdin| stdin.write_all(&many));
     let ran = Ran::of(child.wait_with_output().expect("the command ends"));

@@ -3,11 +3,10 @@
 mod common;
 
 use std::io::Write;
-use std::process::Stdio;
 use std::thread;
 use std::time::{Duration, Instant};
 
-use common::{command, run_on, Folder, Ran};
+use common::{piped, run_on, Folder, Ran};
 
 #[test]
 fn compressed_files_are_unpacked() {
@@ -95,12 +94,7 @@ fn a_damaged_compressed_file_gives_no_output() {
 /// More of a damaged file may never come.
 #[test]
 fn a_damaged_compressed_file_is_not_waited_for() {
-    let mut child = command(&["check", "--kind", "bed", "-"])
-        .stdin(Stdio::piped())
-        .stdout(Stdio::piped())
-        .stderr(Stdio::piped())
-        .spawn()
-        .expect("the command runs");
+    let mut child = piped(&["check", "--kind", "bed", "-"]);
     let mut input = child.stdin.take().expect("a pipe");
     // A header, then bytes that no compressed file has.
     let damaged = [&b"\x1F\x8B\x08\0\0\0\0\0\0\x03"[..], &[0xFF; 1 << 20]].concat();

@@ -7,7 +7,7 @@ use std::env;
 use std::fs;
 use std::io::Write;
 use std::path::{Path, PathBuf};
-use std::process::{Command, Output, Stdio};
+use std::process::{Child, Command, Output, Stdio};
 
 /// The repository.
 pub fn root() -> PathBuf {
@@ -49,14 +49,19 @@ pub fn run(words: &[&str]) -> Ran {
     Ran::of(command(words).output().expect("the command runs"))
 }
 
-/// A run with this on standard input.
-pub fn run_on(words: &[&str], input: &[u8]) -> Ran {
-    let mut child = command(words)
+/// The command with a pipe at each end.
+pub fn piped(words: &[&str]) -> Child {
+    command(words)
         .stdin(Stdio::piped())
         .stdout(Stdio::piped())
         .stderr(Stdio::piped())
         .spawn()
-        .expect("the command runs");
+        .expect("the command runs")
+}
+
+/// A run with this on standard input.
+pub fn run_on(words: &[&str], input: &[u8]) -> Ran {
+    let mut child = piped(words);
     // The command may end before it has read all.
     let _ = child.stdin.take().map(|mut stdin| stdin.write_all(input));
     Ran::of(child.wait_with_output().expect("the command ends"))
