@@ -145,6 +145,12 @@ fn an_end_of_the_thick_part_moves_inward() {
         (ran.errors.matches("note: ").count(), ran.status),
         (3, Some(0))
     );
+    let (out, unmapped, ran) = lifted(&folder, "--strict");
+    assert_eq!((out.lines().count(), ran.status), (1, Some(1)));
+    assert!(
+        unmapped.starts_with("# a note counts as a refusal: thickStart 45 moves inward"),
+        "{unmapped}"
+    );
 }
 
 #[test]

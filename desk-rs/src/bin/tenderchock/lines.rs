@@ -88,13 +88,21 @@ impl<'r> Lines<'r> {
                 Err(why) => through.not.push((sent, why)),
             }
         }
-        match through.not.first() {
-            Some((_, why)) if through.lines.is_empty() => {
+        let notes = through.notes(bed.chrom);
+        match (through.not.first(), notes.first()) {
+            (Some((_, why)), _) if through.lines.is_empty() => {
                 self.counts.near += u64::from(self.is_near(bed, &sent));
                 self.unmapped(bed, text, why, not_sent)
             }
+            (_, Some(note)) if report.is_strict() => {
+                self.unmapped(bed, text, &Why::Noted(note.clone()), not_sent)
+            }
             _ => {
-                self.put_lifted(report, text, bed, &through)?;
+                let (number, _) = text.locate(0);
+                for note in &notes {
+                    report.note(number, 1, note)?;
+                }
+                self.put_lifted(report, number, bed, &through.lines)?;
                 Ok(Ended::lifted(not_sent))
             }
         }
@@ -128,31 +136,23 @@ impl<'r> Lines<'r> {
             .any(|sent| blocks::lifted(bed, sent, &options, room).is_ok())
     }
 
+    /// What a line of IN is lifted to.
     fn put_lifted(
         &mut self,
         report: &mut Report,
-        text: &Text,
+        number: u64,
         bed: &Bed,
-        through: &Through,
+        lines: &[Lifted],
     ) -> Result<(), Trouble> {
-        let (number, _) = text.locate(0);
-        for (sent, why) in &through.not {
-            let (id, told) = (sent.chain.id, why.told(bed.chrom));
-            let told = format!("not lifted through the chain with the id {id}: {told}");
-            report.note(number, 1, &told)?;
-        }
-        for lifted in &through.lines {
+        for lifted in lines {
             self.outputs.out.put(&lifted.line)?;
-            for moved in &lifted.moved {
-                report.note(number, 1, moved)?;
-            }
             for without in &lifted.without {
                 report.note(number, 1, &format!("lifted without {without}"))?;
                 let told = format!("# line {number} is lifted without {without}\n");
                 self.outputs.unmapped.put(told.as_bytes())?;
             }
         }
-        let any = |is: fn(&Lifted) -> bool| u64::from(through.lines.iter().any(is));
+        let any = |is: fn(&Lifted) -> bool| u64::from(lines.iter().any(is));
         self.counts.shortened += any(|lifted| lifted.shortened);
         self.counts.block_lost += any(|lifted| !lifted.without.is_empty());
         self.counts.narrowed += u64::from(self.options.span && bed.word_count > 6);
@@ -195,6 +195,18 @@ impl<'r> Lines<'r> {
 struct Through<'s> {
     lines: Vec<Lifted>,
     not: Vec<(&'s Sent<'s>, Why)>,
+}
+
+impl Through<'_> {
+    /// The notes on a line that is lifted; blocks left out are told elsewhere.
+    fn notes(&self, chrom: &[u8]) -> Vec<String> {
+        let not = self.not.iter().map(|(sent, why)| {
+            let (id, told) = (sent.chain.id, why.told(chrom));
+            format!("not lifted through the chain with the id {id}: {told}")
+        });
+        let moved = self.lines.iter().flat_map(|lifted| &lifted.moved);
+        not.chain(moved.cloned()).collect()
+    }
 }
 
 fn bases(parts: &[Part]) -> u64 {

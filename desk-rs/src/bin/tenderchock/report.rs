@@ -120,6 +120,11 @@ impl<'w> Report<'w> {
         Ok(())
     }
 
+    /// Whether a note counts as a refusal.
+    pub fn is_strict(&self) -> bool {
+        self.how.strict
+    }
+
     /// What is told so far goes out.
     pub fn flush(&mut self) -> io::Result<()> {
         self.out.flush()
