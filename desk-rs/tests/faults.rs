@@ -246,6 +246,32 @@ fn a_reader_that_goes_away_leaves_the_other_output() {
     }
 }
 
+/// As `strace` sees it; without it, or where it may not look, there is nothing to see.
+#[test]
+fn all_is_synced_before_anything_takes_its_place() {
+    let trial = Trial::new("synced", 100);
+    trial
+        .folder
+        .sh("strace -f -o calls -e 'trace=/^(fsync|rename)' \
+         $T lift --quiet --summary sum s.chain s.bed o u");
+    let calls = match trial.folder.has("calls") {
+        true => trial.folder.read("calls"),
+        false => String::new(),
+    };
+    if !calls.contains("rename") {
+        println!("left out: there is no `strace`");
+        return;
+    }
+    let is_sync = |line: &&str| line.contains("fsync(");
+    assert_eq!(calls.lines().take_while(is_sync).count(), 3, "{calls}");
+    let placed: Vec<&str> = calls
+        .lines()
+        .filter_map(|line| line.rsplit('"').nth(1))
+        .filter_map(|path| path.rsplit('/').next())
+        .collect();
+    assert_eq!(placed, ["sum", "u", "o"], "{calls}");
+}
+
 /// Twenty runs, each killed at a time from a seed.
 #[test]
 fn a_kill_leaves_every_output_old_or_new() {

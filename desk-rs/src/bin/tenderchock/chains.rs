@@ -8,7 +8,7 @@ use crate::input::{Item, Text, Texts};
 use crate::outcome::{Status, Trouble};
 use crate::part::Part;
 use crate::report::{walk, Report, Verdict};
-use tenderchock::{Chain, Strand};
+use tenderchock::{Chain, Room, Strand};
 
 /// A chain of the file: its text, and what is needed to choose it.
 pub struct Held {
@@ -51,10 +51,10 @@ impl Chains {
         texts: &mut Texts<R>,
         report: &mut Report,
     ) -> Result<(Chains, Status), Trouble> {
-        let mut chains = Chains::default();
+        let (mut chains, mut room) = (Chains::default(), Room::new());
         let status = walk(input, texts, report, |report, item| match item {
             Item::PassedOver(_) => Ok(()),
-            Item::Text(text) => match text.judged(Chain::parse) {
+            Item::Text(text) => match text.judged(|bytes| Chain::parse_in(&mut room, bytes)) {
                 Ok(chain) => chains.take(report, text, &chain),
                 Err(refusal) => Ok(report.refuse(text, refusal)?),
             },
