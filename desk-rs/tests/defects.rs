@@ -230,6 +230,13 @@ fn an_empty_cell_is_told() {
         ran.out
     );
     assert_eq!(folder.sh("$T check --strict a.bed").status, Some(1));
+    folder.write("a.bed", "chr1\t10\t20\t \t960\n");
+    let ran = folder.sh("$T check a.bed");
+    assert!(
+        ran.out.starts_with("a.bed:1:12: note: an empty cell"),
+        "{}",
+        ran.out
+    );
 }
 
 /// A blank line ends each chain, and block lines have tabs where they are wanted.

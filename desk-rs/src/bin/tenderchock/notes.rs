@@ -85,32 +85,29 @@ fn note(place: usize, told: &str) -> Note {
 
 /// Where the first cell without a word stands, in a line with tabs.
 pub fn empty_cell(line: &[u8]) -> Option<usize> {
-    if line.starts_with(b"\t") {
-        return Some(0);
-    }
-    let between = line
-        .windows(2)
-        .position(|two| two == b"\t\t")
-        .map(|at| at + 1);
-    between.or(line.ends_with(b"\t").then_some(line.len()))
+    let is_empty = |(_, cell): &(usize, &[u8])| cell.iter().all(is_blank);
+    cells(line).find(is_empty).map(|(start, _)| start)
 }
 
 /// Where a blank parts two words of one cell, in a line with tabs.
 fn parted_cell(line: &[u8]) -> Option<usize> {
-    if !line.contains(&b'\t') {
-        return None;
-    }
+    cells(line).find_map(|(start, cell)| {
+        let words = explain::words(cell);
+        let (place, first) = words.first().filter(|_| words.len() > 1)?;
+        Some(start + place + first.len())
+    })
+}
+
+/// The cells of a line, and where each starts; a line without tabs has none.
+fn cells(line: &[u8]) -> impl Iterator<Item = (usize, &[u8])> {
     let mut start = 0;
-    for cell in line.split(|byte| *byte == b'\t') {
-        let front = cell.iter().take_while(|byte| is_blank(byte)).count();
-        let word = &cell[front..];
-        let length = word.iter().position(is_blank).unwrap_or(word.len());
-        if word[length..].iter().any(|byte| !is_blank(byte)) {
-            return Some(start + front + length);
-        }
-        start += cell.len() + 1;
-    }
-    None
+    line.split(|byte| *byte == b'\t')
+        .filter(|cell| cell.len() < line.len())
+        .map(move |cell| {
+            let at = start;
+            start += cell.len() + 1;
+            (at, cell)
+        })
 }
 
 /// What is odd about a name that is accepted.
@@ -180,6 +177,8 @@ mod tests {
         assert_eq!(places(b"chr1\t10\t20\t\t960"), [11]);
         assert_eq!(places(b"chr1\t10\t20\tmy gene\t960"), [13]);
         assert_eq!(places(b"chr1\t10\t20\t"), [11]);
+        assert_eq!(places(b"chr1\t10\t20\t \t960"), [11]);
+        assert_eq!(places(b"\tchr1 10 20"), [0, 5]);
         assert_eq!(places(b"chr1 10  20 my"), [0; 0]);
         assert_eq!(places(b"chr1\t10\t20 "), [0; 0]);
         assert_eq!(places(b"chr1\t10\t20\tx\t0\t-"), [0; 0]);
