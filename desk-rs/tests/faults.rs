@@ -83,6 +83,10 @@ fn mode(folder: &Folder, name: &str) -> u32 {
     known.permissions().mode() & 0o7777
 }
 
+fn is_root() -> bool {
+    fs::metadata("/proc/self").is_ok_and(|known| known.uid() == 0)
+}
+
 #[test]
 fn an_input_by_another_name_is_never_written() {
     for script in [
@@ -161,6 +165,35 @@ fn a_mode_is_kept_and_a_new_file_has_the_usual_one() {
     let ran = folder.sh(&format!("umask 027; {LIFT} o u"));
     assert_eq!(ran.status, Some(1), "{}", ran.errors);
     assert_eq!((mode(&folder, "o"), mode(&folder, "u")), (0o604, 0o640));
+    // Only root can give a file away.
+    if is_root() {
+        folder.sh("chown 65534:65534 o; chmod 664 o");
+        let ran = folder.sh(&format!("{LIFT} o u"));
+        assert_eq!(ran.status, Some(1), "{}", ran.errors);
+        let known = fs::metadata(folder.path.join("o")).expect("a file is there");
+        assert_eq!((known.uid(), known.gid()), (65_534, 65_534));
+        assert_eq!(mode(&folder, "o"), 0o664);
+    }
+}
+
+#[test]
+fn more_inputs_than_can_be_open_touch_nothing() {
+    let trial = Trial::new("open-files", 10);
+    let inputs = "s.bed ".repeat(40);
+    let ran = trial
+        .folder
+        .sh(&format!("ulimit -n 20; $T format --out o {inputs}"));
+    assert_eq!(ran.status, Some(2), "{}", ran.errors);
+    assert!(
+        ran.errors.contains("s.bed: Too many open files"),
+        "{}",
+        ran.errors
+    );
+    trial.is_untouched("too many files");
+    let ran = trial
+        .folder
+        .sh(&format!("ulimit -n 20; $T format {inputs} | wc -l"));
+    assert_eq!(ran.out.trim(), "400", "{}", ran.errors);
 }
 
 #[test]
@@ -333,7 +366,6 @@ fn folders_and_files_that_may_not_be_written_are_told() {
     folder.sh("cp $E/a.chain $E/regions.bed .; mkdir shut; echo old > shut/o; echo old > o");
     folder.sh("chmod 755 . t; chmod 644 a.chain regions.bed; chmod 444 o; chmod 555 shut");
     folder.sh("mkdir open; chmod 777 open");
-    let is_root = fs::metadata("/proc/self").is_ok_and(|known| known.uid() == 0);
     for (script, told) in [
         (
             "./t lift a.chain regions.bed shut/new open/u",
@@ -351,7 +383,7 @@ fn folders_and_files_that_may_not_be_written_are_told() {
         ("./t format --out o regions.bed", "o: Permission denied"),
     ] {
         let mut shell = folder.shell(script);
-        if is_root {
+        if is_root() {
             shell.uid(65_534).gid(65_534);
         }
         let ran = Ran::of(shell.output().expect("a shell runs"));
