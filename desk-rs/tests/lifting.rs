@@ -87,8 +87,12 @@ fn a_line_that_grows_is_not_near() {
     folder.write("a.bed", "t\t0\t100\tn\n");
     let (_, _, ran) = lifted(&folder, "");
     assert!(ran.errors.contains(near), "{}", ran.errors);
-    let (_, _, ran) = lifted(&folder, "--max-grow 6");
-    assert!(ran.errors.contains(near), "{}", ran.errors);
+    // Across the insertion, 149 of 150 bases are kept in a region of 1,149.
+    folder.write("a.bed", "t\t0\t150\tn\n");
+    for (options, is_near) in [("", false), ("--max-grow 8", true)] {
+        let (_, _, ran) = lifted(&folder, options);
+        assert_eq!(ran.errors.contains(near), is_near, "{}", ran.errors);
+    }
 }
 
 #[test]

@@ -26,7 +26,7 @@ input, and as OUT standard output. `--` ends the options.
 
 What is read. Each line of a BED or PSL file is a text of its own, without its line feed; in a chain
 file, each chain is: a blank line ends it, and a line whose first word is `chain` begins one. Lines
-that begin with `#`, or whose first word is `track` or `browser`, are passed over and counted, if all
+that begin with `#`, or with the word `track` or `browser`, are passed over and counted, if all
 their bytes are allowed ones and the first word is no error of a spreadsheet, as `#N/A`. A file that
 holds no text is refused. Nothing is mended: a line is accepted as it stands, or refused.
 
