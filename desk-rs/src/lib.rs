@@ -26,4 +26,4 @@ pub use answer::{meaning, Refusal};
 pub use lift::{convert, lift_position, lift_region, turn};
 pub use lift::{LiftedPosition, LiftedRegion, Tally};
 pub use records::{Bed, Chain, Psl, Row, Strand};
-pub use texts::{check, format, Kind, BLOCK_LIMIT, TEXT_LIMIT};
+pub use texts::{check, format, Kind, Room, BLOCK_LIMIT, TEXT_LIMIT};

@@ -3,7 +3,7 @@
 
 use crate::answer::{taken, Numbers, Refusal};
 use crate::sys;
-use crate::texts::written;
+use crate::texts::Room;
 
 /// Start and end on the other strand of a sequence: size − end and size − start.
 pub fn convert(start: u64, end: u64, size: u64) -> Result<(u64, u64), Refusal> {
@@ -49,7 +49,7 @@ pub fn lift_region(chain: &[u8], start: u64, end: u64) -> Result<LiftedRegion, R
 
 /// The standard text of a chain turned: target and query exchange sides.
 pub fn turn(chain: &[u8]) -> Result<Vec<u8>, Refusal> {
-    written(|out| sys::turn(chain, out))
+    Ok(Room::new().turn(chain)?.to_vec())
 }
 
 /// Bases asked, kept and dropped over a batch of regions.

@@ -3,7 +3,7 @@
 
 use crate::answer::{taken, Numbers, Refusal};
 use crate::sys;
-use crate::texts::{Kind, BLOCK_LIMIT};
+use crate::texts::{Kind, Room, BLOCK_LIMIT, TEXT_LIMIT};
 
 /// The strand of a feature or of a query.
 #[derive(Clone, Copy, Debug, PartialEq, Eq)]
@@ -71,7 +71,16 @@ pub struct Bed<'t> {
 impl<'t> Bed<'t> {
     /// Reads a BED line.
     pub fn parse(text: &'t [u8]) -> Result<Bed<'t>, Refusal> {
-        parsed(Kind::Bed, text, |fields| Bed {
+        Bed::read(&mut [0; PARSE_ROOM], text)
+    }
+
+    /// Reads a BED line; the numbers go through this room.
+    pub fn parse_in(room: &mut Room, text: &'t [u8]) -> Result<Bed<'t>, Refusal> {
+        Bed::read(room.lent(), text)
+    }
+
+    fn read(out: &mut [u8], text: &'t [u8]) -> Result<Bed<'t>, Refusal> {
+        parsed(out, Kind::Bed, text, |fields| Bed {
             word_count: fields.number(),
             chrom: fields.name(),
             chrom_start: fields.number(),
@@ -113,7 +122,16 @@ pub struct Psl<'t> {
 impl<'t> Psl<'t> {
     /// Reads a PSL line.
     pub fn parse(text: &'t [u8]) -> Result<Psl<'t>, Refusal> {
-        parsed(Kind::Psl, text, |fields| Psl {
+        Psl::read(&mut [0; PARSE_ROOM], text)
+    }
+
+    /// Reads a PSL line; the numbers go through this room.
+    pub fn parse_in(room: &mut Room, text: &'t [u8]) -> Result<Psl<'t>, Refusal> {
+        Psl::read(room.lent(), text)
+    }
+
+    fn read(out: &mut [u8], text: &'t [u8]) -> Result<Psl<'t>, Refusal> {
+        parsed(out, Kind::Psl, text, |fields| Psl {
             matches: fields.number(),
             mis_matches: fields.number(),
             rep_matches: fields.number(),
@@ -157,7 +175,16 @@ pub struct Chain<'t> {
 impl<'t> Chain<'t> {
     /// Reads a chain.
     pub fn parse(text: &'t [u8]) -> Result<Chain<'t>, Refusal> {
-        parsed(Kind::Chain, text, |fields| Chain {
+        Chain::read(&mut [0; PARSE_ROOM], text)
+    }
+
+    /// Reads a chain; the numbers go through this room.
+    pub fn parse_in(room: &mut Room, text: &'t [u8]) -> Result<Chain<'t>, Refusal> {
+        Chain::read(room.lent(), text)
+    }
+
+    fn read(out: &mut [u8], text: &'t [u8]) -> Result<Chain<'t>, Refusal> {
+        parsed(out, Kind::Chain, text, |fields| Chain {
             score: fields.number(),
             t_name: fields.name(),
             t_size: fields.number(),
@@ -178,16 +205,18 @@ impl<'t> Chain<'t> {
 const MOST_FIELDS: usize = 20;
 /// Bytes for the numbers of any record.
 const PARSE_ROOM: usize = 8 * (MOST_FIELDS + 3 * BLOCK_LIMIT);
+// A room is long enough for them.
+const _: () = assert!(PARSE_ROOM <= TEXT_LIMIT);
 
 /// Reads a text and builds its record from the numbers, in their order.
 fn parsed<'t, T>(
+    out: &mut [u8],
     kind: Kind,
     text: &'t [u8],
     build: impl FnOnce(&mut Fields<'t, '_>) -> T,
 ) -> Result<T, Refusal> {
-    let mut out = [0; PARSE_ROOM];
-    let count = taken(sys::parse(kind.number(), text, &mut out))?;
-    let numbers = Numbers::of(&out, count);
+    let count = taken(sys::parse(kind.number(), text, out))?;
+    let numbers = Numbers::of(out, count);
     Ok(build(&mut Fields { text, numbers }))
 }
 

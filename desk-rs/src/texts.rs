@@ -34,13 +34,46 @@ pub fn check(kind: Kind, text: &[u8]) -> Result<usize, Refusal> {
 
 /// The standard text of a text.
 pub fn format(kind: Kind, text: &[u8]) -> Result<Vec<u8>, Refusal> {
-    written(|out| sys::format(kind.number(), text, out))
+    Ok(Room::new().format(kind, text)?.to_vec())
 }
 
-/// What an entry writes, given room for the longest text.
-pub(crate) fn written(entry: impl FnOnce(&mut [u8]) -> u64) -> Result<Vec<u8>, Refusal> {
-    let mut out = vec![0; TEXT_LIMIT];
-    let length = taken(entry(&mut out))?;
-    out.truncate(length as usize);
-    Ok(out)
+/// Room for what the entries write, to be used for text after text.
+pub struct Room {
+    bytes: Vec<u8>,
+}
+
+impl Room {
+    /// Room for the longest text, and for the numbers of any record.
+    pub fn new() -> Room {
+        Room {
+            bytes: vec![0; TEXT_LIMIT],
+        }
+    }
+
+    /// The standard text of a text.
+    pub fn format(&mut self, kind: Kind, text: &[u8]) -> Result<&[u8], Refusal> {
+        self.written(|out| sys::format(kind.number(), text, out))
+    }
+
+    /// The standard text of a chain turned: target and query exchange sides.
+    pub fn turn(&mut self, chain: &[u8]) -> Result<&[u8], Refusal> {
+        self.written(|out| sys::turn(chain, out))
+    }
+
+    /// The bytes that an entry counts.
+    fn written(&mut self, entry: impl FnOnce(&mut [u8]) -> u64) -> Result<&[u8], Refusal> {
+        let length = taken(entry(&mut self.bytes))? as usize;
+        Ok(self.bytes.get(..length).unwrap_or(&self.bytes))
+    }
+
+    /// The bytes themselves, for an entry that counts something else.
+    pub(crate) fn lent(&mut self) -> &mut [u8] {
+        &mut self.bytes
+    }
+}
+
+impl Default for Room {
+    fn default() -> Room {
+        Room::new()
+    }
 }

@@ -1,71 +1,10 @@
 //! The command on the sample files and on odd input: its output and its status.
 
-use std::fs;
+mod common;
+
 use std::io::Write;
-use std::path::{Path, PathBuf};
-use std::process::{Command, Output, Stdio};
 
-/// The repository.
-fn root() -> PathBuf {
-    Path::new(env!("CARGO_MANIFEST_DIR")).join("..")
-}
-
-fn command(words: &[&str]) -> Command {
-    let mut command = Command::new(env!("CARGO_BIN_EXE_tenderchock"));
-    command.args(words).current_dir(root());
-    command
-}
-
-/// What a run wrote to standard output and standard error, and its status.
-struct Ran {
-    out: String,
-    errors: String,
-    status: Option<i32>,
-}
-
-impl Ran {
-    fn of(output: Output) -> Ran {
-        let ran = Ran {
-            out: String::from_utf8_lossy(&output.stdout).into_owned(),
-            errors: String::from_utf8_lossy(&output.stderr).into_owned(),
-            status: output.status.code(),
-        };
-        assert!(!ran.errors.contains("panicked"), "{}", ran.errors);
-        ran
-    }
-}
-
-fn run(words: &[&str]) -> Ran {
-    Ran::of(command(words).output().expect("the command runs"))
-}
-
-/// A run with this on standard input.
-fn run_on(words: &[&str], input: &[u8]) -> Ran {
-    let mut child = command(words)
-        .stdin(Stdio::piped())
-        .stdout(Stdio::piped())
-        .stderr(Stdio::piped())
-        .spawn()
-        .expect("the command runs");
-    // The command may end before it has read all.
-    let _ = child.stdin.take().map(|mut stdin| stdin.write_all(input));
-    Ran::of(child.wait_with_output().expect("the command ends"))
-}
-
-/// A folder of this test's own.
-fn folder(name: &str) -> PathBuf {
-    let folder = Path::new(env!("CARGO_TARGET_TMPDIR")).join(name);
-    fs::create_dir_all(&folder).expect("a folder can be made");
-    folder
-}
-
-fn path(folder: &Path, name: &str) -> String {
-    folder
-        .join(name)
-        .to_str()
-        .expect("a plain path")
-        .to_string()
-}
+use common::{piped, run, run_on, Folder, Ran};
 
 #[test]
 fn good_files_are_accepted() {
@@ -116,16 +55,16 @@ fn chains_turn_and_turn_back() {
     let turned = run(&["turn", "examples/a.chain"]);
     assert_eq!(
         turned.out,
-        "chain 100 qB 80 + 47 75 tA 100 - 60 90 7\n9 1 0\n8 0 3\n10\n"
+        "chain 100 qB 80 + 47 75 tA 100 - 60 90 7\n9 1 0\n8 0 3\n10\n\n"
     );
     let back = run_on(&["turn", "-"], turned.out.as_bytes());
     assert_eq!(
         back.out,
-        "chain 100 tA 100 + 10 40 qB 80 - 5 33 7\n10 3 0\n8 0 1\n9\n"
+        "chain 100 tA 100 + 10 40 qB 80 - 5 33 7\n10 3 0\n8 0 1\n9\n\n"
     );
-    let two = format!("{}\n{}", turned.out, back.out);
+    let two = format!("{}{}", turned.out, back.out);
     let ran = run_on(&["turn", "-"], two.as_bytes());
-    assert_eq!(ran.out, format!("{}\n{}", back.out, turned.out));
+    assert_eq!(ran.out, format!("{}{}", back.out, turned.out));
 }
 
 #[test]
@@ -146,8 +85,8 @@ fn a_place_in_a_later_chain_has_its_line() {
 
 #[test]
 fn regions_are_lifted_or_told_why_not() {
-    let folder = folder("lift");
-    let (out, unmapped) = (path(&folder, "out.bed"), path(&folder, "unmapped.bed"));
+    let folder = Folder::new("lift");
+    let (out, unmapped) = (folder.file("out.bed"), folder.file("unmapped.bed"));
     let ran = run(&[
         "lift",
         "examples/a.chain",
@@ -156,12 +95,14 @@ fn regions_are_lifted_or_told_why_not() {
         &unmapped,
     ]);
     assert_eq!(
-        fs::read_to_string(&out).expect("OUT is written"),
-        "qB\t65\t75\tfirst\t500\t-\nqB\t63\t67\tacross\t500\t+\nqB\t47\t75\twhole\t0\t.\n"
+        folder.read("out.bed"),
+        "qB\t65\t75\tfirst\t500\t-\nqB\t47\t75\twhole\t0\t.\t47\t75\t0\t2\t18,10,\t0,18,\n"
     );
     assert_eq!(
-        fs::read_to_string(&unmapped).expect("UNMAPPED is written"),
-        "# refused by 12: no pair for this position or region\n\
+        folder.read("unmapped.bed"),
+        "# keeps 4 of 7 bases\n\
+         tA\t18\t25\tacross\t500\t-\n\
+         # refused by 12: no pair for this position or region\n\
          tA\t20\t23\tgap\n\
          # refused by 12: no pair for this position or region\n\
          tA\t60\t70\n\
@@ -172,42 +113,33 @@ fn regions_are_lifted_or_told_why_not() {
          # refused by 4 at column 4: a number is misspelt, or a list item is empty\n\
          tA\t1,000\t2,000\n"
     );
-    let end = "tally: 60 bases asked, 41 kept, 19 dropped\n";
+    let end = "lines: 9 read = 2 lifted + 6 not lifted + 1 passed over\n\
+               tally: 57 bases asked, 41 kept, 16 dropped\n";
     assert!(ran.errors.ends_with(end), "{}", ran.errors);
-    assert!(ran
-        .errors
-        .contains("3 lifted; of these, 2 dropped bases, and 1 lost columns 7 to 12"));
     assert_eq!((ran.out.as_str(), ran.status), ("", Some(1)));
 }
 
 #[test]
 fn a_line_in_two_chains_is_not_lifted() {
-    let folder = folder("two-chains");
-    let chains = path(&folder, "two.chain");
+    let folder = Folder::new("two-chains");
+    let chains = folder.file("two.chain");
     let two = "chain 1 t 9 + 0 5 q 9 + 0 5 3\n5\n\nchain 1 t 9 + 5 9 r 9 + 0 4 8\n4\n";
-    fs::write(&chains, two).expect("a file can be written");
-    let (out, unmapped) = (path(&folder, "out"), path(&folder, "unmapped"));
+    folder.write("two.chain", two);
+    let (out, unmapped) = (folder.file("out"), folder.file("unmapped"));
     let ran = run_on(
         &["lift", &chains, "-", &out, &unmapped],
         b"t 0 5\nt 4 6\nt 6 8\n",
     );
-    assert_eq!(
-        fs::read_to_string(&out).expect("OUT is written"),
-        "q\t0\t5\nr\t1\t3\n"
-    );
+    assert_eq!(folder.read("out"), "q\t0\t5\nr\t1\t3\n");
     let told = "# it keeps bases in 2 chains, with the ids 3, 8\nt 4 6\n";
-    assert_eq!(
-        fs::read_to_string(&unmapped).expect("UNMAPPED is written"),
-        told
-    );
+    assert_eq!(folder.read("unmapped"), told);
     assert_eq!(ran.status, Some(1));
 }
 
 #[test]
 fn nothing_is_lifted_through_a_bad_chain_file() {
-    let folder = folder("bad-chain");
-    let out = path(&folder, "out");
-    let unmapped = path(&folder, "unmapped");
+    let folder = Folder::new("bad-chain");
+    let (out, unmapped) = (folder.file("out"), folder.file("unmapped"));
     let bad = b"chain 100 tA 100 + 10 40 qB 80 - 5 33 7\n10 3 0\n8 0 1\n10\n";
     let ran = run_on(&["lift", "-", "examples/regions.bed", &out, &unmapped], bad);
     assert!(
@@ -216,20 +148,17 @@ fn nothing_is_lifted_through_a_bad_chain_file() {
         ran.errors
     );
     assert_eq!(ran.status, Some(1));
-    assert!(!Path::new(&out).exists() && !Path::new(&unmapped).exists());
+    assert_eq!(folder.names(), [""; 0]);
 }
 
 #[test]
 fn inputs_are_never_written_over() {
-    let ran = run(&[
-        "lift",
-        "examples/a.chain",
-        "examples/regions.bed",
-        "/dev/null",
-        "examples/../examples/a.chain",
-    ]);
+    let folder = Folder::new("written-over");
+    let ran = folder
+        .sh("mkdir d; cp $E/a.chain .; $T lift a.chain $E/regions.bed /dev/null d/../a.chain");
     assert_eq!(ran.status, Some(2));
-    assert!(ran.errors.contains("would be written over"));
+    assert!(ran.errors.contains("are one file; nothing is written"));
+    assert_eq!(folder.sh("cmp a.chain $E/a.chain").status, Some(0));
 }
 
 #[test]
@@ -270,8 +199,8 @@ fn help_and_bad_usage() {
 
 #[test]
 fn files_that_cannot_be_read_are_told_and_the_others_checked() {
-    let folder = folder("unread.bed");
-    let folder = folder.to_str().expect("a plain path");
+    let folder = Folder::new("unread.bed");
+    let folder = folder.path.to_str().expect("a plain path");
     let ran = run(&["check", "examples/none.bed", folder, "examples/a.chain"]);
     assert!(ran.errors.contains("examples/none.bed: "));
     assert!(ran.errors.contains("unread.bed: "));
@@ -341,12 +270,7 @@ fn no_bytes_make_it_panic() {
 #[test]
 fn a_reader_that_goes_away_makes_no_noise() {
     let many = b"chr1 x 2\n".repeat(20_000);
-    let mut child = command(&["check", "--kind", "bed", "-"])
-        .stdin(Stdio::piped())
-        .stdout(Stdio::piped())
-        .stderr(Stdio::piped())
-        .spawn()
-        .expect("the command runs");
+    let mut child = piped(&["check", "--kind", "bed", "-"]);
     drop(child.stdout.take());
     let _ = child.stdin.take().map(|mut stdin| stdin.write_all(&many));
     let ran = Ran::of(child.wait_with_output().expect("the command ends"));

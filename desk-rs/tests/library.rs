@@ -1,7 +1,7 @@
 //! The bench samples through the library's functions, field by field.
 
 use tenderchock::{check, convert, format, lift_position, lift_region, turn};
-use tenderchock::{Bed, Chain, Kind, LiftedPosition, LiftedRegion, Psl, Refusal, Row};
+use tenderchock::{Bed, Chain, Kind, LiftedPosition, LiftedRegion, Psl, Refusal, Room, Row};
 use tenderchock::{Strand, Tally};
 
 const CHAIN_A: &[u8] = b"chain 100 tA 100 + 10 40 qB 80 - 5 33 7\n10 3 0\n8 0 1\n9\n";
@@ -213,4 +213,19 @@ fn spans_convert() {
     assert_eq!(convert(5, 33, 80), Ok((47, 75)));
     assert_eq!(refused(convert(33, 5, 80)), (7, 0));
     assert_eq!(refused(convert(0, 1, 2_147_483_648)), (5, 0));
+}
+
+#[test]
+fn a_room_is_used_again() {
+    let mut room = Room::new();
+    for _ in 0..2 {
+        let bed = format(Kind::Bed, BED_000).expect("a BED line");
+        assert_eq!(room.format(Kind::Bed, BED_000), Ok(&bed[..]));
+        assert_eq!(room.format(Kind::Bed, b"c 7 9"), Ok(&b"c\t7\t9\n"[..]));
+        assert_eq!(refused(room.format(Kind::Bed, b"c 7")), (2, 3));
+        assert_eq!(room.turn(CHAIN_A), Ok(CHAIN_A_TURNED));
+        assert_eq!(Bed::parse_in(&mut room, BED_000), Bed::parse(BED_000));
+        assert_eq!(Psl::parse_in(&mut room, PSL_A), Psl::parse(PSL_A));
+        assert_eq!(Chain::parse_in(&mut room, CHAIN_A), Chain::parse(CHAIN_A));
+    }
 }

@@ -3,54 +3,18 @@
 use std::ffi::{OsStr, OsString};
 use std::path::{Path, PathBuf};
 
+use crate::options::Words;
+use crate::ratio::Ratio;
 use tenderchock::Kind;
-
-pub const HELP: &str = "\
-tenderchock: reads, checks, writes and lifts BED lines, PSL lines and chains
-
-  tenderchock check FILE..     tell every refusal, and count what is accepted
-  tenderchock format FILE..    write what is accepted as its standard text, to standard output
-  tenderchock turn CHAIN       write each chain with target and query exchanged, to standard output
-  tenderchock lift CHAIN IN.bed OUT UNMAPPED
-                               lift BED lines through the chains of a file
-  tenderchock convert START END SIZE
-                               start and end on the other strand of a sequence
-  tenderchock --help           this text
-
-FILE is a .bed, .psl or .chain file; --kind bed, --kind psl or --kind chain says what a file with
-another ending holds. `-` is standard input. `--` ends the options.
-
-What is read. Each line of a BED or PSL file is a text of its own, without its line feed; in a chain
-file, each chain is, and blank lines part them. Lines that begin with `#`, or whose first word is
-`track` or `browser`, are passed over and counted. A file that holds no text is refused. Nothing is
-mended: a line is accepted as it stands, or refused.
-
-Refusals. A refusal is one line: file, line and column (bytes, from 1), the number in the refusal
-ledger, what it means, the word at fault, and where it helps a hint. `check` tells them on standard
-output, the other commands on standard error. A `note` is about a line that is accepted, as where a
-name looks like a date that a spreadsheet made. A summary ends the work on each file.
-
-lift. A line is lifted from chromStart to chromEnd through the chain whose target is its chrom and in
-which it keeps bases. OUT gets chrom, start and end on the query, the smallest region that holds
-every base kept; name and score as they are; the strand, turned round if the chain's query strand is
-`-`. Columns 7 to 12 (thick part, colour, blocks) are left out and counted: to lift blocks, give
-each a line of its own. UNMAPPED gets every other line as it stands, after a `#` line that says why:
-it is refused, no chain has its chrom, it keeps no base (12), it is not inside the target (13), or it
-keeps bases in more than one chain. If a chain of the file is refused, nothing is lifted. The tally
-at the end counts the bases asked, kept and dropped of the lines sent through a chain.
-
-Exit status. 0: all was accepted (and lifted); 1: something was refused or not lifted; 2: bad usage,
-or a file that can't be read or written.
-";
 
 /// What to do.
 #[derive(Debug, PartialEq, Eq)]
 pub enum Command {
     Help,
-    Check(Vec<Input>),
-    Format(Vec<Input>),
-    Turn(Input),
-    Lift(LiftFiles),
+    Check(Vec<Input>, Telling),
+    Format(Vec<Input>, Rewriting, Telling),
+    Turn(Input, Rewriting, Telling),
+    Lift(Box<LiftFiles>, Lifting, Telling),
     Convert { start: u64, end: u64, size: u64 },
 }
 
@@ -63,7 +27,15 @@ pub struct Input {
 
 impl Input {
     pub fn is_standard(&self) -> bool {
-        self.path == Path::new("-")
+        is_standard(&self.path)
+    }
+
+    /// How it is called in messages.
+    pub fn name(&self) -> String {
+        match self.is_standard() {
+            true => "standard input".to_string(),
+            false => self.path.display().to_string(),
+        }
     }
 }
 
@@ -74,77 +46,138 @@ pub struct LiftFiles {
     pub bed: Input,
     pub out: PathBuf,
     pub unmapped: PathBuf,
+    pub summary: Option<PathBuf>,
+}
+
+/// How much is told.
+#[derive(Clone, Copy, Debug, Default, PartialEq, Eq)]
+pub struct Telling {
+    /// Every refusal, however many are alike.
+    pub all: bool,
+    /// Refusals only.
+    pub quiet: bool,
+    /// A note counts as a refusal.
+    pub strict: bool,
+    /// Refusals and notes as rows of a table.
+    pub tsv: bool,
+}
+
+/// How texts are written.
+#[derive(Clone, Debug, Default, PartialEq, Eq)]
+pub struct Rewriting {
+    pub out: Option<PathBuf>,
+    /// What is accepted is written, whatever else is refused.
+    pub keep_going: bool,
+    /// Block lines with tabs.
+    pub tabs: bool,
+}
+
+/// How lines are lifted.
+#[derive(Clone, Copy, Debug, PartialEq, Eq)]
+pub struct Lifting {
+    /// The share of its bases that a region must keep.
+    pub min_kept: Ratio,
+    /// How many times longer the query region may be.
+    pub max_grow: Ratio,
+    pub several: Several,
+    /// Blocks that are lost are left out.
+    pub drop_blocks: bool,
+    /// Blocks are not lifted, only the span.
+    pub span: bool,
+    /// Leading lines that are passed over go to OUT.
+    pub header: bool,
+}
+
+impl Default for Lifting {
+    /// What is done if nothing is said.
+    fn default() -> Lifting {
+        Lifting {
+            min_kept: Ratio::ONE,
+            max_grow: Ratio::TWO,
+            several: Several::None,
+            drop_blocks: false,
+            span: false,
+            header: false,
+        }
+    }
+}
+
+/// What is done with a region in several chains.
+#[derive(Clone, Copy, Debug, PartialEq, Eq)]
+pub enum Several {
+    /// It isn't lifted.
+    None,
+    /// Through the chain with the greatest score, then the smallest id.
+    Best,
+    /// Through each.
+    All,
 }
 
 /// The command that these words spell, or what is wrong with them.
 pub fn read(words: &[OsString]) -> Result<Command, String> {
-    let Words { kind, plain, help } = sorted(words)?;
-    let Some((command, rest)) = plain.split_first() else {
-        return match help {
+    let words = Words::sorted(words)?;
+    let Some((command, rest)) = words.plain.split_first() else {
+        return match words.help {
             true => Ok(Command::Help),
             false => Err("no command is given".into()),
         };
     };
-    if help {
-        return Ok(Command::Help);
-    }
-    match command.to_str() {
-        Some("help") => Ok(Command::Help),
-        Some("check") => Ok(Command::Check(inputs(rest, kind)?)),
-        Some("format") => Ok(Command::Format(inputs(rest, kind)?)),
-        Some("turn") => turn(rest, kind),
-        Some("lift") => lift(rest, kind),
-        Some("convert") => convert(rest, kind),
-        _ => Err(format!("there is no command `{}`", command.display())),
-    }
-}
-
-/// The options, and the other words in their order.
-struct Words<'w> {
-    kind: Option<Kind>,
-    plain: Vec<&'w OsStr>,
-    help: bool,
-}
-
-fn sorted(words: &[OsString]) -> Result<Words<'_>, String> {
-    let mut sorted = Words {
-        kind: None,
-        plain: Vec::new(),
-        help: false,
+    let command = match command.to_str() {
+        _ if words.help => "help",
+        Some(command @ ("help" | "check" | "format" | "turn" | "lift" | "convert")) => command,
+        _ => return Err(format!("there is no command `{}`", command.display())),
     };
-    let mut left = words.iter();
-    while let Some(word) = left.next() {
-        match word.to_str() {
-            Some("--help" | "-h") => sorted.help = true,
-            Some("--kind") => sorted.kind = Some(kind_named(left.next())?),
-            Some("--") => sorted.plain.extend(left.by_ref().map(OsString::as_os_str)),
-            Some("-") => sorted.plain.push(word),
-            Some(other) if other.starts_with('-') => {
-                return Err(format!("there is no option `{other}`"));
-            }
-            _ => sorted.plain.push(word),
-        }
+    if command != "help" {
+        words.allowed(command)?;
     }
-    Ok(sorted)
-}
-
-fn kind_named(word: Option<&OsString>) -> Result<Kind, String> {
-    match word.and_then(|word| word.to_str()) {
-        Some("bed") => Ok(Kind::Bed),
-        Some("psl") => Ok(Kind::Psl),
-        Some("chain") => Ok(Kind::Chain),
-        _ => Err("--kind must be followed by bed, psl or chain".into()),
+    match command {
+        "check" => Ok(Command::Check(inputs(rest, &words)?, telling(&words))),
+        "format" => format(rest, &words),
+        "turn" => turn(rest, &words),
+        "lift" => lift(rest, &words),
+        "convert" => convert(rest),
+        _ => Ok(Command::Help),
     }
 }
 
-fn inputs(words: &[&OsStr], kind: Option<Kind>) -> Result<Vec<Input>, String> {
-    if words.is_empty() {
+fn telling(words: &Words) -> Telling {
+    Telling {
+        all: words.flag("--all"),
+        quiet: words.flag("--quiet"),
+        strict: words.flag("--strict"),
+        tsv: words.flag("--tsv"),
+    }
+}
+
+fn rewriting(words: &Words) -> Result<Rewriting, String> {
+    let out = words.path("--out");
+    out.as_deref().map_or(Ok(()), not_compressed)?;
+    Ok(Rewriting {
+        out,
+        keep_going: words.flag("--keep-going"),
+        tabs: words.flag("--tabs"),
+    })
+}
+
+fn kind(words: &Words) -> Result<Option<Kind>, String> {
+    match words.value("--kind").map(OsStr::to_str) {
+        None => Ok(None),
+        Some(Some("bed")) => Ok(Some(Kind::Bed)),
+        Some(Some("psl")) => Ok(Some(Kind::Psl)),
+        Some(Some("chain")) => Ok(Some(Kind::Chain)),
+        Some(_) => Err("--kind must be followed by bed, psl or chain".into()),
+    }
+}
+
+fn inputs(files: &[OsString], words: &Words) -> Result<Vec<Input>, String> {
+    if files.is_empty() {
         return Err("no file is given".into());
     }
-    if words.iter().filter(|word| **word == "-").count() > 1 {
+    if files.iter().filter(|word| *word == "-").count() > 1 {
         return Err("standard input can be read only once".into());
     }
-    words.iter().map(|word| input(word, kind)).collect()
+    let kind = kind(words)?;
+    files.iter().map(|word| input(word, kind)).collect()
 }
 
 /// A file of this kind, or else of the kind that its ending says.
@@ -159,9 +192,13 @@ fn input(word: &OsStr, kind: Option<Kind>) -> Result<Input, String> {
     }
 }
 
+/// The ending that counts; `.gz` doesn't.
 fn kind_of_ending(path: &Path) -> Option<Kind> {
-    let ending = path.extension()?.to_str()?.to_ascii_lowercase();
-    match ending.as_str() {
+    let plain = match is_compressed(path) {
+        true => Path::new(path.file_stem()?),
+        false => path,
+    };
+    match ending(plain)?.as_str() {
         "bed" => Some(Kind::Bed),
         "psl" => Some(Kind::Psl),
         "chain" => Some(Kind::Chain),
@@ -169,15 +206,46 @@ fn kind_of_ending(path: &Path) -> Option<Kind> {
     }
 }
 
-fn turn(words: &[&OsStr], kind: Option<Kind>) -> Result<Command, String> {
-    match (words, kind) {
-        ([chain], None | Some(Kind::Chain)) => Ok(Command::Turn(input(chain, Some(Kind::Chain))?)),
+fn ending(path: &Path) -> Option<String> {
+    Some(path.extension()?.to_str()?.to_ascii_lowercase())
+}
+
+fn is_compressed(path: &Path) -> bool {
+    ending(path).is_some_and(|ending| ending == "gz")
+}
+
+fn is_standard(path: &Path) -> bool {
+    path == Path::new("-")
+}
+
+/// Nothing is written compressed.
+fn not_compressed(path: &Path) -> Result<(), String> {
+    match is_compressed(path) {
+        true => Err(format!(
+            "{}: no compressed file is written; write a plain one and run gzip on it",
+            path.display()
+        )),
+        false => Ok(()),
+    }
+}
+
+fn format(files: &[OsString], words: &Words) -> Result<Command, String> {
+    let inputs = inputs(files, words)?;
+    Ok(Command::Format(inputs, rewriting(words)?, telling(words)))
+}
+
+fn turn(files: &[OsString], words: &Words) -> Result<Command, String> {
+    match (files, kind(words)?) {
+        ([chain], None | Some(Kind::Chain)) => {
+            let input = input(chain, Some(Kind::Chain))?;
+            Ok(Command::Turn(input, rewriting(words)?, telling(words)))
+        }
         _ => Err("turn takes one chain file".into()),
     }
 }
 
-fn lift(words: &[&OsStr], kind: Option<Kind>) -> Result<Command, String> {
-    let ([chain, bed, out, unmapped], None) = (words, kind) else {
+fn lift(files: &[OsString], words: &Words) -> Result<Command, String> {
+    let [chain, bed, out, unmapped] = files else {
         return Err("lift takes four files: CHAIN IN.bed OUT UNMAPPED".into());
     };
     let files = LiftFiles {
@@ -185,43 +253,75 @@ fn lift(words: &[&OsStr], kind: Option<Kind>) -> Result<Command, String> {
         bed: input(bed, Some(Kind::Bed))?,
         out: out.into(),
         unmapped: unmapped.into(),
+        summary: words.path("--summary"),
     };
     if files.chain.is_standard() && files.bed.is_standard() {
         return Err("standard input can be read only once".into());
     }
-    if [&files.out, &files.unmapped].contains(&&PathBuf::from("-")) {
-        return Err("lift writes files; `-` stands for standard input alone".into());
+    for file in [
+        Some(&files.out),
+        Some(&files.unmapped),
+        files.summary.as_ref(),
+    ] {
+        file.map_or(Ok(()), |file| not_compressed(file))?;
     }
-    let paths = [
-        &files.chain.path,
-        &files.bed.path,
-        &files.out,
-        &files.unmapped,
-    ];
-    for (at, written) in paths.iter().enumerate().skip(2) {
-        if paths[..at].iter().any(|other| same_file(other, written)) {
-            return Err(format!("{} would be written over", written.display()));
+    for file in [Some(&files.unmapped), files.summary.as_ref()] {
+        if file.is_some_and(|file| is_standard(file)) {
+            return Err("only OUT can be `-`, standard output".into());
         }
     }
-    Ok(Command::Lift(files))
+    Ok(Command::Lift(
+        Box::new(files),
+        lifting(words)?,
+        telling(words),
+    ))
 }
 
-/// Whether two paths lead to one file, also by another name.
-fn same_file(left: &Path, right: &Path) -> bool {
-    match (left.canonicalize(), right.canonicalize()) {
-        (Ok(left), Ok(right)) => left == right && !is_device(&left),
-        _ => left == right,
+fn lifting(words: &Words) -> Result<Lifting, String> {
+    let usual = Lifting::default();
+    let min_kept = ratio(words, "--min-kept", usual.min_kept)?;
+    let max_grow = ratio(words, "--max-grow", usual.max_grow)?;
+    if !min_kept.is_share() {
+        return Err("--min-kept must be above 0 and at most 1".into());
+    }
+    if !max_grow.is_at_least_one() {
+        return Err("--max-grow must be at least 1".into());
+    }
+    let lifting = Lifting {
+        min_kept,
+        max_grow,
+        several: several(words)?,
+        drop_blocks: words.flag("--drop-blocks"),
+        span: words.flag("--span"),
+        header: words.flag("--header"),
+    };
+    match lifting.span && lifting.drop_blocks {
+        true => Err("--span lifts no blocks, so --drop-blocks has none to drop".into()),
+        false => Ok(lifting),
     }
 }
 
-/// A device, as /dev/null, isn't harmed by writing twice.
-fn is_device(path: &Path) -> bool {
-    path.metadata()
-        .is_ok_and(|known| !known.is_file() && !known.is_dir())
+fn ratio(words: &Words, name: &str, usual: Ratio) -> Result<Ratio, String> {
+    match words.value(name) {
+        None => Ok(usual),
+        Some(value) => value
+            .to_str()
+            .and_then(Ratio::read)
+            .ok_or_else(|| format!("{name} must be followed by a number such as 0.95")),
+    }
 }
 
-fn convert(words: &[&OsStr], kind: Option<Kind>) -> Result<Command, String> {
-    let ([start, end, size], None) = (words, kind) else {
+fn several(words: &Words) -> Result<Several, String> {
+    match words.value("--several").map(OsStr::to_str) {
+        None | Some(Some("none")) => Ok(Several::None),
+        Some(Some("best")) => Ok(Several::Best),
+        Some(Some("all")) => Ok(Several::All),
+        Some(_) => Err("--several must be followed by none, best or all".into()),
+    }
+}
+
+fn convert(words: &[OsString]) -> Result<Command, String> {
+    let [start, end, size] = words else {
         return Err("convert takes three numbers: START END SIZE".into());
     };
     Ok(Command::Convert {
@@ -255,16 +355,23 @@ mod tests {
 
     #[test]
     fn the_ending_or_the_option_says_the_kind() {
-        let Ok(Command::Check(inputs)) = read_words("check a.bed b.PSL c.over.chain") else {
+        let Ok(Command::Check(inputs, _)) = read_words("check a.bed b.PSL c.over.chain") else {
             panic!("three files");
         };
         let kinds: Vec<Kind> = inputs.iter().map(|input| input.kind).collect();
         assert_eq!(kinds, [Kind::Bed, Kind::Psl, Kind::Chain]);
-        let Ok(Command::Check(inputs)) = read_words("check --kind psl a.txt -") else {
+        let Ok(Command::Check(inputs, _)) = read_words("check --kind psl a.txt -") else {
             panic!("two files");
         };
         assert!(inputs.iter().all(|input| input.kind == Kind::Psl));
+        let Ok(Command::Check(inputs, _)) = read_words("check a.bed.gz b.Chain.GZ") else {
+            panic!("two files");
+        };
+        let kinds: Vec<Kind> = inputs.iter().map(|input| input.kind).collect();
+        assert_eq!(kinds, [Kind::Bed, Kind::Chain]);
+        assert!(read_words("check --kind=psl a.txt").is_ok());
         assert!(read_words("check a.txt").is_err());
+        assert!(read_words("check a.gz").is_err());
         assert!(read_words("check -").is_err());
     }
 
@@ -276,15 +383,27 @@ mod tests {
             "check",
             "check --kind",
             "check --kind maf a",
-            "check --all a.bed",
+            "check --most a.bed",
+            "check --span a.bed",
+            "check --all --all a.bed",
+            "check --all=yes a.bed",
+            "check --kind=maf a",
+            "format a.bed --out",
+            "format a.bed --out b.bed.gz",
+            "lift --kind bed a.chain b.bed out bad",
+            "lift --min-kept 0 a.chain b.bed out bad",
+            "lift --min-kept 1.01 a.chain b.bed out bad",
+            "lift --max-grow 0.5 a.chain b.bed out bad",
+            "lift --several some a.chain b.bed out bad",
+            "lift --span --drop-blocks a.chain b.bed out bad",
+            "lift --summary - a.chain b.bed out bad",
+            "lift a.chain b.bed out.GZ bad",
             "turn",
             "turn a.chain b.chain",
             "turn --kind bed a",
             "lift a.chain b.bed out",
             "lift - - out bad",
-            "lift a.chain b.bed - bad",
-            "lift a.chain b.bed b.bed bad",
-            "lift a.chain b.bed out out",
+            "lift a.chain b.bed out -",
             "convert 1 2",
             "convert 1 2 x",
             "convert 1 02 3",
@@ -297,7 +416,7 @@ mod tests {
 
     #[test]
     fn two_dashes_end_the_options() {
-        let Ok(Command::Check(inputs)) = read_words("check -- --help.bed") else {
+        let Ok(Command::Check(inputs, _)) = read_words("check -- --help.bed") else {
             panic!("a file");
         };
         assert_eq!(inputs[0].path, Path::new("--help.bed"));

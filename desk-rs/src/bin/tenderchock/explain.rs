@@ -98,23 +98,65 @@ impl<'t> Fault<'t> {
     }
 }
 
-/// A refusal as one line, without a line feed.
-pub fn refusal(file: &str, kind: Kind, text: &Text, refusal: Refusal) -> String {
-    let (line, column) = text.locate(refusal.place);
-    let fault = Fault::new(kind, text, refusal);
-    let Refusal { number, .. } = refusal;
-    let mut told = format!(
-        "{file}:{line}:{column}: refused by {number}: {}",
-        refusal.meaning()
-    );
-    let what = fault.what();
-    if !what.is_empty() {
-        told += &format!(": {what}");
+/// A refusal in words.
+pub struct Told {
+    /// Its line in the file, and its column, from 1.
+    pub line: u64,
+    pub column: usize,
+    pub number: u8,
+    pub meaning: &'static str,
+    /// What is at fault, and what may lie behind it; empty if nothing is known.
+    pub fault: String,
+    pub hint: String,
+}
+
+impl Told {
+    pub fn new(kind: Kind, text: &Text, refusal: Refusal) -> Told {
+        let (line, column) = text.locate(refusal.place);
+        let fault = Fault::new(kind, text, refusal);
+        Told {
+            line,
+            column,
+            number: refusal.number,
+            meaning: refusal.meaning(),
+            fault: fault.what(),
+            hint: hints::hint(&fault).unwrap_or_default(),
+        }
     }
-    if let Some(hint) = hints::hint(&fault) {
-        told += &format!(" (hint: {hint})");
+
+    /// One line for a reader, without a line feed.
+    pub fn sentence(&self, file: &str) -> String {
+        let mut told = format!(
+            "{file}:{}:{}: refused by {}: {}",
+            self.line, self.column, self.number, self.meaning
+        );
+        if !self.fault.is_empty() {
+            told += &format!(": {}", self.fault);
+        }
+        if !self.hint.is_empty() {
+            told += &format!(" (hint: {})", self.hint);
+        }
+        told
     }
-    told
+
+    /// The columns of ROW_HEADING, parted by tabs.
+    pub fn row(&self, file: &str) -> String {
+        row(
+            file,
+            self.line,
+            self.column,
+            self.number,
+            [self.meaning, &self.fault, &self.hint],
+        )
+    }
+}
+
+/// What the columns of a row hold; a note has the number 0.
+pub const ROW_HEADING: &str = "file\tline\tcolumn\tnumber\tmeaning\tfault\thint";
+
+pub fn row(file: &str, line: u64, column: usize, number: u8, words: [&str; 3]) -> String {
+    let file = file.replace(['\t', '\n', '\r'], "?");
+    format!("{file}\t{line}\t{column}\t{number}\t{}", words.join("\t"))
 }
 
 /// A word between quotation marks; odd bytes as `\x..`, and long words cut.

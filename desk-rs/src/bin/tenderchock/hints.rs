@@ -2,6 +2,7 @@
 //! files. A hint mends nothing.
 
 use crate::explain::Fault;
+use crate::notes::{self, looks_like_date};
 use tenderchock::Kind;
 
 /// A hint for this refusal, if there is one.
@@ -10,9 +11,7 @@ pub fn hint(fault: &Fault) -> Option<String> {
         2 => count_hint(fault).map(String::from),
         3 => byte_hint(fault).map(String::from),
         4 => number_hint(fault).map(String::from),
-        5 | 6 => fault
-            .field()
-            .map(|field| format!("it must be {}", field.holds)),
+        5 | 6 => range_hint(fault),
         7 => span_hint(fault).map(String::from),
         8 => list_hint(fault),
         9 => Some(block_rule(fault.kind).into()),
@@ -31,8 +30,6 @@ fn count_hint(fault: &Fault) -> Option<&'static str> {
         Some("an empty line; delete it")
     } else if fault.kind == Kind::Psl && is_psl_heading(first) {
         Some("this is BLAT's heading; run it with -noHead, or delete these lines")
-    } else if fault.kind == Kind::Chain && !fault.first_line && first == b"chain" {
-        Some("a blank line must stand between two chains")
     } else if has_empty_cell(line) {
         Some("an empty cell; tabs in a row count as one, so fill it")
     } else if fault.words.len() == 1 && line.iter().any(|byte| matches!(byte, b',' | b';')) {
@@ -47,7 +44,7 @@ fn is_psl_heading(first: &[u8]) -> bool {
 }
 
 fn has_empty_cell(line: &[u8]) -> bool {
-    line.starts_with(b"\t") || line.ends_with(b"\t") || line.windows(2).any(|two| two == b"\t\t")
+    notes::empty_cell(line).is_some()
 }
 
 /// 3: the byte in words.
@@ -61,7 +58,9 @@ pub fn byte_named(byte: u8) -> String {
 
 fn byte_hint(fault: &Fault) -> Option<&'static str> {
     let from = fault.line.get(fault.place..).unwrap_or_default();
-    if from.starts_with(b"\r") {
+    if from.len() > 1 && from.starts_with(b"\r") {
+        Some("a carriage return inside the line; if lines should end there, save with Unix line ends")
+    } else if from.starts_with(b"\r") {
         Some("the line ends as Windows writes it; save with Unix line ends")
     } else if from.starts_with(b"\xEF\xBB\xBF") {
         Some("a byte order mark; save as plain text, or as UTF-8 without the mark")
@@ -78,6 +77,16 @@ fn byte_hint(fault: &Fault) -> Option<&'static str> {
         Some("only plain ASCII is allowed: no accents, typographic quotes or long dashes")
     } else {
         None
+    }
+}
+
+/// 5 and 6: what may stand in the column.
+fn range_hint(fault: &Fault) -> Option<String> {
+    match fault.word().starts_with(b"#") {
+        true => Some("an error that a spreadsheet left in the cell".into()),
+        false => fault
+            .field()
+            .map(|field| format!("it must be {}", field.holds)),
     }
 }
 
@@ -128,40 +137,6 @@ fn is_power(word: &[u8]) -> bool {
         })
     };
     number(parts.next()) && number(parts.next()) && parts.next().is_none()
-}
-
-/// What is odd about a name that is accepted.
-pub fn name_note(name: &[u8]) -> Option<&'static str> {
-    if looks_like_date(name) {
-        Some("looks like a date; spreadsheets make dates of names such as SEPT2")
-    } else if name.contains(&b'"') {
-        Some("holds quotation marks, which are part of it")
-    } else {
-        None
-    }
-}
-
-/// Whether a spreadsheet may have made a date of a name such as SEPT2.
-fn looks_like_date(word: &[u8]) -> bool {
-    const MONTHS: [&[u8]; 13] = [
-        b"jan", b"feb", b"mar", b"apr", b"may", b"jun", b"jul", b"aug", b"sep", b"sept", b"oct",
-        b"nov", b"dec",
-    ];
-    let parts: Vec<&[u8]> = word.split(|byte| matches!(byte, b'-' | b'/')).collect();
-    let is_month = |part: &&[u8]| MONTHS.contains(&&part.to_ascii_lowercase()[..]);
-    let is_number =
-        |part: &&[u8]| matches!(part.len(), 1 | 2 | 4) && part.iter().all(u8::is_ascii_digit);
-    let months = parts.iter().filter(|part| is_month(part)).count();
-    let numbers = parts.iter().filter(|part| is_number(part)).count();
-    let years = parts
-        .iter()
-        .filter(|part| part.len() == 4 && is_number(part))
-        .count();
-    match parts.len() {
-        2 => months == 1 && numbers == 1,
-        3 => (months == 1 && numbers == 2) || (numbers == 3 && years == 1),
-        _ => false,
-    }
 }
 
 /// 7: the rule of the end that the place stands at.
@@ -227,28 +202,3 @@ fn block_rule(kind: Kind) -> &'static str {
 const COUNT_RULE: &str =
     "matches, misMatches, repMatches and nCount must add up to the block sizes, \
      and each pair of insert columns must count the gaps on its side and their bases";
-
-#[cfg(test)]
-mod tests {
-    use super::looks_like_date;
-
-    #[test]
-    fn dates_are_told_from_names() {
-        for date in [
-            "2-Sep",
-            "Sep-02",
-            "1-MAR",
-            "2006-09-02",
-            "9/2/2006",
-            "2-sept-2006",
-            "Mar/01",
-        ] {
-            assert!(looks_like_date(date.as_bytes()), "{date}");
-        }
-        for name in [
-            "", "-", "SEPT2", "exon-2", "chr1", "1-2", "12-34-56", "HLA-A", "Mar", "2-Sep-x", "///",
-        ] {
-            assert!(!looks_like_date(name.as_bytes()), "{name}");
-        }
-    }
-}

@@ -1,12 +1,11 @@
 //! The texts of a file: the lines of a BED or PSL file, the chains of a chain
 //! file. A text keeps the lines that it stands in, so that places can be told.
 
-use std::fs::File;
 use std::io::{self, BufRead, BufReader, Read};
 
-use crate::args::Input;
-use crate::outcome::Trouble;
-use tenderchock::{Kind, TEXT_LIMIT};
+use crate::passing::{is_blank, passing, Passing};
+use crate::source::{shows_foreign, Source};
+use tenderchock::{Kind, Refusal, TEXT_LIMIT};
 
 /// One text, without a line feed at its end.
 #[derive(Debug, Default, PartialEq, Eq)]
@@ -14,9 +13,40 @@ pub struct Text {
     pub bytes: Vec<u8>,
     /// For each line: where it starts in the text, and its number in the file.
     lines: Vec<(usize, u64)>,
+    /// A refusal that stands before any of the library's.
+    fault: Option<Refusal>,
 }
 
 impl Text {
+    /// What the library says of the text, unless it is refused already.
+    pub fn judged<'t, T>(
+        &'t self,
+        judge: impl FnOnce(&'t [u8]) -> Result<T, Refusal>,
+    ) -> Result<T, Refusal> {
+        match self.fault {
+            Some(refusal) => Err(refusal),
+            None => judge(&self.bytes),
+        }
+    }
+
+    fn clear(&mut self) {
+        self.bytes.clear();
+        self.lines.clear();
+        self.fault = None;
+    }
+
+    /// Refuses the text for a place in the line that is added next: a bad fixed word.
+    fn refuse_next(&mut self, place: usize) {
+        let start = match self.is_empty() {
+            true => 0,
+            false => self.bytes.len() + 1,
+        };
+        if start <= TEXT_LIMIT {
+            let place = start + place;
+            self.fault.get_or_insert(Refusal { number: 6, place });
+        }
+    }
+
     /// The file's line that a place stands in, and the place's column, from 1.
     pub fn locate(&self, place: usize) -> (u64, usize) {
         let (start, number) = self.line_of(place);
@@ -67,29 +97,57 @@ impl Text {
     }
 }
 
-/// The texts of a file, one after the other.
+/// What comes next in a file.
+pub enum Item<'t> {
+    Text(&'t Text),
+    PassedOver(PassedOver<'t>),
+}
+
+/// A line that belongs to no text.
+pub struct PassedOver<'t> {
+    pub number: u64,
+    pub line: &'t [u8],
+    /// Whether it may be a record that somebody took out.
+    pub noted: bool,
+}
+
+/// The texts of a file, one after the other, and the lines passed over among them.
 pub struct Texts<R> {
     source: R,
     kind: Kind,
     line: Vec<u8>,
+    text: Text,
+    /// Whether the text's lines go on behind a line that was passed over.
+    open: bool,
+    /// Whether the line is read already, and belongs to the next text.
+    held: bool,
+    /// Whether there was a text.
+    any: bool,
+    /// Whether the file is no text, or one in UTF-16.
+    pub foreign: bool,
     /// Lines read so far.
     pub lines: u64,
     /// Lines passed over so far.
     pub passed_over: u64,
-    any: bool,
 }
 
-/// Opens a file; `-` is standard input.
-pub fn open(input: &Input) -> Result<Texts<Box<dyn BufRead>>, Trouble> {
-    let source: Box<dyn BufRead> = if input.is_standard() {
-        Box::new(BufReader::new(io::stdin()))
-    } else {
-        match File::open(&input.path) {
-            Ok(file) => Box::new(BufReader::new(file)),
-            Err(error) => return Err(Trouble::with(&input.path, error)),
-        }
-    };
-    Ok(Texts::new(source, input.kind))
+/// The texts of an opened input.
+pub type SourceTexts = Texts<BufReader<Box<dyn Read>>>;
+
+impl SourceTexts {
+    pub fn of(source: Source, kind: Kind) -> io::Result<SourceTexts> {
+        let bytes = source.bytes()?;
+        let mut texts = Texts::new(bytes.reader, kind);
+        texts.foreign = bytes.foreign;
+        Ok(texts)
+    }
+}
+
+/// What a step through the file came to.
+enum Found {
+    Text,
+    PassedOver { noted: bool },
+    End,
 }
 
 impl<R: BufRead> Texts<R> {
@@ -98,63 +156,113 @@ impl<R: BufRead> Texts<R> {
             source,
             kind,
             line: Vec::new(),
+            text: Text::default(),
+            open: false,
+            held: false,
+            any: false,
+            foreign: false,
             lines: 0,
             passed_over: 0,
-            any: false,
         }
     }
 
-    /// The next text. A file that holds none gives one empty text, to be refused.
-    pub fn next(&mut self) -> io::Result<Option<Text>> {
-        let text = match self.kind {
+    /// The next text or line passed over. A file that holds no text gives an empty
+    /// one at its end, to be refused; one that is foreign gives the line that shows
+    /// it, and nothing more.
+    pub fn next(&mut self) -> io::Result<Option<Item<'_>>> {
+        if !self.open {
+            self.text.clear();
+        }
+        let found = match self.kind {
+            _ if self.foreign => self.foreign_line()?,
             Kind::Chain => self.next_chain()?,
             _ => self.next_line()?,
         };
-        let first = !self.any;
-        self.any = true;
-        Ok(match text.is_empty() {
-            true if first => Some(Text::default()),
-            true => None,
-            false => Some(text),
+        self.open = matches!(found, Found::PassedOver { .. });
+        Ok(match found {
+            Found::PassedOver { noted } => Some(Item::PassedOver(PassedOver {
+                number: self.lines,
+                line: &self.line,
+                noted,
+            })),
+            Found::End if self.any => None,
+            Found::Text | Found::End => {
+                self.any = true;
+                Some(Item::Text(&self.text))
+            }
         })
     }
 
-    /// The next line that isn't passed over, or an empty text at the file's end.
-    fn next_line(&mut self) -> io::Result<Text> {
-        let mut text = Text::default();
-        while text.is_empty() && self.read_line()? {
-            if !self.pass_over() {
-                text.add(self.lines, &self.line);
+    /// The line that shows that the file is no text; then none.
+    fn foreign_line(&mut self) -> io::Result<Found> {
+        while !self.any && self.read_line()? {
+            if shows_foreign(&self.line, self.lines == 1) {
+                self.add_line();
+                return Ok(Found::Text);
             }
         }
-        Ok(text)
+        Ok(Found::End)
     }
 
-    /// The lines up to a blank one, or an empty text at the file's end.
-    fn next_chain(&mut self) -> io::Result<Text> {
-        let mut text = Text::default();
-        while self.read_line()? {
+    /// The next line.
+    fn next_line(&mut self) -> io::Result<Found> {
+        if !self.read_line()? {
+            return Ok(Found::End);
+        }
+        Ok(match self.pass_over() {
+            Some(noted) => Found::PassedOver { noted },
+            None => {
+                self.add_line();
+                Found::Text
+            }
+        })
+    }
+
+    /// The lines up to a blank one, the next header or the file's end.
+    fn next_chain(&mut self) -> io::Result<Found> {
+        while self.held || self.read_line()? {
+            self.held = false;
             match part(&self.line) {
-                Part::Blank if text.is_empty() => (),
-                Part::Blank => break,
+                Part::Blank if self.text.is_empty() => (),
+                Part::Blank => return Ok(Found::Text),
                 Part::BlankReturn => {
-                    text.add(self.lines, &self.line);
-                    break;
+                    self.add_line();
+                    return Ok(Found::Text);
                 }
-                Part::Words if self.pass_over() => (),
-                Part::Words => text.add(self.lines, &self.line),
+                Part::Header if !self.text.is_empty() => {
+                    self.held = true;
+                    return Ok(Found::Text);
+                }
+                Part::Header | Part::Words => match self.pass_over() {
+                    Some(noted) => return Ok(Found::PassedOver { noted }),
+                    None => self.add_line(),
+                },
             }
         }
-        Ok(text)
+        Ok(match self.text.is_empty() {
+            true => Found::End,
+            false => Found::Text,
+        })
     }
 
-    /// Whether the line is none of the format's; such a line is counted.
-    fn pass_over(&mut self) -> bool {
-        let first_word = self.line.split(|byte| matches!(byte, b' ' | b'\t')).next();
-        let passed =
-            self.line.starts_with(b"#") || matches!(first_word, Some(b"track" | b"browser"));
-        self.passed_over += u64::from(passed);
-        passed
+    fn add_line(&mut self) {
+        self.text.add(self.lines, &self.line);
+    }
+
+    /// Counts a line that is none of the format's; says whether it is noted. A line
+    /// that is read gives nothing.
+    fn pass_over(&mut self) -> Option<bool> {
+        let noted = match passing(self.kind, &self.line) {
+            Passing::Read => return None,
+            Passing::CellError(place) => {
+                self.text.refuse_next(place);
+                return None;
+            }
+            Passing::Noted => true,
+            Passing::Over => false,
+        };
+        self.passed_over += 1;
+        Some(noted)
     }
 
     /// Reads a line without its line feed; of one over the text limit, only enough
@@ -200,16 +308,18 @@ enum Part {
     /// Blanks and carriage returns: a chain ends, and the line belongs to it, so
     /// that the carriage return is refused.
     BlankReturn,
+    /// The first word is `chain`: a chain begins.
+    Header,
     Words,
 }
 
 fn part(line: &[u8]) -> Part {
-    if line.iter().all(|byte| matches!(byte, b' ' | b'\t')) {
-        Part::Blank
-    } else if line.iter().all(|byte| matches!(byte, b' ' | b'\t' | b'\r')) {
-        Part::BlankReturn
-    } else {
-        Part::Words
+    let mut words = line.split(is_blank).filter(|word| !word.is_empty());
+    match words.next() {
+        None => Part::Blank,
+        Some(b"chain") => Part::Header,
+        _ if line.iter().all(|byte| is_blank(byte) || *byte == b'\r') => Part::BlankReturn,
+        _ => Part::Words,
     }
 }
 
@@ -220,10 +330,24 @@ mod tests {
     fn texts(kind: Kind, file: &[u8]) -> (Vec<Vec<u8>>, u64) {
         let mut texts = Texts::new(file, kind);
         let mut all = Vec::new();
-        while let Some(text) = texts.next().expect("bytes can be read") {
-            all.push(text.bytes);
+        while let Some(item) = texts.next().expect("bytes can be read") {
+            if let Item::Text(text) = item {
+                all.push(text.bytes.clone());
+            }
         }
         (all, texts.passed_over)
+    }
+
+    /// What is to be known of the first text of a file.
+    fn of_first<T>(kind: Kind, file: &[u8], known: impl Fn(&Text) -> T) -> T {
+        let mut texts = Texts::new(file, kind);
+        loop {
+            match texts.next().expect("bytes can be read") {
+                Some(Item::Text(text)) => return known(text),
+                Some(Item::PassedOver(_)) => (),
+                None => panic!("no text"),
+            }
+        }
     }
 
     #[test]
@@ -242,6 +366,45 @@ mod tests {
     }
 
     #[test]
+    fn a_header_begins_a_chain() {
+        let (chains, passed) = texts(
+            Kind::Chain,
+            b"chain a\n1\n# x\nchain b\n2\n\n chain c\nchains",
+        );
+        assert_eq!(
+            chains,
+            [&b"chain a\n1"[..], b"chain b\n2", b" chain c\nchains"]
+        );
+        assert_eq!(passed, 1);
+    }
+
+    #[test]
+    fn a_cell_error_is_refused() {
+        let six_at = |place| Err(Refusal { number: 6, place });
+        let judged = |text: &Text| text.judged(|_| Ok(()));
+        assert_eq!(of_first(Kind::Bed, b"\t#N/A 1 2\n", judged), six_at(1));
+        assert_eq!(
+            of_first(Kind::Chain, b"chain\n1\n #REF!", judged),
+            six_at(9)
+        );
+        assert_eq!(of_first(Kind::Bed, b"chr1 1 2", judged), Ok(()));
+    }
+
+    #[test]
+    fn lines_passed_over_come_in_their_order() {
+        let file = b"# x\nchain a\n#b 1 2\n3\n# y\n";
+        let mut texts = Texts::new(&file[..], Kind::Chain);
+        let mut seen = Vec::new();
+        while let Some(item) = texts.next().expect("bytes can be read") {
+            seen.push(match item {
+                Item::Text(text) => format!("{}", text.bytes.escape_ascii()),
+                Item::PassedOver(passed) => format!("{} {}", passed.number, passed.noted),
+            });
+        }
+        assert_eq!(seen, ["1 false", "3 true", "5 false", "chain a\\n3"]);
+    }
+
+    #[test]
     fn a_file_without_a_text_gives_an_empty_one() {
         for file in [&b""[..], b"# only\n"] {
             assert_eq!(texts(Kind::Psl, file).0, [b""]);
@@ -252,13 +415,13 @@ mod tests {
 
     #[test]
     fn places_are_told_by_line_and_column() {
-        let mut texts = Texts::new(&b"# x\nab\n# y\ncd"[..], Kind::Chain);
-        let text = texts.next().expect("bytes can be read").expect("a chain");
-        assert_eq!(text.locate(0), (2, 1));
-        assert_eq!(text.locate(2), (2, 3));
-        assert_eq!(text.locate(3), (4, 1));
-        assert_eq!(text.locate(5), (4, 3));
-        assert_eq!(text.line_at(4), (&b"cd"[..], 1));
+        of_first(Kind::Chain, b"# x\nab\n# y\ncd", |text| {
+            assert_eq!(text.locate(0), (2, 1));
+            assert_eq!(text.locate(2), (2, 3));
+            assert_eq!(text.locate(3), (4, 1));
+            assert_eq!(text.locate(5), (4, 3));
+            assert_eq!(text.line_at(4), (&b"cd"[..], 1));
+        });
     }
 
     #[test]

@@ -5,16 +5,37 @@
 #![forbid(unsafe_code)]
 
 mod args;
+mod blocks;
+mod chains;
 mod check;
+mod choice;
 mod convert;
+mod counts;
 mod explain;
 mod fields;
+mod flood;
+mod gz;
+mod help;
 mod hints;
 mod input;
 mod lift;
+mod lines;
+mod loss;
+mod notes;
+mod options;
 mod outcome;
+mod output;
+mod part;
+mod passing;
+mod progress;
+mod ratio;
 mod report;
 mod rewrite;
+mod same_file;
+mod source;
+mod spool;
+mod target;
+mod why;
 
 use std::env;
 use std::ffi::OsString;
@@ -39,12 +60,15 @@ fn main() -> ExitCode {
 }
 
 fn run(command: &Command) -> Status {
+    progress::began();
     let outcome = match command {
         Command::Help => help(),
-        Command::Check(inputs) => check::run(inputs),
-        Command::Format(inputs) => rewrite::run(Way::Format, inputs),
-        Command::Turn(input) => rewrite::run(Way::Turn, std::slice::from_ref(input)),
-        Command::Lift(files) => lift::run(files),
+        Command::Check(inputs, how) => check::run(inputs, *how),
+        Command::Format(inputs, written, how) => rewrite::run(Way::Format, inputs, written, *how),
+        Command::Turn(input, written, how) => {
+            rewrite::run(Way::Turn, std::slice::from_ref(input), written, *how)
+        }
+        Command::Lift(files, lifting, how) => lift::run(files, lifting, *how),
         Command::Convert { start, end, size } => convert::run(*start, *end, *size),
     };
     outcome.unwrap_or_else(|trouble| {
@@ -54,6 +78,6 @@ fn run(command: &Command) -> Status {
 }
 
 fn help() -> Outcome {
-    io::stdout().write_all(args::HELP.as_bytes())?;
+    io::stdout().write_all(help::HELP.as_bytes())?;
     Ok(Status::Accepted)
 }

@@ -1,14 +1,15 @@
 //! What is told of a file: refusals, notes, a summary, and progress at a terminal.
 
-use std::io::{self, BufRead, IsTerminal, Write};
-use std::path::Path;
-use std::time::{Duration, Instant};
+use std::io::{self, BufRead, Write};
 
-use crate::args::Input;
-use crate::explain;
-use crate::hints;
-use crate::input::{self, Text, Texts};
+use crate::args::{Input, Telling};
+use crate::explain::{self, Told};
+use crate::flood::{Flood, Sort};
+use crate::input::{Item, PassedOver, Text, Texts};
+use crate::notes;
 use crate::outcome::{Outcome, Status, Trouble};
+use crate::progress::Progress;
+use crate::source::Source;
 use tenderchock::{Kind, Refusal};
 
 /// The report on one file.
@@ -16,73 +17,136 @@ pub struct Report<'w> {
     out: &'w mut dyn Write,
     file: String,
     kind: Kind,
+    how: Telling,
     pub accepted: u64,
     pub refused: u64,
     notes: u64,
+    flood: Flood,
     progress: Progress,
 }
 
+/// Whether a text that the library accepts is taken.
+pub enum Verdict {
+    Taken,
+    /// A note counts as a refusal, this one.
+    Noted(String),
+}
+
 impl<'w> Report<'w> {
-    pub fn new(input: &Input, out: &'w mut dyn Write) -> Report<'w> {
+    pub fn new(input: &Input, how: Telling, out: &'w mut dyn Write) -> Report<'w> {
         Report {
             out,
-            file: match input.is_standard() {
-                true => "standard input".to_string(),
-                false => input.path.display().to_string(),
-            },
+            file: input.name(),
             kind: input.kind,
+            how,
             accepted: 0,
             refused: 0,
             notes: 0,
-            progress: Progress::new(),
+            flood: Flood::new(how.all || how.tsv),
+            progress: Progress::new(how.quiet),
         }
     }
 
-    /// Counts a text that is accepted, and notes names that look odd.
-    pub fn accept(&mut self, text: &Text) -> io::Result<()> {
-        self.accepted += 1;
-        let names: &[usize] = match self.kind {
-            Kind::Bed => &[0, 3],
-            Kind::Psl => &[9, 13],
-            Kind::Chain => &[2, 7],
+    /// Counts a text that the library accepts, and notes what looks odd.
+    pub fn accept(&mut self, text: &Text) -> io::Result<Verdict> {
+        let mut noted = notes::of_text(self.kind, &text.bytes).into_iter();
+        let Some(first) = noted.next() else {
+            self.accepted += 1;
+            return Ok(Verdict::Taken);
         };
-        let words = explain::words(text.line_at(0).0);
-        for (start, name) in names.iter().filter_map(|at| words.get(*at)) {
-            if let Some(odd) = hints::name_note(name) {
-                self.note(text, *start, name, odd)?;
-            }
+        let (line, column) = text.locate(first.place);
+        self.note(line, column, &first.told)?;
+        for more in noted {
+            let (line, column) = text.locate(more.place);
+            self.note(line, column, &more.told)?;
         }
-        Ok(())
+        if self.how.strict {
+            self.refused += 1;
+            return Ok(Verdict::Noted(first.told));
+        }
+        self.accepted += 1;
+        Ok(Verdict::Taken)
     }
 
-    fn note(&mut self, text: &Text, place: usize, name: &[u8], odd: &str) -> io::Result<()> {
+    /// A note on a line.
+    pub fn note(&mut self, line: u64, column: usize, told: &str) -> io::Result<()> {
         self.notes += 1;
-        let (line, column) = text.locate(place);
-        let (file, name) = (&self.file, explain::quoted(name));
-        let told = format!("{file}:{line}:{column}: note: the name {name} is accepted, and {odd}");
+        if self.how.quiet || !self.flood.tells(Sort::Note, line) {
+            return Ok(());
+        }
+        let file = &self.file;
+        let told = match self.how.tsv {
+            true => explain::row(file, line, column, 0, ["note", told, ""]),
+            false => format!("{file}:{line}:{column}: note: {told}"),
+        };
         self.tell(&told)
     }
 
     /// Tells and counts a text that is refused.
     pub fn refuse(&mut self, text: &Text, refusal: Refusal) -> io::Result<()> {
         self.refused += 1;
-        let told = explain::refusal(&self.file, self.kind, text, refusal);
+        let (line, _) = text.locate(refusal.place);
+        if !self.flood.tells(Sort::Number(refusal.number), line) {
+            return Ok(());
+        }
+        let told = Told::new(self.kind, text, refusal);
+        match self.how.tsv {
+            true => self.tell(&told.row(&self.file)),
+            false => self.tell(&told.sentence(&self.file)),
+        }
+    }
+
+    /// Tells and counts a text that is refused for what the file holds besides it.
+    pub fn refuse_among(&mut self, text: &Text, told: &str) -> io::Result<()> {
+        self.refused += 1;
+        let (line, column) = text.locate(0);
+        if !self.flood.tells(Sort::Among, line) {
+            return Ok(());
+        }
+        let told = format!("{}:{line}:{column}: refused: {told}", self.file);
         self.tell(&told)
     }
 
-    fn summary(&mut self, passed_over: u64) -> io::Result<()> {
-        let what = match (self.kind, self.accepted) {
-            (Kind::Bed, 1) => "BED line",
-            (Kind::Bed, _) => "BED lines",
-            (Kind::Psl, 1) => "PSL line",
-            (Kind::Psl, _) => "PSL lines",
-            (Kind::Chain, 1) => "chain",
-            (Kind::Chain, _) => "chains",
-        };
+    /// A line passed over that may be a record is noted.
+    fn pass_over(&mut self, passed: &PassedOver) -> io::Result<()> {
+        if passed.noted {
+            self.refused += u64::from(self.how.strict);
+            self.note(
+                passed.number,
+                1,
+                "passed over; is it a record behind a `#`?",
+            )?;
+        }
+        Ok(())
+    }
+
+    /// Whether a note counts as a refusal.
+    pub fn is_strict(&self) -> bool {
+        self.how.strict
+    }
+
+    /// What is told so far goes out.
+    pub fn flush(&mut self) -> io::Result<()> {
+        self.out.flush()
+    }
+
+    fn summary(&mut self, passed_over: u64, foreign: bool) -> io::Result<()> {
+        for rest in self.flood.rest(&self.file) {
+            self.tell(&rest)?;
+        }
+        if self.how.quiet || self.how.tsv {
+            return Ok(());
+        }
         let mut told = format!(
-            "{}: {} {what} accepted, {} refused",
-            self.file, self.accepted, self.refused
+            "{}: {} {} accepted, {} refused",
+            self.file,
+            self.accepted,
+            texts_named(self.kind, self.accepted),
+            self.refused
         );
+        if foreign {
+            told += "; it is no plain text, and nothing more of it is read";
+        }
         if passed_over > 0 {
             told += &format!(", {passed_over} passed over (#, track or browser)");
         }
@@ -92,23 +156,53 @@ impl<'w> Report<'w> {
         self.tell(&told)
     }
 
+    /// A line that no quiet run needs.
+    pub fn sum_up(&mut self, told: &str) -> io::Result<()> {
+        match self.how.quiet {
+            true => Ok(()),
+            false => self.tell(told),
+        }
+    }
+
     /// One line of the report.
-    pub fn tell(&mut self, told: &str) -> io::Result<()> {
+    fn tell(&mut self, told: &str) -> io::Result<()> {
         self.progress.clear();
-        self.out.write_all(format!("{told}\n").as_bytes())
+        self.out.write_all(told.as_bytes())?;
+        self.out.write_all(b"\n")
     }
 }
 
-/// One file of several: one that can't be read is told, and keeps nobody waiting.
+fn texts_named(kind: Kind, count: u64) -> &'static str {
+    match (kind, count) {
+        (Kind::Bed, 1) => "BED line",
+        (Kind::Bed, _) => "BED lines",
+        (Kind::Psl, 1) => "PSL line",
+        (Kind::Psl, _) => "PSL lines",
+        (Kind::Chain, 1) => "chain",
+        (Kind::Chain, _) => "chains",
+    }
+}
+
+/// The texts of one file of several: one that can't be read is told, and keeps nobody
+/// waiting.
 pub fn file(
     input: &Input,
-    out: &mut dyn Write,
-    each: impl FnMut(&mut Report, &Text) -> Result<(), Trouble>,
+    source: Result<Source, Trouble>,
+    report: &mut Report,
+    mut each: impl FnMut(&mut Report, &Text) -> Result<(), Trouble>,
 ) -> Outcome {
-    let mut report = Report::new(input, out);
-    let walked = input::open(input).and_then(|texts| walk(&input.path, texts, &mut report, each));
+    let walked = source.and_then(|source| {
+        let texts = Texts::of(source, input.kind);
+        let mut texts = texts.map_err(|error| Trouble::Input(input.name(), error))?;
+        walk(input, &mut texts, report, |report, item| match item {
+            Item::Text(text) => each(report, text),
+            Item::PassedOver(_) => Ok(()),
+        })
+    });
     match walked {
-        Err(trouble) if trouble.is_of_file() => {
+        Err(trouble) if trouble.is_of_input() => {
+            report.progress.clear();
+            report.flush()?;
             trouble.tell();
             Ok(Status::Trouble)
         }
@@ -116,59 +210,25 @@ pub fn file(
     }
 }
 
-/// Sends each text of a file to `each`, which accepts or refuses it; then sums up.
+/// Sends each text of a file to `each`, which accepts or refuses it, and each line
+/// that is passed over; then sums up.
 pub fn walk<R: BufRead>(
-    path: &Path,
-    mut texts: Texts<R>,
+    input: &Input,
+    texts: &mut Texts<R>,
     report: &mut Report,
-    mut each: impl FnMut(&mut Report, &Text) -> Result<(), Trouble>,
+    mut each: impl FnMut(&mut Report, Item) -> Result<(), Trouble>,
 ) -> Outcome {
     loop {
-        match texts.next() {
-            Ok(Some(text)) => each(report, &text)?,
-            Ok(None) => break,
-            Err(error) => {
-                report.progress.clear();
-                return Err(Trouble::with(path, error));
-            }
+        let next = texts.next();
+        let Some(item) = next.map_err(|error| Trouble::Input(input.name(), error))? else {
+            break;
+        };
+        if let Item::PassedOver(passed) = &item {
+            report.pass_over(passed)?;
         }
+        each(report, item)?;
         report.progress.show(&report.file, texts.lines);
     }
-    report.summary(texts.passed_over)?;
+    report.summary(texts.passed_over, texts.foreign)?;
     Ok(Status::of_refused(report.refused))
-}
-
-/// The number of lines read, now and then, at a terminal.
-struct Progress {
-    terminal: bool,
-    shown: bool,
-    next: Instant,
-}
-
-const PAUSE: Duration = Duration::from_millis(500);
-
-impl Progress {
-    fn new() -> Progress {
-        Progress {
-            terminal: io::stderr().is_terminal(),
-            shown: false,
-            next: Instant::now() + PAUSE,
-        }
-    }
-
-    fn show(&mut self, file: &str, lines: u64) {
-        if self.terminal && Instant::now() >= self.next {
-            let _ = write!(io::stderr(), "\r{file}: {lines} lines read");
-            self.shown = true;
-            self.next = Instant::now() + PAUSE;
-        }
-    }
-
-    /// Clears the terminal's line, so that something else can be told.
-    fn clear(&mut self) {
-        if self.shown {
-            let _ = write!(io::stderr(), "\r\x1b[K");
-            self.shown = false;
-        }
-    }
 }
