@@ -85,7 +85,7 @@ module _ (b b′ : List ℕ) (a : ℕ) where
   }
 
 -- ---- what the three formats share: the outcomes of a text that spells a record, and of one that is refused
-record Entries (f : Format) : Type 0 where
+record Entries (f : Format) : Type 1 where
   checkedAs : (s : List ℕ) (r : f .Record) (rows : List Row) → f .Spells s r rows → checked (f .kind) s ≡ gives (f .blocks r) []
   parsedAs : (s : List ℕ) (r : f .Record) (rows : List Row) → f .Spells s r rows → (room : ℕ) → parsed (f .kind) s room ≡ recorded (length s) room (f .numbers r) rows
   formattedAs : (s : List ℕ) (r : f .Record) (rows : List Row) → f .Spells s r rows → (room : ℕ)
