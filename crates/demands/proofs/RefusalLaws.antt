@@ -221,7 +221,8 @@ module _ (t : Tally) (c : Chain) (rows : List Row) (a e : ℕ) where
 
   tally-by : (why : Reason) (P : Type 0) → tallyStep t c rows a e .answer ≡ region.notLifted why → (accepted c rows ≡ false → reasonNumber why ≡ 9 → P)
       → (accepted c rows ≡ true → (Inside c a e → ⊥) → reasonNumber why ≡ 13 → P) → (accepted c rows ≡ true → Inside c a e → goodTally t ≡ false → reasonNumber why ≡ 10 → P)
-      → (accepted c rows ≡ true → Inside c a e → goodTally t ≡ true → tallyLimit < t .asked + (e - a) → reasonNumber why ≡ 5 → P) → (reasonNumber why ≡ 12 → P) → P
+      → (accepted c rows ≡ true → Inside c a e → goodTally t ≡ true → tallyLimit < t .asked + (e - a) → reasonNumber why ≡ 5 → P)
+      → (goodTally t ≡ true → t .asked + (e - a) ≤ tallyLimit → region.liftRegion c rows a e ≡ region.notLifted why → reasonNumber why ≡ 12 → P) → P
   tally-by why P h nine thirteen ten five twelve = go (accepted c rows) (goodTally t) refl refl
     where
       go : (u v : Bool) → accepted c rows ≡ u → goodTally t ≡ v → P
@@ -232,23 +233,28 @@ module _ (t : Tally) (c : Chain) (rows : List Row) (a e : ℕ) where
           inner false q g w = ten q w g (same-region why CountsDisagree (sym h ∙ tally-ten q w g))
           inner true q g w =
               either (t .asked + (e - a)) tallyLimit P
-              (λ l. twelve (region-inside c rows a e q w why (sym (tally-else g l) ∙ h)))
+              (λ l. let k = sym (tally-else g l) ∙ h in twelve g l k (region-inside c rows a e q w why k))
               (λ l. five q w g l (same-region why NumberOutOfRange (sym h ∙ tally-five q w g l)))
 
   tally-step : TallyRefused t c rows a e (tallyStep t c rows a e .answer)
   tally-step = record {
-    nine = (λ h. tally-by BlockRules _ h (λ q n. q) (λ q f n. absurd (omega arith)) (λ q w g n. absurd (omega arith)) (λ q w g l n. absurd (omega arith)) (λ n. absurd (omega arith)), tally-nine);
+    nine = (λ h. tally-by BlockRules _ h (λ q n. q) (λ q f n. absurd (omega arith)) (λ q w g n. absurd (omega arith)) (λ q w g l n. absurd (omega arith)) (λ g l k n. absurd (omega arith)), tally-nine);
     thirteen = (
-      λ h. tally-by OutsideTarget _ h (λ q n. absurd (omega arith)) (λ q f n. (q, f)) (λ q w g n. absurd (omega arith)) (λ q w g l n. absurd (omega arith)) (λ n. absurd (omega arith)),
+      λ h. tally-by OutsideTarget _ h (λ q n. absurd (omega arith)) (λ q f n. (q, f)) (λ q w g n. absurd (omega arith)) (λ q w g l n. absurd (omega arith)) (λ g l k n. absurd (omega arith)),
       λ k. tally-thirteen (k .0) (k .1),
     );
     ten = (
-      λ h. tally-by CountsDisagree _ h (λ q n. absurd (omega arith)) (λ q f n. absurd (omega arith)) (λ q w g n. (q, w, g)) (λ q w g l n. absurd (omega arith)) (λ n. absurd (omega arith)),
+      λ h. tally-by CountsDisagree _ h (λ q n. absurd (omega arith)) (λ q f n. absurd (omega arith)) (λ q w g n. (q, w, g)) (λ q w g l n. absurd (omega arith)) (λ g l k n. absurd (omega arith)),
       λ k. tally-ten (k .0) (k .1) (k .2),
     );
     five = (
-      λ h. tally-by NumberOutOfRange _ h (λ q n. absurd (omega arith)) (λ q f n. absurd (omega arith)) (λ q w g n. absurd (omega arith)) (λ q w g l n. (q, w, g, l)) (λ n. absurd (omega arith)),
+      λ h. tally-by NumberOutOfRange _ h (λ q n. absurd (omega arith)) (λ q f n. absurd (omega arith)) (λ q w g n. absurd (omega arith)) (λ q w g l n. (q, w, g, l)) (λ g l k n. absurd (omega arith)),
       λ k. tally-five (k .0) (k .1) (k .2) (k .3),
+    );
+    twelve = (
+      λ h. tally-by NoPair _ h (λ q n. absurd (omega arith)) (λ q f n. absurd (omega arith)) (λ q w g n. absurd (omega arith)) (λ q w g l n. absurd (omega arith))
+          (λ g l k n. let y = region-refused c rows a e .twelve .0 k in (y .0, y .1, g, l, y .2)),
+      λ k. tally-else (k .2) (k .3) ∙ region-refused c rows a e .twelve .1 (k .0, k .1, k .4),
     );
     else = tally-else;
   }

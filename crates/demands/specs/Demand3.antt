@@ -72,12 +72,15 @@ pub record TurnRefused (c : Chain) (rows : List Row) (room : ℕ) : Type 0 where
   pub nine : (turn c rows room ≡ notTurned BlockRules) ↔ (accepted c rows ≡ false)
   pub eleven : (turn c rows room ≡ notTurned NoRoom) ↔ ((accepted c rows ≡ true) × (room < c .blockCount))
 
--- a region sent with the tally t, whose answer is x: 9, 13, then 10 where the tally is bad, then 5 where asked would pass its limit; else the answer is the region's own
+-- a region sent with the tally t, whose answer is x: 9, 13, then 10 where the tally is bad, then 5 where asked would pass its limit, then 12; else the answer is the
+-- region's own
 pub record TallyRefused (t : Tally) (c : Chain) (rows : List Row) (a e : ℕ) (x : RegionAnswer) : Type 0 where
   pub nine : (x ≡ ofRegions.notLifted BlockRules) ↔ (accepted c rows ≡ false)
   pub thirteen : (x ≡ ofRegions.notLifted OutsideTarget) ↔ ((accepted c rows ≡ true) × (Inside c a e → ⊥))
   pub ten : (x ≡ ofRegions.notLifted CountsDisagree) ↔ ((accepted c rows ≡ true) × Inside c a e × (goodTally t ≡ false))
   pub five : (x ≡ ofRegions.notLifted NumberOutOfRange) ↔ ((accepted c rows ≡ true) × Inside c a e × (goodTally t ≡ true) × (tallyLimit < t .asked + (e - a)))
+  pub twelve : (x ≡ ofRegions.notLifted NoPair)
+      ↔ ((accepted c rows ≡ true) × Inside c a e × (goodTally t ≡ true) × (t .asked + (e - a) ≤ tallyLimit) × ((p : ℕ) → a ≤ p → p < e → InNone c rows p))
   pub else : goodTally t ≡ true → t .asked + (e - a) ≤ tallyLimit → x ≡ liftRegion c rows a e
 
 -- given room for its blocks, the turned chain d with the table rows′ has these same pairs with the sides exchanged, so lifting a partner back through it restores the
