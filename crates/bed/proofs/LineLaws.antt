@@ -24,6 +24,7 @@ use Rattle.kinds.proofs.RangeLaws.{name-spelt, strand-spelt}
 use Rattle.columns.specs.declared.Columns.the-variants.{Next}
 use Rattle.columns.specs.Columns.{columnsFrom, valuesFrom}
 use Rattle.columns.specs.Spells.{firsts}
+use Rattle.kinds.proofs.SpeltAsLaws.{numbersIn}
 use Rattle.columns.proofs.Meant.{Meant, listsIn, meant-spells, spells-lists, list-at}
 use Rattle.columns.specs.Places.{kindAt, countBefore}
 use Rattle.columns.proofs.SpellsLaws.{columns-mean, Reads, spells-read, place-is}
@@ -133,21 +134,20 @@ module _ (s : List ℕ) (r : Bed) (number : WordNumber (wordCount s 0)) (words :
   unfolding wordCount
   word-count = refl
 
+  list-word : (k : ℕ) → k < 12 → 9 < r .words → getD listed k [] ≡ numbersIn (getD bedColumns k Name) (bytesOf s (wordAt s 0 k))
+  unfolding bedColumns
+  list-word k l h =
+      let w = all-words h in
+      let n : length (wordsOf (lineOf s)) ≡ 12 = sym word-count ∙ w in
+      rw w (list-at bedColumns (wordsOf (lineOf s)) k l (omega arith) ∙ ap (numbersIn (getD bedColumns k Name)) (sym (word-bytes s 0 k)))
+
   pub listed-sizes : 9 < r .words → bedSizes s r ≡ getD listed 10 []
   unfolding bedSizes bedColumns
-  listed-sizes h =
-      let w = all-words h in
-      let t : r .words ≡ 12 = words ∙ w in
-      let n : length (wordsOf (lineOf s)) ≡ 12 = sym word-count ∙ w in
-      rw (w, t, list-at bedColumns (wordsOf (lineOf s)) 10 (omega arith) (omega arith), word-bytes s 0 10)
+  listed-sizes h = rw (words ∙ all-words h) (sym (list-word 10 (omega arith) h))
 
   pub listed-starts : 9 < r .words → bedStarts s r ≡ getD listed 11 []
   unfolding bedStarts bedColumns
-  listed-starts h =
-      let w = all-words h in
-      let t : r .words ≡ 12 = words ∙ w in
-      let n : length (wordsOf (lineOf s)) ≡ 12 = sym word-count ∙ w in
-      rw (w, t, list-at bedColumns (wordsOf (lineOf s)) 11 (omega arith) (omega arith), word-bytes s 0 11)
+  listed-starts h = rw (words ∙ all-words h) (sym (list-word 11 (omega arith) h))
 
   pub span-size : r .words ≤ 9 → bedSizes s r ≡ (r .chromEnd - r .chromStart) ∷ []
   unfolding bedSizes
