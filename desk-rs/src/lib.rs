@@ -1,6 +1,7 @@
 //! The Tenderchock library for Rust programs: BED lines, PSL lines and chains
-//! are read, checked, written, lifted and turned by proved code. Each call ends
-//! with an answer or with a numbered refusal and its place.
+//! are read, checked, written, lifted and turned, and texts of numbers are read,
+//! by proved code. Each call ends with an answer or with a numbered refusal and
+//! its place.
 //!
 //! ```
 //! use tenderchock::{Bed, Kind};
@@ -18,6 +19,7 @@
 
 mod answer;
 mod lift;
+mod numbers;
 mod records;
 pub mod sys;
 mod texts;
@@ -25,5 +27,6 @@ mod texts;
 pub use answer::{meaning, Refusal};
 pub use lift::{convert, lift_position, lift_region, turn};
 pub use lift::{LiftedPosition, LiftedRegion, Tally};
+pub use numbers::numbers;
 pub use records::{Bed, Chain, Psl, Row, Strand};
 pub use texts::{check, format, Kind, Room, BLOCK_LIMIT, TEXT_LIMIT};

@@ -54,6 +54,12 @@ extern "C" {
         tally: *mut u8,
         tally_length: usize,
     ) -> u64;
+    fn tenderchock_numbers(
+        text: *const u8,
+        text_length: usize,
+        out: *mut u8,
+        out_length: usize,
+    ) -> u64;
 }
 
 // SAFETY, for every call below: an entry is total, keeps no pointer, reads only
@@ -105,4 +111,10 @@ pub fn turn(text: &[u8], out: &mut [u8]) -> u64 {
 pub fn tally(text: &[u8], start: u64, end: u64, tally: &mut [u8]) -> u64 {
     let (lent, length) = (tally.as_mut_ptr(), tally.len());
     unsafe { tenderchock_tally(text.as_ptr(), text.len(), start, end, lent, length) }
+}
+
+/// The numbers of a text of one line, 8 bytes each; counts them.
+pub fn numbers(text: &[u8], out: &mut [u8]) -> u64 {
+    let (out, room) = (out.as_mut_ptr(), out.len());
+    unsafe { tenderchock_numbers(text.as_ptr(), text.len(), out, room) }
 }

@@ -1,6 +1,7 @@
-//! The bench samples through the library's functions, field by field.
+//! The bench samples through the library's functions, field by field, and texts of
+//! numbers.
 
-use tenderchock::{check, convert, format, lift_position, lift_region, turn};
+use tenderchock::{check, convert, format, lift_position, lift_region, numbers, sys, turn};
 use tenderchock::{Bed, Chain, Kind, LiftedPosition, LiftedRegion, Psl, Refusal, Room, Row};
 use tenderchock::{Strand, Tally};
 
@@ -228,4 +229,146 @@ fn a_room_is_used_again() {
         assert_eq!(Psl::parse_in(&mut room, PSL_A), Psl::parse(PSL_A));
         assert_eq!(Chain::parse_in(&mut room, CHAIN_A), Chain::parse(CHAIN_A));
     }
+}
+
+#[test]
+fn the_numbers_of_a_text_are_read() {
+    let texts: [(&[u8], &[u64]); 12] = [
+        (b"", &[]),
+        (b"\n", &[]),
+        (b" \t", &[]),
+        (b" \t\n", &[]),
+        (b"0", &[0]),
+        (b"7\n", &[7]),
+        (b"567 488", &[567, 488]),
+        (b"567\t488\n", &[567, 488]),
+        (b" \t567 \t\t 488\t \n", &[567, 488]),
+        (b"1  2   3 ", &[1, 2, 3]),
+        (b"0 0 0", &[0, 0, 0]),
+        (
+            b"100000000000000000 999999999999999999 0",
+            &[100_000_000_000_000_000, 999_999_999_999_999_999, 0],
+        ),
+    ];
+    for (text, read) in texts {
+        let shown = text.escape_ascii();
+        assert_eq!(numbers(text).as_deref(), Ok(read), "\"{shown}\"");
+    }
+}
+
+/// Each word alone, and between two others.
+#[test]
+fn a_number_is_misspelt_or_out_of_range() {
+    let misspelt = "00 007 0999999999999999999 , 567,488 5, 1e3 +1 -1 1: :1 /1 1/ x 0x10 1.5 \
+        9999999999999999999x 99999999999999999999999999x";
+    let too_large = "1000000000000000000 9999999999999999999 10000000000000000000 \
+        18446744073709551615 18446744073709551616 18446744073709551620 99999999999999999999 \
+        100000000000000000000 340282366920938463463374607431768211456";
+    for (number, words) in [(4, misspelt), (5, too_large)] {
+        for word in words.split(' ') {
+            assert_eq!(refused(numbers(word.as_bytes())), (number, 0), "{word}");
+            let text = format!("12 {word} 7\n");
+            assert_eq!(refused(numbers(text.as_bytes())), (number, 3), "{word}");
+        }
+    }
+}
+
+#[test]
+fn a_number_of_many_digits_is_spelt_before_its_range() {
+    for (digit, last, number) in [(b'9', b'9', 5), (b'9', b'x', 4), (b'0', b'0', 4)] {
+        let word = [vec![digit; 60_000], vec![last]].concat();
+        assert_eq!(refused(numbers(&word)), (number, 0));
+        let text = [b"1 2 ", &word[..], b" 3"].concat();
+        assert_eq!(refused(numbers(&text)), (number, 4));
+    }
+}
+
+#[test]
+fn the_first_fault_of_a_text_of_numbers_decides() {
+    let texts: [(&[u8], (u8, usize)); 15] = [
+        (b"1\n2", (2, 2)),
+        (b"1\n \t2", (2, 4)),
+        (b"1\n\n", (2, 2)),
+        (b"1\n \t\n", (2, 4)),
+        (b"1\n \t", (2, 4)),
+        (b"\n\n", (2, 1)),
+        (b"\n1", (2, 1)),
+        (b"1\nx", (2, 2)),
+        (b"1\n2\n3", (2, 2)),
+        // Words come before a surplus line, and bytes before words.
+        (b"x\n2", (4, 0)),
+        (b"1 1000000000000000000\n2", (5, 2)),
+        (b"1 x 1000000000000000000", (4, 2)),
+        (b"1 1000000000000000000 x", (5, 2)),
+        (b"x 1 2 3 4 5 6 7 8 9\n\n \x7F", (3, 22)),
+        (b"1 2\r\n", (3, 3)),
+    ];
+    for (text, refusal) in texts {
+        let shown = text.escape_ascii();
+        assert_eq!(refused(numbers(text)), refusal, "\"{shown}\"");
+    }
+    let far = [b"x", &[b' '; 60_000][..], b"\x80"].concat();
+    assert_eq!(refused(numbers(&far)), (3, 60_001));
+}
+
+#[test]
+fn a_text_of_numbers_has_at_most_65536_bytes() {
+    let mut text = b"1 ".repeat(32_768);
+    assert_eq!(numbers(&text), Ok(vec![1; 32_768]));
+    text[65_535] = b'\n';
+    assert_eq!(numbers(&text), Ok(vec![1; 32_768]));
+    assert_eq!(numbers(&text[..65_535]), Ok(vec![1; 32_768]));
+    text[65_535] = b'x';
+    assert_eq!(refused(numbers(&text)), (4, 65_534));
+    text.push(b'\xFF');
+    assert_eq!(refused(numbers(&text)), (1, 0));
+    assert_eq!(numbers(&[b' '; 65_536]), Ok(vec![]));
+    assert_eq!(refused(numbers(&[b' '; 65_537])), (1, 0));
+}
+
+/// What an entry is lent, all bytes alike.
+const MARK: u8 = 0xA5;
+
+#[test]
+fn numbers_go_to_the_front_of_what_is_lent() {
+    let text = b" 258 0\t999999999999999999\n";
+    let wanted = [258, 0, 999_999_999_999_999_999].map(u64::to_le_bytes);
+    for more in [0, 1, 7, 8, 100] {
+        let mut out = vec![MARK; 24 + more];
+        assert_eq!(sys::numbers(text, &mut out), 16 * 3);
+        assert_eq!(out[..24], *wanted.as_flattened());
+        assert_eq!(out[24..], vec![MARK; more]);
+    }
+    let mut none = [MARK; 3];
+    assert_eq!(sys::numbers(b" \n", &mut none), 0);
+    assert_eq!(sys::numbers(b"", &mut []), 0);
+    assert_eq!(none, [MARK; 3]);
+}
+
+#[test]
+fn too_little_room_for_numbers_is_told_last_and_leaves_what_is_lent() {
+    let text = b"1 2 3\n";
+    for room in [0, 1, 8, 16, 23] {
+        let mut out = vec![MARK; room];
+        assert_eq!(sys::numbers(text, &mut out), 16 * 6 + 11, "{room} bytes");
+        assert_eq!(out, vec![MARK; room]);
+    }
+    let faulty: [(&[u8], u64); 5] = [
+        (b"1 2 x", 16 * 4 + 4),
+        (b"1 2 1000000000000000000", 16 * 4 + 5),
+        (b"1 2 3\n4", 16 * 6 + 2),
+        (b"1 2 3\n\n", 16 * 6 + 2),
+        (b"1 2 3 \x00", 16 * 6 + 3),
+    ];
+    for (text, answer) in faulty {
+        for room in [0, 8, 16, 100] {
+            let mut out = vec![MARK; room];
+            assert_eq!(sys::numbers(text, &mut out), answer);
+            assert_eq!(out, vec![MARK; room]);
+        }
+    }
+    let long = b"1 ".repeat(32_768);
+    let mut out = vec![MARK; 8 * 32_768 - 1];
+    assert_eq!(sys::numbers(&long, &mut out), 16 * 65_536 + 11);
+    assert!(out.iter().all(|byte| *byte == MARK));
 }

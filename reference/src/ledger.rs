@@ -10,6 +10,8 @@ pub const BLOCK_LIMIT: u64 = 512;
 pub const COORDINATE_LIMIT: u64 = 2_147_483_647;
 /// Largest chain score.
 pub const CHAIN_SCORE_LIMIT: u64 = 999_999_999_999_999_999;
+/// Largest number in a text of numbers.
+pub const NUMBER_LIMIT: u64 = 999_999_999_999_999_999;
 /// Largest chain id.
 pub const CHAIN_ID_LIMIT: u64 = 4_294_967_295;
 /// Largest BED score.

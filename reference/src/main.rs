@@ -66,7 +66,7 @@ fn text_answer(letter: u8, text: &[u8]) -> Vec<u8> {
     }
 }
 
-/// The cases of words, lists, lines and columns.
+/// The cases of words, lists, lines, texts of numbers and columns.
 fn answer(letter: u8, payload: &[u8]) -> Answer<Vec<u8>> {
     match letter {
         b't' => text::check_text(payload).map(|()| b"fine".to_vec()),
@@ -77,9 +77,11 @@ fn answer(letter: u8, payload: &[u8]) -> Answer<Vec<u8>> {
         b'i' => words::value(payload, 0, CHAIN_ID_LIMIT),
         b'e' => words::value(payload, 0, BED_SCORE_LIMIT),
         b'b' => words::value(payload, 1, BLOCK_LIMIT),
+        b'U' => words::value(payload, 0, u64::MAX),
         b'L' => words::items(payload, 0, None),
         b'Z' => words::items(payload, 1, None),
         b'2' => words::items(payload, 0, Some(2)),
+        b'N' => words::numbers(payload, 32),
         b'r' => text::colour(payload).map(|[r, g, b]| format!("colour {r} {g} {b}").into_bytes()),
         b'n' => text::name(payload).map(|name| format!("name {}", name.len()).into_bytes()),
         b'+' => words::strand(payload, false),

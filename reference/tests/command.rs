@@ -65,6 +65,10 @@ fn numbers() {
         ("e 1001", "e refused 5 at 0"),
         ("b 512", "b value 512"),
         ("b 513", "b refused 5 at 0"),
+        ("U 18446744073709551615", "U value 18446744073709551615"),
+        ("U 18446744073709551616", "U refused 5 at 0"),
+        ("U 007", "U refused 4 at 0"),
+        ("U", "U refused 4 at 0"),
         (
             "d 18446744073709551615",
             "d digits 18446744073709551615 list 18446744073709551615,",
@@ -86,6 +90,23 @@ fn lists_and_colours() {
         ("r 0", "r colour 0 0 0"),
         ("r 1,2,3,", "r refused 4 at 6"),
         ("r 1,2,3,256", "r refused 5 at 6"),
+    ]);
+}
+
+#[test]
+fn texts_of_numbers() {
+    let of = |count: usize| vec!["7"; count].join(" ");
+    cases(&[
+        ("N", "N count 0:"),
+        (r"N \n", "N count 0:"),
+        (r"N \s567\t\t488\n", "N count 2: 567 488"),
+        ("N 567,488", "N refused 4 at 0"),
+        ("N 1 1000000000000000000", "N refused 5 at 2"),
+        (r"N 1\n2", "N refused 2 at 2"),
+        (r"N x\x00", "N refused 3 at 1"),
+        (&format!("N {}", of(32)), &format!("N count 32: {}", of(32))),
+        (&format!("N {}", of(33)), "N refused 11 at 65"),
+        (&format!(r"N {}\n\n", of(33)), "N refused 2 at 66"),
     ]);
 }
 

@@ -1,9 +1,10 @@
-//! Lines, words, numbers, lists, names, strands and colours.
+//! Lines, words, numbers, lists, names, strands, colours and texts of numbers.
 
 mod common;
 
 use common::refusal;
 use reference::ledger::{Strand, COORDINATE_LIMIT};
+use reference::numbers;
 use reference::text::{self, Line};
 
 fn spans(bytes: &[u8]) -> Vec<(usize, usize)> {
@@ -19,6 +20,17 @@ fn line_spans(text: &[u8]) -> Vec<(usize, usize)> {
 
 fn list(word: &[u8]) -> Result<Vec<u64>, (u8, usize)> {
     let answer = text::list(word, 0, COORDINATE_LIMIT, true, None);
+    answer.map_err(|refusal| (refusal.reason.number(), refusal.place))
+}
+
+fn of_64_bits(word: &[u8]) -> Result<u64, (u8, usize)> {
+    let answer = text::number(word, 0, u64::MAX);
+    answer.map_err(|refusal| (refusal.reason.number(), refusal.place))
+}
+
+/// The numbers of a text, with room for any.
+fn read(text: &[u8]) -> Result<Vec<u64>, (u8, usize)> {
+    let answer = numbers::read(text, usize::MAX);
     answer.map_err(|refusal| (refusal.reason.number(), refusal.place))
 }
 
@@ -85,6 +97,51 @@ fn a_well_spelt_number_of_any_length_is_out_of_range() {
         refusal(text::number(b"18446744073709551616", 0, u64::MAX)),
         (5, 0)
     );
+}
+
+#[test]
+fn numbers_of_18_to_21_digits() {
+    for value in [
+        99_999_999_999_999_999,
+        999_999_999_999_999_999,
+        1_000_000_000_000_000_000,
+        9_999_999_999_999_999_999,
+        10_000_000_000_000_000_000,
+        18_446_744_073_709_551_615,
+    ] {
+        assert_eq!(of_64_bits(value.to_string().as_bytes()), Ok(value));
+    }
+    let too_large: [&[u8]; 6] = [
+        b"18446744073709551616",
+        b"18446744073709551620",
+        b"99999999999999999999",
+        b"100000000000000000000",
+        b"184467440737095516150",
+        &[b'9'; 60_000],
+    ];
+    for word in too_large {
+        assert_eq!(of_64_bits(word), Err((5, 0)));
+    }
+    let misspelt: [&[u8]; 6] = [
+        b"018446744073709551615",
+        b"00000000000000000000",
+        b"1844674407370955161x",
+        b"99999999999999999999x",
+        b"x9999999999999999999",
+        &[b'0'; 60_000],
+    ];
+    for word in misspelt {
+        assert_eq!(of_64_bits(word), Err((4, 0)));
+    }
+    let far = [&[b'9'; 60_000][..], b"x"].concat();
+    assert_eq!(of_64_bits(&far), Err((4, 0)));
+}
+
+#[test]
+fn bytes_beside_the_digits_are_none() {
+    for word in [&b"1:"[..], b":1", b"/1", b"1/", b":", b"/"] {
+        assert_eq!(of_64_bits(word), Err((4, 0)), "{word:?}");
+    }
 }
 
 #[test]
@@ -184,4 +241,60 @@ fn a_name_is_handed_back_as_its_part_of_the_text() {
         assert!(part.is_empty());
         assert_eq!(offset(text, part), place, "{start} {length}");
     }
+}
+
+#[test]
+fn a_text_of_numbers_has_any_number_of_words() {
+    let none: [&[u8]; 4] = [b"", b"\n", b" \t", b"\t \n"];
+    for text in none {
+        assert_eq!(read(text), Ok(vec![]), "{text:?}");
+    }
+    assert_eq!(read(b"0"), Ok(vec![0]));
+    assert_eq!(read(b"567 488\n"), Ok(vec![567, 488]));
+    assert_eq!(read(b" \t567\t\t 488 \n"), Ok(vec![567, 488]));
+    assert_eq!(read(&b"1 ".repeat(32_768)), Ok(vec![1; 32_768]));
+}
+
+#[test]
+fn each_word_of_a_text_of_numbers_is_one() {
+    assert_eq!(
+        read(b"999999999999999999 1"),
+        Ok(vec![999_999_999_999_999_999, 1])
+    );
+    assert_eq!(read(b"1 1000000000000000000"), Err((5, 2)));
+    assert_eq!(read(b"1 18446744073709551616 x"), Err((5, 2)));
+    assert_eq!(read(b"1\t x 18446744073709551616"), Err((4, 3)));
+    assert_eq!(read(b"567,488"), Err((4, 0)));
+    assert_eq!(read(b"1 007"), Err((4, 2)));
+    assert_eq!(read(b"-1"), Err((4, 0)));
+}
+
+#[test]
+fn a_surplus_line_comes_after_the_words() {
+    assert_eq!(read(b"1\n2"), Err((2, 2)));
+    assert_eq!(read(b"1\n \t2\n"), Err((2, 4)));
+    assert_eq!(read(b"1\n\n"), Err((2, 2)));
+    assert_eq!(read(b"1\n \t\n"), Err((2, 4)));
+    assert_eq!(read(b"\n\n"), Err((2, 1)));
+    assert_eq!(read(b"x\n2"), Err((4, 0)));
+    assert_eq!(read(b"1000000000000000000\n2"), Err((5, 0)));
+}
+
+#[test]
+fn length_and_bytes_come_before_the_words() {
+    assert_eq!(read(&[b' '; 65_536]), Ok(vec![]));
+    assert_eq!(read(&[b'x'; 65_537]), Err((1, 0)));
+    assert_eq!(read(b"x 1\n2 \x7F"), Err((3, 6)));
+    assert_eq!(read(b"1\r\n"), Err((3, 1)));
+}
+
+#[test]
+fn room_for_the_numbers_comes_last() {
+    let text = b"1 2 3\n";
+    assert_eq!(numbers::read(text, 3), Ok(vec![1, 2, 3]));
+    assert_eq!(refusal(numbers::read(text, 2)), (11, 6));
+    assert_eq!(refusal(numbers::read(text, 0)), (11, 6));
+    assert_eq!(refusal(numbers::read(b"1 2 3\n\n", 0)), (2, 6));
+    assert_eq!(refusal(numbers::read(b"1 2 x", 0)), (4, 4));
+    assert_eq!(numbers::read(b" \n", 0), Ok(vec![]));
 }

@@ -64,15 +64,15 @@ module _ (end count : ℕ) (bytes b : List ℕ) where
   room-short r h e = rw (lt-leb (length bytes) (length b) h) (refused-is (record { reason = NoRoom; place = end }) b r e)
 
   -- what was put at the front, and the rest as before
-  pub put-front : (b′ : List ℕ) (p : ℕ) → length bytes ≤ length b → Put bytes 0 b b′ p → b′ ≡ bytes ++ drop (length bytes) b
-  put-front b′ p h f =
+  pub put-front : (b′ : List ℕ) → length bytes ≤ length b → b′ ≡ sets b 0 bytes → b′ ≡ bytes ++ drop (length bytes) b
+  put-front b′ h f =
       let z : 0 + length bytes ≡ length bytes = omega arith in
       let s : sets b 0 bytes ≡ bytes ++ drop (0 + length bytes) b = sets-eq bytes b 0 (omega arith) in
-      f .stored ∙ rw z at s
+      f ∙ rw z at s
 
-  pub room-put : (b′ : List ℕ) (p r : ℕ) → length bytes ≤ length b → Put bytes 0 b b′ p → r ≡ told count → Answered (roomed end (length b) count bytes) b b′ r
+  pub room-put : (b′ : List ℕ) (r : ℕ) → length bytes ≤ length b → b′ ≡ sets b 0 bytes → r ≡ told count → Answered (roomed end (length b) count bytes) b b′ r
   unfolding roomed
-  room-put b′ p r h f e = rw (le-leb (length bytes) (length b) h) (record { is = e; left = put-front b′ p h f })
+  room-put b′ r h f e = rw (le-leb (length bytes) (length b) h) (record { is = e; left = put-front b′ h f })
 
 -- numbers
 module _ (end : ℕ) (vs b : List ℕ) where
@@ -80,9 +80,9 @@ module _ (end : ℕ) (vs b : List ℕ) where
   unfolding numbered
   numbers-short r h e = room-short end (length vs) (wordsBytes vs) b r (omega (arith, words-length vs)) e
 
-  pub numbers-put : (b′ : List ℕ) (p r : ℕ) → length vs ≤ length b / wordSize → Put (wordsBytes vs) 0 b b′ p → r ≡ told (length vs) → Answered (numbered end (length b) vs) b b′ r
+  pub numbers-put : (b′ : List ℕ) (r : ℕ) → length vs ≤ length b / wordSize → b′ ≡ sets b 0 (wordsBytes vs) → r ≡ told (length vs) → Answered (numbered end (length b) vs) b b′ r
   unfolding numbered
-  numbers-put b′ p r h f e = room-put end (length vs) (wordsBytes vs) b b′ p r (omega (arith, words-length vs)) f e
+  numbers-put b′ r h f e = room-put end (length vs) (wordsBytes vs) b b′ r (omega (arith, words-length vs)) f e
 
 -- a part of a slice has as many numbers as were asked for
 pub part-count : (n : ℕ) (xs : List ℕ) → n ≤ length xs → length (take n xs) ≡ n
@@ -132,7 +132,7 @@ module _ (end n m : ℕ) (fields ts qs zs b : List ℕ) (em : m ≡ min n (rowsO
     record-put q r b′ h f e =
         let f′ : Put (recordBytes fields rows) 0 b b′ q = rw rows-are at f in
         let e′ : r ≡ told (length (recordNumbers fields rows)) = rw (← all-length) at e in
-        numbers-put end (recordNumbers fields rows) b b′ q r (omega (arith, all-length, leb-true (wordSize * (length fields + 3 * m)) (length b) (sym et ∙ h))) f′ e′
+        numbers-put end (recordNumbers fields rows) b b′ r (omega (arith, all-length, leb-true (wordSize * (length fields + 3 * m)) (length b) (sym et ∙ h))) (f′ .stored) e′
 
 -- an answer tells its reason and its value
 pub accepted-reason : (v : ℕ) → told v % 16 ≡ 0

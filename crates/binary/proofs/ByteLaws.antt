@@ -30,11 +30,11 @@ module _ (k n p at : ℕ) (all b b₀ : List ℕ) (c : Completes (lowBytes k n) 
   unfolding lowBytes
   low-done h l m = let e : k ≡ 0 = omega arith in completes-done (lowBytes k n) all p at b b₀ c (rw e) l m
 
-words-next : (vs : List ℕ) (i : ℕ) → i < length vs → wordsBytes (drop i vs) ≡ lowBytes wordSize (getD vs i 0) ++ wordsBytes (drop (i + 1) vs)
+pub words-next : (vs : List ℕ) (i : ℕ) → i < length vs → wordsBytes (drop i vs) ≡ lowBytes wordSize (getD vs i 0) ++ wordsBytes (drop (i + 1) vs)
 unfolding wordsBytes
 words-next vs i h = rw (drop-cons vs i 0 h, add-one i)
 
-words-past : (vs : List ℕ) (i : ℕ) → length vs ≤ i → wordsBytes (drop i vs) ≡ []
+pub words-past : (vs : List ℕ) (i : ℕ) → length vs ≤ i → wordsBytes (drop i vs) ≡ []
 unfolding wordsBytes
 words-past vs i h = rw (drop-of-length-le vs h)
 

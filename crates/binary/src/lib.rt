@@ -1,7 +1,10 @@
 // Numbers as bytes, the lowest first: stored in a lent buffer and read back. `put_` functions are as those of `writing`.
 ghost use mathlib.Core.Path.{_≡_};
 ghost use mathlib.Core.List.{[], _∷_};
-ghost use Prim.Native.Nat.{_+_, _≤_, min};
+ghost use Prim.Native.Nat.{_+_, _*_, _≤_, min};
+ghost use lib.Dec.{leb};
+ghost use lib.ListN.{length};
+ghost use lib.Seq.{sets};
 ghost use Rattle.blocks.specs.Rows.{rowAs, tableOf};
 ghost use Rattle.writing.specs.Puts.{Put};
 ghost use Rattle.binary.specs.Bytes.{lowBytes, wordSize, wordsBytes, lowAt, rowsNumbers, ByteRead};
@@ -24,8 +27,52 @@ pub fn put_low(buf: &mut [u8], at: usize, n: u64, count: usize) -> usize
     p
 }
 
-// Stores numbers, a word each.
-pub fn put_words(buf: &mut [u8], at: usize, vs: &[u64]) -> usize
+// Stores the bytes of a number, which there is room for. Plain stores, with no test between them, are made into one.
+fn store_word(buf: &mut [u8], at: usize, n: u64)
+    requires { ⌜ at + wordSize ≤ length (now buf) ⌝ }
+    ensures { λ _. ⌜ now (buf .exit) ≡ sets (now (buf .entry)) at (lowBytes wordSize n) ⌝ }
+{
+    let a = n / 256;
+    let b = a / 256;
+    let c = b / 256;
+    let d = c / 256;
+    let e = d / 256;
+    let f = e / 256;
+    let g = f / 256;
+    buf[at] = (n % 256) as u8;
+    buf[at + 1] = (a % 256) as u8;
+    buf[at + 2] = (b % 256) as u8;
+    buf[at + 3] = (c % 256) as u8;
+    buf[at + 4] = (d % 256) as u8;
+    buf[at + 5] = (e % 256) as u8;
+    buf[at + 6] = (f % 256) as u8;
+    buf[at + 7] = (g % 256) as u8;
+}
+
+// Stores numbers, a word each, which there is room for.
+fn store_words(buf: &mut [u8], at: usize, vs: &[u64])
+    requires { ⌜ at + wordSize * length (now vs) ≤ length (now buf) ⌝ }
+    ensures { λ _. ⌜ now (buf .exit) ≡ sets (now (buf .entry)) at (wordsBytes (now (vs .entry))) ⌝ }
+{
+    let mut i = 0;
+    while i < vs.len() {
+        store_word(buf, at + WORD_SIZE * i, vs[i]);
+        i += 1;
+    }
+}
+
+// Whether so many bytes have room for so many words from a place on.
+fn has_room(n: usize, at: usize, words: usize) -> bool
+    ensures { λ r. ⌜ r ≡ leb (at + wordSize * words) n ⌝ }
+{
+    if n < at {
+        return false;
+    }
+    words <= (n - at) / WORD_SIZE
+}
+
+// Stores numbers, a word each, byte by byte as far as the buffer reaches.
+fn put_each(buf: &mut [u8], at: usize, vs: &[u64]) -> usize
     ensures { λ r. ⌜ Put (wordsBytes (now (vs .entry))) at (now (buf .entry)) (now (buf .exit)) r ⌝ }
 {
     let mut p = at;
@@ -35,6 +82,17 @@ pub fn put_words(buf: &mut [u8], at: usize, vs: &[u64]) -> usize
         i += 1;
     }
     p
+}
+
+// Stores numbers, a word each. Where there is room for all of them no byte is tested by itself.
+pub fn put_words(buf: &mut [u8], at: usize, vs: &[u64]) -> usize
+    ensures { λ r. ⌜ Put (wordsBytes (now (vs .entry))) at (now (buf .entry)) (now (buf .exit)) r ⌝ }
+{
+    if has_room(buf.len(), at, vs.len()) {
+        store_words(buf, at, vs);
+        return at + WORD_SIZE * vs.len();
+    }
+    put_each(buf, at, vs)
 }
 
 // Stores the three numbers of a row.

@@ -17,8 +17,8 @@ use Rattle.demands.specs.Bed.{bed}
 use Rattle.demands.specs.Psl.{psl}
 use Rattle.demands.specs.Chain.{chain}
 use Rattle.demands.specs.Demand1.{Refusals, Demand1}
-use Rattle.demands.proofs.TextPlaceLaws.{bed-read-in, psl-read-in, chain-read-in}
-use Rattle.demands.proofs.EndLaws.{bed-write-at, psl-write-at, chain-write-at, check-ends, parse-ends, format-ends, convert-ends, lift-position-ends, lift-region-ends, turned-ends, tallied-ends}
+use Rattle.demands.proofs.TextPlaceLaws.{bed-read-in, psl-read-in, numbers-read-in, chain-read-in}
+use Rattle.demands.proofs.EndLaws.{bed-write-at, psl-write-at, chain-write-at, check-ends, parse-ends, format-ends, numbers-ends, convert-ends, lift-position-ends, lift-region-ends, turned-ends, tallied-ends}
 use Rattle.demands.proofs.RefusalLaws.{turn-at, tally-grows}
 
 -- the formats
@@ -80,6 +80,7 @@ demand1 = record {
   beds = bed-refusals;
   psls = psl-refusals;
   chains = chain-refusals;
+  numbersReader = λ s before after x w. (rw (← w .is) at (numbers-read-in s (length before)), w .left);
   turner = λ c rows before after x w. (turn-at c rows (length before) x (w .is), turnTable.refused-rows c rows before after x w);
   tallyGrows = tally-grows;
   tally = tally-left;
@@ -94,6 +95,7 @@ demand1 = record {
   check = check-ends;
   parse = λ kind s. record { ends = λ b b′ a. parse-ends b b′ a kind s; left = λ b b′ a. desk.parse-left b b′ a kind s };
   format = λ kind s. record { ends = λ b b′ a. format-ends b b′ a kind s; left = λ b b′ a. desk.format-left b b′ a kind s };
+  numbers = λ s. record { ends = λ b b′ a. numbers-ends b b′ a s; left = λ b b′ a. desk.numbers-left b b′ a s };
   convert = λ start end size. record { ends = λ b b′ a. convert-ends b b′ a start end size; left = λ b b′ a. desk.convert-left b b′ a start end size };
   liftPosition = λ s p. record { ends = λ b b′ a. lift-position-ends b b′ a s p; left = λ b b′ a. desk.position-left b b′ a s p };
   liftRegion = λ s start end. record { ends = λ b b′ a. lift-region-ends b b′ a s start end; left = λ b b′ a. desk.region-left b b′ a s start end };

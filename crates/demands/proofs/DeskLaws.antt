@@ -1,19 +1,25 @@
 -- Demands 2 and 3 hold at the entries. Assumes nothing.
 use mathlib.Core.Path.{_≡_, refl, sym, ap, _∙_}
-use mathlib.Core.List.{List, [], _∷_}
-use Prim.Native.Nat.{ℕ, _+_, _%_, _≤_}
+use mathlib.Core.Logic.{_↔_}
+use mathlib.Core.List.{List, [], _∷_, _++_}
+use Prim.Native.Nat.{ℕ, _+_, _*_, _%_, _≤_}
 use native.Mathlib.Omega.{arith}
-use lib.ListN.{length, length-append}
-use lib.Seq.{take-all}
+use lib.ListN.{length, length-append, length-map, length-take}
+use lib.Seq.{take-all, ext-getD}
 use borrow.Author.Tests.{le-leb, lt-leb, ne-eqb}
 use Rattle.ledger.specs.declared.Row.{Row}
 use Rattle.ledger.specs.declared.Reason.the-variants.{BadWord, NoRoom}
 use Rattle.ledger.specs.declared.Refusal.{Refusal}
-use Rattle.ledger.specs.Limits.{textLimit, blockLimit}
+use Rattle.ledger.specs.Limits.{textLimit, blockLimit, largestNumber}
 use Rattle.ledger.specs.Reasons.{reasonNumber}
+use Rattle.text.specs.declared.Class.the-variants.{Line}
+use Rattle.text.specs.Scan.{run}
+use Rattle.text.specs.Pieces.{lineOf}
 use Rattle.text.specs.Parts.{partBytes}
 use Rattle.text.proofs.Laws.{either}
+use Rattle.numbers.specs.Ranges.{Between, between-none, between-more}
 use Rattle.writing.specs.Answers.{roomAnswer}
+use Rattle.writing.specs.Digits.{digits}
 use Rattle.blocks.specs.Rows.{targetsOf, queriesOf, sizesOf}
 use Rattle.bed.specs.declared.Bed.{Bed}
 use Rattle.bed.specs.Records.{bedTargets, bedQueries, bedSizes}
@@ -27,6 +33,11 @@ use Rattle.chain.specs.Read.{chainCheck}
 use Rattle.chain.specs.Rules.{named}
 use Rattle.chain.specs.Write.{chainText, chainWrite}
 use Rattle.chain.proofs.RuleLaws.{rules-of}
+use Rattle.number_line.specs.declared.NumbersAnswer.{NumbersAnswer}
+use Rattle.number_line.specs.declared.NumbersAnswer.the-variants as numbersAnswer
+use Rattle.number_line.specs.Numbers.{largestListed, numbersIn, numbersCheck}
+use Rattle.number_line.specs.Rules.{NumbersText}
+use Rattle.number_line.proofs.LineLaws.{numbers-of, numbers-is}
 use Rattle.lift.specs.declared.PositionAnswer.{PositionAnswer}
 use Rattle.lift.specs.declared.PositionAnswer.the-variants as position
 use Rattle.lift.specs.Accepted.{accepted}
@@ -40,20 +51,21 @@ use Rattle.turn.proofs.TurnLaws.{turns, counted, turned-accepted}
 use Rattle.table_bed.proofs.RowLaws.{bed-reads}
 use Rattle.table_psl.proofs.RowLaws.{psl-reads}
 use Rattle.table_chain.proofs.RowLaws.{chain-reads}
-use Rattle.binary.specs.Bytes.{wordsBytes}
-use Rattle.binary.proofs.BackLaws.{rows-length}
+use Rattle.binary.specs.Bytes.{wordSize, wordsBytes, lowAt}
+use Rattle.binary.proofs.BackLaws.{rows-length, words-length, words-back}
 use Rattle.answers.specs.Answers.{mostTold, told, Outcome, gives, refuses, refusalCode, Answered, roomed, numbered, recordNumbers, recorded}
 use Rattle.answers.proofs.AnswerLaws.{told-itself, refused-reason}
 use Rattle.desk.specs.Records.{bedNumbers, pslNumbers, chainNumbers}
-use Rattle.desk.specs.Entries.{byKind, written, nameBytes, bedWritten, pslWritten, chainWritten, checkedBed, checkedPsl, checkedChain, checked, parsedBed, parsedPsl, parsedChain, parsed, formattedBed, formattedPsl, formattedChain, formatted, inWord, ofPosition, positionLifted, ofRegion, regionLifted, turnWritten, turnedText, tallied}
+use Rattle.desk.specs.Entries.{byKind, written, nameBytes, bedWritten, pslWritten, chainWritten, checkedBed, checkedPsl, checkedChain, checked, parsedBed, parsedPsl, parsedChain, parsed, formattedBed, formattedPsl, formattedChain, formatted, ofNumbers, numbersGiven, inWord, ofPosition, positionLifted, ofRegion, regionLifted, turnWritten, turnedText, tallied}
 use Rattle.demands.specs.Formats.{Names, Format}
 use Rattle.demands.specs.Demand2.{Demand2}
 use Rattle.demands.specs.Bed.{BedSpells, bedNames, bed}
 use Rattle.demands.specs.Psl.{PslSpells, pslNames, psl}
 use Rattle.demands.specs.Chain.{ChainSpells, chainNames, ChainValid, chain}
-use Rattle.demands.specs.Desk.{RefusedBy, Gives, GivenRoom, Refuses, SpellsOne, AtDesk, PositionTold, RegionTold, turnedIn, ChainsAtDesk, Desk}
+use Rattle.demands.specs.Desk.{RefusedBy, Gives, GivenRoom, Refuses, SpellsOne, AtDesk, SpellsNumbers, NumbersAtDesk, PositionTold, RegionTold, turnedIn, ChainsAtDesk, Desk}
 use Rattle.demands.proofs.RowLaws.{read-flat, refused-of}
-use Rattle.demands.proofs.TextPlaceLaws.{bed-in, bed-long, psl-in, psl-long, chain-in, chain-long}
+use Rattle.demands.proofs.PlaceLaws.{words-few}
+use Rattle.demands.proofs.TextPlaceLaws.{bed-in, bed-long, psl-in, psl-long, numbers-in, numbers-long, chain-in, chain-long}
 use Rattle.demands.proofs.BedDemand2 as ofBed
 use Rattle.demands.proofs.PslDemand2 as ofPsl
 use Rattle.demands.proofs.ChainDemand2 as ofChain
@@ -279,6 +291,67 @@ chain-entries = record {
   decided = λ s P f g. chain-reads s .cases _ P (λ r e. f (record { one = r; rows = _; spells = ofChain.spelt-of s r e })) (λ x e. g x (rw e) (λ room. rw e) (λ room. rw e));
 }
 
+-- ---- a line of numbers
+module _ (s vs : List ℕ) (t : NumbersText s vs) where
+  few-numbers : length vs ≤ length s + 1
+  unfolding lineOf
+  few-numbers = let e = ap length (t .words) ∙ length-map vs digits in omega (arith, e, words-few (lineOf s), length-take (run Line s) s)
+
+  numbers-told : (b b′ : List ℕ) (a : ℕ) → Answered (numbersGiven s (length b)) b b′ a → GivenRoom (length s) (length vs) (wordsBytes vs) b b′ a
+  unfolding numbersGiven
+  numbers-told b b′ a h =
+      let k = numbers-is s vs t in
+      numbers-given b b′ a (length s) vs (omega (arith, t .short)) (omega (arith, few-numbers, t .short)) (rw (k .0, ← k .1) at h)
+
+numbers-only : (s b b′ : List ℕ) (a : ℕ) → Answered (numbersGiven s (length b)) b b′ a → a % 16 ≡ 0 → SpellsNumbers s
+unfolding numbersGiven
+numbers-only s b b′ a h z = go (numbersCheck s) _ refl (h .is)
+  where
+    go : (x : NumbersAnswer) (rest : Outcome) → numbersCheck s ≡ x → a ≡ ofNumbers x rest .answer → SpellsNumbers s
+    go (numbersAnswer.Accepted n) rest e q = record { numbers = numbersIn s; spells = numbers-of s n e .0 }
+    go (numbersAnswer.Refused x) rest e q = absurd (no-count x a q z)
+
+-- bytes at the front tell their numbers
+same-numbers : (vs ws x y : List ℕ) → Between 0 largestNumber vs → Between 0 largestNumber ws → length vs ≡ length ws → wordsBytes vs ++ x ≡ wordsBytes ws ++ y → vs ≡ ws
+same-numbers vs ws x y p q n e =
+    ext-getD 0 vs ws n (λ i h. sym (words-back vs x i p h) ∙ ap (λ (l : List ℕ). lowAt wordSize l (wordSize * i)) e ∙ words-back ws y i q (omega arith))
+
+in-words : {vs : List ℕ} → Between 0 largestListed vs → Between 0 largestNumber vs
+in-words between-none = between-none
+in-words (between-more low high b) = between-more low (omega arith) (in-words b)
+
+numbers-exactly : (s vs : List ℕ) → Between 0 largestNumber vs → (b b′ : List ℕ) (a : ℕ) → Answered (numbersGiven s (length b)) b b′ a
+    → Gives (length vs) (wordsBytes vs) b b′ a ↔ (NumbersText s vs × (wordSize * length vs ≤ length b))
+numbers-exactly s vs p b b′ a h = (
+  λ g.
+      let one = numbers-only s b b′ a h (omega (arith, g .code)) in
+      let ws = one .numbers in
+      let room = numbers-told s ws (one .spells) b b′ a h in
+      either (length (wordsBytes ws)) (length b) _
+      (λ m.
+      let k = room .enough m in
+      let n : length vs ≡ length ws = omega (arith, g .code, k .code) in
+      let e = same-numbers vs ws _ _ p (in-words (one .spells .range)) n (sym (g .left) ∙ k .left) in
+      (rw e (one .spells), omega (arith, words-length ws)))
+      (λ m. absurd (omega (arith, g .code, room .short m .code, thirteen NoRoom .0, thirteen NoRoom .1))),
+  λ t. numbers-told s vs (t .0) b b′ a h .enough (omega (arith, words-length vs, t .1)),
+)
+
+numbers-low : (s : List ℕ) (x : Refusal) → numbersAnswer.Refused x ≡ numbersCheck s → x .place ≤ mostTold
+numbers-low s x e =
+    let q : x .place ≤ length s = rw (← e) at (numbers-in s) in
+    either (length s) textLimit _ (λ h. omega arith) (λ h. let z : x .place ≡ 0 = rw (← e) at (numbers-long s h) in omega arith)
+
+numbers-calls : NumbersAtDesk
+unfolding numbersGiven
+numbers-calls = record {
+  gives = numbers-told;
+  givesOnly = numbers-only;
+  givesExactly = numbers-exactly;
+  oneList = λ s vs ws t u. numbers-is s vs t .1 ∙ sym (numbers-is s ws u .1);
+  givesRefused = λ s x e b b′ a h. refused-by b b′ a x (numbers-low s x e) (rw (← e) at h);
+}
+
 -- ---- lifts and turns of a chain's text
 spelt-or : (s : List ℕ) (P : Type 0) → (SpellsOne chain s → P) → ((x : Refusal) → chainCheck s ≡ chainAnswer.Refused x → P) → P
 unfolding chain
@@ -322,6 +395,7 @@ desk = record {
   beds = at-desk bed ofBed.bed-demand2 bed-entries;
   psls = at-desk psl ofPsl.psl-demand2 psl-entries;
   chains = at-desk chain ofChain.chain-demand2 chain-entries;
+  numbers = numbers-calls;
   chainCalls = chain-calls;
   otherKind = λ kind s f g h b b′ a.
       let other : Refusal = record { reason = BadWord; place = 0 } in (

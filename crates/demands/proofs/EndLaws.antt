@@ -42,6 +42,9 @@ use Rattle.chain.specs.Records.{chainRows}
 use Rattle.chain.specs.Read.{chainCheck}
 use Rattle.chain.specs.Tests as chainTests
 use Rattle.chain.specs.Write as chain
+use Rattle.number_line.specs.declared.NumbersAnswer.{NumbersAnswer}
+use Rattle.number_line.specs.declared.NumbersAnswer.the-variants as numbersAnswer
+use Rattle.number_line.specs.Numbers.{numbersIn, numbersCheck}
 use Rattle.lift.specs.declared.Partner.{Partner}
 use Rattle.lift.specs.declared.Partner.the-variants.{Base, Alone}
 use Rattle.lift.specs.Accepted.{accepted}
@@ -59,10 +62,10 @@ use Rattle.turn.specs.declared.TurnAnswer.the-variants.{Turned}
 use Rattle.turn.specs.Turns as turns
 use Rattle.binary.specs.Bytes.{wordsBytes}
 use Rattle.answers.specs.Answers.{mostTold, told, Outcome, gives, pickOutcome, refusalCode, Answered, roomed, numbered, recorded}
-use Rattle.desk.specs.Entries.{byKind, ofBed, ofPsl, ofChain, ofSpan, ofPosition, ofRegion, ofTurn, ofTallied, atEnd, pickPlace, nameBytes, written, bedWritten, pslWritten, chainWritten, checkedBed, checkedPsl, checkedChain, checked, parsedBed, parsedPsl, parsedChain, parsed, formattedBed, formattedPsl, formattedChain, formatted, convertedNumbers, positionLifted, regionLifted, turnWritten, turnedText, tallyIn, tallyBytes, tallied}
+use Rattle.desk.specs.Entries.{byKind, ofBed, ofPsl, ofChain, ofNumbers, ofSpan, ofPosition, ofRegion, ofTurn, ofTallied, atEnd, pickPlace, nameBytes, written, bedWritten, pslWritten, chainWritten, checkedBed, checkedPsl, checkedChain, checked, parsedBed, parsedPsl, parsedChain, parsed, formattedBed, formattedPsl, formattedChain, formatted, numbersGiven, convertedNumbers, positionLifted, regionLifted, turnWritten, turnedText, tallyIn, tallyBytes, tallied}
 use Rattle.demands.specs.Demand1.{Ended, with-count, with-place}
 use Rattle.demands.proofs.PlaceLaws.{placeOf, required}
-use Rattle.demands.proofs.TextPlaceLaws.{bedPlace, bed-in, pslPlace, psl-in, chainPlace, chain-in}
+use Rattle.demands.proofs.TextPlaceLaws.{bedPlace, bed-in, pslPlace, psl-in, numbersPlace, numbers-in, chainPlace, chain-in}
 
 -- an outcome that ends so
 abbrev Ends : ℕ → Outcome → Type 0
@@ -101,6 +104,10 @@ psl-ends end (pslAnswer.Refused x) rest h f = code-ends end x h
 chain-ends : (end : ℕ) (a : ChainAnswer) (rest : Chain → Outcome) → chainPlace a ≤ end → ((r : Chain) → Ends end (rest r)) → Ends end (ofChain a rest)
 chain-ends end (chainAnswer.Accepted r) rest h f = f r
 chain-ends end (chainAnswer.Refused x) rest h f = code-ends end x h
+
+listed-ends : (end : ℕ) (a : NumbersAnswer) (rest : Outcome) → numbersPlace a ≤ end → Ends end rest → Ends end (ofNumbers a rest)
+listed-ends end (numbersAnswer.Accepted n) rest h f = f
+listed-ends end (numbersAnswer.Refused x) rest h f = code-ends end x h
 
 -- ---- writers refuse at place 0, which their entry tells at the text's end for want of room
 writing-ends : (end : ℕ) (c : Check) (n room : ℕ) (bytes : List ℕ) → placeOf c ≤ 0 → Ends end (written end (thenWrite c (roomAnswer n room)) bytes)
@@ -270,6 +277,10 @@ module _ (b b′ : List ℕ) (r : ℕ) where
       (kind-ends (length s) kind _ _ _ (bed-ends (length s) (bedCheck s) _ (bed-in s) (λ a. bed-written s _ _ _ (length b) a))
       (psl-ends (length s) (pslCheck s) _ (psl-in s) (λ a. psl-written s _ _ _ (length b) a))
       (chain-ends (length s) (chainCheck s) _ (chain-in s) (λ a. chain-written s _ _ _ (length b) a)))
+
+  pub numbers-ends : (s : List ℕ) → Answered (numbersGiven s (length b)) b b′ r → Ended (length s) r
+  unfolding numbersGiven
+  numbers-ends s = answered-ends (length s) _ b b′ r (listed-ends (length s) (numbersCheck s) _ (numbers-in s) (numbered-ends (length s) (length b) (numbersIn s)))
 
   pub convert-ends : (start end size : ℕ) → Answered (convertedNumbers start end size (length b)) b b′ r → Ended 0 r
   unfolding convertedNumbers

@@ -18,7 +18,7 @@ use Rattle.text.specs.declared.Check.the-variants.{Holds}
 use Rattle.text.specs.declared.Check.the-variants as check
 use Rattle.text.specs.declared.Extent.{Extent}
 use Rattle.text.specs.Scan.{isIn, endOf}
-use Rattle.text.specs.Pieces.{pickPieces, onto, piecesOf}
+use Rattle.text.specs.Pieces.{pickPieces, onto, piecesOf, nonEmpty, wordsOf}
 use Rattle.text.specs.Words.{lineEnd, nextLine, nextWord, wordAt, bytesOf}
 use Rattle.text.specs.Checks.{require, textCheck, wordsCheck, lastLineCheck}
 use Rattle.text.proofs.CheckLaws.{run-most}
@@ -107,6 +107,17 @@ pieces-spread c (b ∷ w) = go (isIn c b) (piecesOf c w) (pieces-spread c w)
     go true [] h = omega arith
     go true (x ∷ xs) h = omega arith
     go false xs h = omega arith
+
+-- a line has no more words than bytes and one more
+held-few : (xs : List (List ℕ)) → length (nonEmpty xs) ≤ spread xs
+unfolding nonEmpty
+held-few [] = omega arith
+held-few ([] ∷ xs) = omega (arith, held-few xs)
+held-few ((b ∷ w) ∷ xs) = omega (arith, held-few xs)
+
+pub words-few : (line : List ℕ) → length (wordsOf line) ≤ length line + 1
+unfolding wordsOf
+words-few line = omega (arith, held-few (piecesOf Word line), pieces-spread Word line)
 
 items-near : (least most n at : ℕ) (xs : List (List ℕ)) → faultIn (testItems least most n at xs) ≤ at + spread xs - 1
 unfolding testItems

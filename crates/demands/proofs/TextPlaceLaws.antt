@@ -1,8 +1,8 @@
 -- The refusals of the three text checkers and readers stand in the text. Assumes nothing.
 use mathlib.Core.Path.{_≡_, sym}
 use mathlib.Core.Bool.{Bool, true, false, _&&_}
-use mathlib.Core.List.{List}
-use Prim.Native.Nat.{ℕ, zero, suc, _+_, _-_, _≤_, _<_, zero-le}
+use mathlib.Core.List.{List, [], _∷_}
+use Prim.Native.Nat.{ℕ, zero, suc, _+_, _-_, _*_, _≤_, _<_, zero-le}
 use native.Mathlib.Nat.{le-refl}
 use lib.ListN.{length, take, getD}
 use lib.Dec.{leb, ltb, eqb}
@@ -11,15 +11,20 @@ use Rattle.ledger.specs.Limits.{textLimit, blockLimit}
 use Rattle.text.specs.declared.Check.{Check}
 use Rattle.text.specs.declared.Check.the-variants.{Holds}
 use Rattle.text.specs.declared.Check.the-variants as check
-use Rattle.text.specs.Words.{nextLine, wordCount}
+use Rattle.text.specs.Pieces.{lineOf, wordsOf}
+use Rattle.text.specs.Words.{nextLine, nextWord, wordCount}
 use Rattle.text.specs.Checks.{textCheck, wordsCheck, lastLineCheck}
 use Rattle.text.proofs.Laws.{text-long}
+use Rattle.numbers.specs.declared.Spelt.{Spelt}
+use Rattle.numbers.specs.declared.Spelt.the-variants.{Means, Faulty}
+use Rattle.numbers.specs.Numbers.{numberOf}
 use Rattle.columns.specs.declared.Columns.{Columns}
 use Rattle.columns.specs.declared.Columns.the-variants.{Next}
 use Rattle.columns.specs.declared.Columns.the-variants as columns
 use Rattle.columns.specs.Columns.{columnsFrom, valuesFrom}
 use Rattle.columns.specs.OneLine.{countCheck, thenLine, lineRead}
 use Rattle.blocks.specs.Blocks.{blocksFill, spanFits}
+use Rattle.binary.specs.Bytes.{wordSize}
 use Rattle.bed.specs.declared.Bed.{Bed}
 use Rattle.bed.specs.declared.BedAnswer.{BedAnswer}
 use Rattle.bed.specs.declared.BedAnswer.the-variants as bedAnswer
@@ -32,6 +37,9 @@ use Rattle.psl.specs.Table.{pslColumns}
 use Rattle.psl.specs.Records.{pslRecord, pslSizes, pslQueries, pslTargets}
 use Rattle.psl.specs.Rows.{rowsFit, countsFit}
 use Rattle.psl.specs.Read as psl
+use Rattle.number_line.specs.declared.NumbersAnswer.{NumbersAnswer}
+use Rattle.number_line.specs.declared.NumbersAnswer.the-variants as numbersAnswer
+use Rattle.number_line.specs.Numbers as numbers
 use Rattle.chain.specs.declared.ChainAnswer.{ChainAnswer}
 use Rattle.chain.specs.declared.ChainAnswer.the-variants as chainAnswer
 use Rattle.chain.specs.declared.Block.{Block}
@@ -44,7 +52,7 @@ use Rattle.chain.specs.declared.Lines.the-variants as lines
 use Rattle.chain.specs.Table.{chainColumns, blockColumns}
 use Rattle.chain.specs.Records.{chainRecord}
 use Rattle.chain.specs.Read as chain
-use Rattle.demands.proofs.PlaceLaws.{line-in, placeOf, required, text-place, words-place, last-place, columnsPlace, columns-place, values-place, line-place}
+use Rattle.demands.proofs.PlaceLaws.{next-in, line-in, placeOf, required, text-place, words-place, last-place, columnsPlace, columns-place, values-place, line-place}
 
 -- ---- BED
 abbrev pub bedPlace : BedAnswer → ℕ
@@ -138,6 +146,49 @@ module _ (s : List ℕ) where
       go : (a : PslAnswer) → pslPlace a ≤ length s → pslPlace (psl.thenRoom a s room) ≤ length s
       go (pslAnswer.Accepted r) h = psl-check (psl.roomCheck s r room) (pslAnswer.Accepted r) (required (length s) (leb (r .blockCount) room) NoRoom _ Holds (le-refl (length s)) zero-le) zero-le
       go (pslAnswer.Refused x) h = h
+
+-- ---- a line of numbers
+abbrev pub numbersPlace : NumbersAnswer → ℕ
+numbersPlace (numbersAnswer.Accepted n) = 0
+numbersPlace (numbersAnswer.Refused x) = x .place
+
+module _ (s : List ℕ) where
+  numbers-words : (at : ℕ) (ws : List (List ℕ)) → at ≤ length s → placeOf (numbers.wordsFrom s at ws) ≤ length s
+  unfolding numbers.wordsFrom
+  numbers-words at [] h = zero-le
+  numbers-words at (w ∷ ws) h = go (numberOf 0 numbers.largestListed w) (numbers-words (nextWord s at .end) ws (next-in s at h .1))
+    where
+      go : (x : Spelt) → placeOf (numbers.wordsFrom s (nextWord s at .end) ws) ≤ length s → placeOf (numbers.orWord x (nextWord s at .start) (numbers.wordsFrom s (nextWord s at .end) ws)) ≤ length s
+      go (Means v) k = k
+      go (Faulty why off) k = next-in s at h .0
+
+  numbers-check : (c : Check) (rest : NumbersAnswer) → placeOf c ≤ length s → numbersPlace rest ≤ length s → numbersPlace (numbers.thenNumbers c rest) ≤ length s
+  numbers-check Holds rest h k = k
+  numbers-check (check.Refused x) rest h k = h
+
+  pub numbers-in : numbersPlace (numbers.numbersCheck s) ≤ length s
+  unfolding numbers.numbersCheck
+  numbers-in =
+      numbers-check (textCheck s) _ (text-place s)
+      (numbers-check (numbers.wordsFrom s 0 (wordsOf (lineOf s))) _ (numbers-words 0 (wordsOf (lineOf s)) zero-le)
+      (numbers-check (lastLineCheck s 0) _ (last-place s 0 zero-le) zero-le))
+
+  pub numbers-long : textLimit < length s → numbersPlace (numbers.numbersCheck s) ≡ 0
+  unfolding numbers.numbersCheck
+  numbers-long h = rw (sym (text-long s h))
+
+  -- with the room tested last, at the text's end
+  pub numbers-read-in : (room : ℕ) → numbersPlace (numbers.numbersRead s room) ≤ length s
+  unfolding numbers.numbersRead
+  numbers-read-in room = go (numbers.numbersCheck s) numbers-in
+    where
+      fits : (t : Bool) (n : ℕ) → numbersPlace (numbers.pickNumbers t (numbersAnswer.Accepted n) (numbersAnswer.Refused (record { reason = NoRoom; place = length s }))) ≤ length s
+      fits true n = zero-le
+      fits false n = le-refl (length s)
+
+      go : (a : NumbersAnswer) → numbersPlace a ≤ length s → numbersPlace (numbers.roomCheck a (length s) room) ≤ length s
+      go (numbersAnswer.Accepted n) h = fits (leb (wordSize * n) room) n
+      go (numbersAnswer.Refused x) h = h
 
 -- ---- chains: where its lines end, or are refused
 abbrev pub chainPlace : ChainAnswer → ℕ

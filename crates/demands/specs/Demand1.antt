@@ -22,6 +22,8 @@ use Rattle.chain.specs.declared.Chain.{Chain}
 use Rattle.chain.specs.declared.ChainAnswer.the-variants as chainAnswer
 use Rattle.chain.specs.Read.{ChainRead}
 use Rattle.chain.specs.Write.{ChainWrote}
+use Rattle.number_line.specs.declared.NumbersAnswer.the-variants as numbersAnswer
+use Rattle.number_line.specs.Numbers.{NumbersStored}
 use Rattle.region.specs.declared.Tally.{Tally}
 use Rattle.region.specs.declared.Region.{Region}
 use Rattle.region.specs.declared.RegionAnswer.the-variants as region
@@ -31,7 +33,7 @@ use Rattle.table_lift.specs.Lifts.{RegionTallied}
 use Rattle.table_turn.specs.Turns.{RowsTurned}
 use Rattle.turn.specs.Turns.{TurnedInto}
 use Rattle.answers.specs.Answers.{Outcome, Answered}
-use Rattle.desk.specs.Entries.{checked, parsed, formatted, convertedNumbers, positionLifted, regionLifted, turnedText, tallied, Refusing}
+use Rattle.desk.specs.Entries.{checked, parsed, formatted, numbersGiven, convertedNumbers, positionLifted, regionLifted, turnedText, tallied, Refusing}
 use Rattle.demands.specs.Formats.{Names, Format}
 use Rattle.demands.specs.Bed.{bed}
 use Rattle.demands.specs.Psl.{psl}
@@ -61,6 +63,8 @@ pub record Demand1 : Type 0 where
   pub beds : Refusals bed
   pub psls : Refusals psl
   pub chains : Refusals chain
+  -- the reader of a line of numbers: its place stands in the text, and it leaves the lent bytes
+  pub numbersReader : (s before after : List ℕ) (x : Refusal) → NumbersStored s before after (numbersAnswer.Refused x) → (x .place ≤ length s) × (after ≡ before)
   -- the turn leaves the table for the turned rows
   pub turner : (c : Chain) (rows before after : List Row) (x : Refusal) → RowsTurned c rows before after (turn.Refused x) → (x .place ≡ 0) × (after ≡ before)
   -- the tally grows by the length, the kept and the dropped bases of a region that lifts; every refusal but 12 leaves it, and 12 adds the region's length to asked and dropped
@@ -79,6 +83,7 @@ pub record Demand1 : Type 0 where
   pub check : (kind : ℕ) (s : List ℕ) (a : ℕ) → a ≡ checked kind s .answer → Ended (length s) a
   pub parse : (kind : ℕ) (s : List ℕ) → Entry (length s) (parsed kind s)
   pub format : (kind : ℕ) (s : List ℕ) → Entry (length s) (formatted kind s)
+  pub numbers : (s : List ℕ) → Entry (length s) (numbersGiven s)
   pub convert : (start end size : ℕ) → Entry 0 (convertedNumbers start end size)
   pub liftPosition : (s : List ℕ) (p : ℕ) → Entry (length s) (positionLifted s p)
   pub liftRegion : (s : List ℕ) (start end : ℕ) → Entry (length s) (regionLifted s start end)

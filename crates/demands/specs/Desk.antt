@@ -1,6 +1,7 @@
 -- DEMANDS 2 AND 3 AT THE ENTRIES (docs/DESK.md): the answer a of a call and the lent bytes, b before and b′ after it, are those of the record that the text spells.
 use Prim.Native.Nat.{ℕ, _+_, _*_, _%_, _≤_, _<_}
 use mathlib.Core.Path.{_≡_}
+use mathlib.Core.Logic.{_↔_}
 use mathlib.Core.List.{List, [], _∷_, _++_}
 use lib.ListN.{length, drop}
 use Rattle.ledger.specs.declared.Row.{Row}
@@ -12,6 +13,9 @@ use Rattle.text.specs.Parts.{partBytes}
 use Rattle.blocks.specs.Rows.{targetsOf, queriesOf, sizesOf}
 use Rattle.chain.specs.declared.Chain.{Chain}
 use Rattle.chain.specs.Write.{chainText}
+use Rattle.number_line.specs.declared.NumbersAnswer.the-variants as numbersAnswer
+use Rattle.number_line.specs.Numbers.{numbersCheck}
+use Rattle.number_line.specs.Rules.{NumbersText}
 use Rattle.lift.specs.declared.PositionAnswer.{PositionAnswer}
 use Rattle.lift.specs.declared.PositionAnswer.the-variants as position
 use Rattle.lift.specs.Positions.{liftPosition}
@@ -22,9 +26,9 @@ use Rattle.region.specs.declared.Tally.{Tally}
 use Rattle.table_lift.specs.Lifts.{RegionTallied}
 use Rattle.numbers.specs.Ranges.{Between}
 use Rattle.turn.specs.Turns.{turned, turnedRows}
-use Rattle.binary.specs.Bytes.{wordsBytes}
+use Rattle.binary.specs.Bytes.{wordSize, wordsBytes}
 use Rattle.answers.specs.Answers.{Answered, recordNumbers, recordBytes}
-use Rattle.desk.specs.Entries.{inWord, tallyBytes, checked, parsed, formatted, positionLifted, regionLifted, turnedText, tallied}
+use Rattle.desk.specs.Entries.{inWord, tallyBytes, checked, parsed, formatted, numbersGiven, positionLifted, regionLifted, turnedText, tallied}
 use Rattle.demands.specs.Formats.{Format}
 use Rattle.demands.specs.Bed.{bed}
 use Rattle.demands.specs.Psl.{psl}
@@ -73,6 +77,22 @@ pub record AtDesk (f : Format) : Type 0 where
   pub parseRefused : (s : List ℕ) (x : Refusal) → Refuses f s x → (b b′ : List ℕ) (a : ℕ) → Answered (parsed (f .kind) s (length b)) b b′ a → RefusedBy x b b′ a
   pub formatRefused : (s : List ℕ) (x : Refusal) → Refuses f s x → (b b′ : List ℕ) (a : ℕ) → Answered (formatted (f .kind) s (length b)) b b′ a → RefusedBy x b b′ a
 
+-- the text is a line of some numbers
+pub record SpellsNumbers (s : List ℕ) : Type 0 where
+  pub numbers : List ℕ
+  pub spells : NumbersText s numbers
+
+-- DEMAND 2 of a line of numbers: their count and their bytes, of a text that spells them and of no other; a text that is refused is refused as its checker
+-- refuses it
+pub record NumbersAtDesk : Type 0 where
+  pub gives : (s vs : List ℕ) → NumbersText s vs → (b b′ : List ℕ) (a : ℕ) → Answered (numbersGiven s (length b)) b b′ a → GivenRoom (length s) (length vs) (wordsBytes vs) b b′ a
+  pub givesOnly : (s b b′ : List ℕ) (a : ℕ) → Answered (numbersGiven s (length b)) b b′ a → a % 16 ≡ 0 → SpellsNumbers s
+  -- so numbers are given exactly when the text spells them and there is room; and it spells no others
+  pub givesExactly : (s vs : List ℕ) → Between 0 largestNumber vs → (b b′ : List ℕ) (a : ℕ) → Answered (numbersGiven s (length b)) b b′ a
+      → Gives (length vs) (wordsBytes vs) b b′ a ↔ (NumbersText s vs × (wordSize * length vs ≤ length b))
+  pub oneList : (s vs ws : List ℕ) → NumbersText s vs → NumbersText s ws → vs ≡ ws
+  pub givesRefused : (s : List ℕ) (x : Refusal) → numbersAnswer.Refused x ≡ numbersCheck s → (b b′ : List ℕ) (a : ℕ) → Answered (numbersGiven s (length b)) b b′ a → RefusedBy x b b′ a
+
 -- partner and drift, a negative one as its two's complement, as a lift answers; kept, dropped and the query region
 abbrev pub PositionTold : PositionAnswer → ℕ → List ℕ → List ℕ → ℕ → Type 0
 PositionTold (position.Lifted q d) end b b′ a = GivenRoom end 2 (wordsBytes (q ∷ inWord d ∷ [])) b b′ a
@@ -118,6 +138,7 @@ pub record Desk : Type 0 where
   pub beds : AtDesk bed
   pub psls : AtDesk psl
   pub chains : AtDesk chain
+  pub numbers : NumbersAtDesk
   pub chainCalls : ChainsAtDesk
   -- any other kind of text is 6 at place 0
   pub otherKind : (kind : ℕ) (s : List ℕ) → (kind ≡ 1 → ⊥) → (kind ≡ 2 → ⊥) → (kind ≡ 3 → ⊥) → (b b′ : List ℕ) (a : ℕ)

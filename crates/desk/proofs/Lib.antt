@@ -1,6 +1,7 @@
 pub mod KindLaws
 pub mod StageLaws
 pub mod EntryLaws
+pub mod NumberLaws
 pub mod WriteLaws
 pub mod LiftLaws
 pub mod TallyLaws

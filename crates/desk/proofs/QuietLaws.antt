@@ -28,6 +28,9 @@ use Rattle.chain.specs.declared.ChainAnswer.the-variants as chain
 use Rattle.chain.specs.Records.{chainRows}
 use Rattle.chain.specs.Read.{chainCheck}
 use Rattle.chain.specs.Write.{chainWrite, chainText}
+use Rattle.number_line.specs.declared.NumbersAnswer.{NumbersAnswer}
+use Rattle.number_line.specs.declared.NumbersAnswer.the-variants as number-line
+use Rattle.number_line.specs.Numbers.{numbersIn, numbersCheck}
 use Rattle.lift.specs.declared.SpanAnswer.{SpanAnswer}
 use Rattle.lift.specs.declared.SpanAnswer.the-variants as span
 use Rattle.lift.specs.Conversion.{converted}
@@ -44,7 +47,7 @@ use Rattle.turn.specs.declared.TurnAnswer.the-variants as turn
 use Rattle.turn.specs.Turns as turns
 use Rattle.answers.specs.Answers.{Outcome, gives, refuses, refusesBy, pickOutcome, Answered, refusalCode, roomed, numbered, recorded}
 use Rattle.answers.proofs.AnswerLaws.{accepted-reason, refused-reason}
-use Rattle.desk.specs.Entries.{byKind, ofBed, ofPsl, ofChain, ofSpan, ofPosition, ofRegion, ofTurn, ofTallied, atEnd, nameBytes, written, bedWritten, pslWritten, chainWritten, parsedBed, parsedPsl, parsedChain, parsed, formattedBed, formattedPsl, formattedChain, formatted, convertedNumbers, positionLifted, regionLifted, turnWritten, turnedText, tallyIn, tallyBytes, tallied, Refusing}
+use Rattle.desk.specs.Entries.{byKind, ofBed, ofPsl, ofChain, ofNumbers, ofSpan, ofPosition, ofRegion, ofTurn, ofTallied, atEnd, nameBytes, written, bedWritten, pslWritten, chainWritten, parsedBed, parsedPsl, parsedChain, parsed, numbersGiven, formattedBed, formattedPsl, formattedChain, formatted, convertedNumbers, positionLifted, regionLifted, turnWritten, turnedText, tallyIn, tallyBytes, tallied, Refusing}
 
 -- an outcome that tells a refusal has no bytes
 record Quiet (o : Outcome) : Type 0 where
@@ -80,6 +83,10 @@ quiet-psl (psl.Refused x) rest f = quiet-refuses x
 quiet-chain : (a : ChainAnswer) (rest : Chain → Outcome) → ((r : Chain) → Quiet (rest r)) → Quiet (ofChain a rest)
 quiet-chain (chain.Accepted r) rest f = f r
 quiet-chain (chain.Refused x) rest f = quiet-refuses x
+
+quiet-listed : (a : NumbersAnswer) (rest : Outcome) → Quiet rest → Quiet (ofNumbers a rest)
+quiet-listed (number-line.Accepted n) rest q = q
+quiet-listed (number-line.Refused x) rest q = quiet-refuses x
 
 quiet-kind : (kind : ℕ) (x y z : Outcome) → Quiet x → Quiet y → Quiet z → Quiet (byKind kind x y z)
 unfolding byKind
@@ -147,6 +154,10 @@ module _ (b b′ : List ℕ) (r : ℕ) where
 
   pub format-left : (kind : ℕ) (s : List ℕ) → Answered (formatted kind s (length b)) b b′ r → Refusing r → b′ ≡ b
   format-left kind s = quiet-left _ b b′ r (quiet-formatted kind s (length b))
+
+  pub numbers-left : (s : List ℕ) → Answered (numbersGiven s (length b)) b b′ r → Refusing r → b′ ≡ b
+  unfolding numbersGiven
+  numbers-left s = quiet-left _ b b′ r (quiet-listed (numbersCheck s) _ (quiet-numbered (length s) (length b) (numbersIn s)))
 
   pub convert-left : (start end size : ℕ) → Answered (convertedNumbers start end size (length b)) b b′ r → Refusing r → b′ ≡ b
   unfolding convertedNumbers

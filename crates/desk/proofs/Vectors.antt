@@ -2,11 +2,17 @@
 use mathlib.Core.Path.{_≡_, refl}
 use mathlib.Core.List.{[], _∷_}
 use Prim.Native.Nat.{_+_, _*_}
-use Rattle.ledger.specs.declared.Reason.the-variants.{BlockRules, NoRoom, SpanDisagrees}
+use Rattle.ledger.specs.declared.Reason.the-variants.{NumberMisspelt, BlockRules, NoRoom, SpanDisagrees}
+use Rattle.text.specs.Scan.{run, endOf}
+use Rattle.text.specs.Pieces.{piecesOf, nonEmpty, wordsOf, lineOf}
+use Rattle.text.specs.Words.{lineEnd, nextLine, nextWord}
+use Rattle.text.specs.Checks.{textCheck, lastLineCheck}
+use Rattle.numbers.specs.Numbers.{wellSpelt, valueFrom, value, numberOf}
+use Rattle.number_line.specs.Numbers.{wordsFrom, numbersIn, numbersCheck}
 use Rattle.lift.specs.Conversion.{converted}
 use Rattle.binary.specs.Bytes.{lowBytes, wordsBytes}
 use Rattle.answers.specs.Answers.{told, gives, refusesBy, roomed, numbered}
-use Rattle.desk.specs.Entries.{convertedNumbers}
+use Rattle.desk.specs.Entries.{numbersGiven, convertedNumbers}
 
 -- three blocks; 9 at byte 55
 three-blocks : gives 3 [] .answer ≡ 16 * 3
@@ -30,3 +36,16 @@ span-no-room = refl
 span-backwards : convertedNumbers 33 5 80 16 ≡ refusesBy SpanDisagrees 0
 unfolding convertedNumbers converted
 span-backwards = refl
+
+-- `7 12` and a line feed: two numbers in 16 bytes; 15 do not hold them, and `7 012` is misspelt at byte 2
+numbers-listed : numbersGiven (55 ∷ 32 ∷ 49 ∷ 50 ∷ 10 ∷ []) 16 ≡ gives 2 (7 ∷ 0 ∷ 0 ∷ 0 ∷ 0 ∷ 0 ∷ 0 ∷ 0 ∷ 12 ∷ 0 ∷ 0 ∷ 0 ∷ 0 ∷ 0 ∷ 0 ∷ 0 ∷ [])
+unfolding numbersGiven numbersCheck numbersIn wordsFrom textCheck lastLineCheck nextLine lineEnd nextWord endOf run lineOf wordsOf nonEmpty piecesOf numberOf wellSpelt value valueFrom numbered roomed wordsBytes lowBytes
+numbers-listed = refl
+
+numbers-no-room : numbersGiven (55 ∷ 32 ∷ 49 ∷ 50 ∷ 10 ∷ []) 15 ≡ refusesBy NoRoom 5
+unfolding numbersGiven numbersCheck numbersIn wordsFrom textCheck lastLineCheck nextLine lineEnd nextWord endOf run lineOf wordsOf nonEmpty piecesOf numberOf wellSpelt value valueFrom numbered roomed wordsBytes lowBytes
+numbers-no-room = refl
+
+numbers-misspelt : numbersGiven (55 ∷ 32 ∷ 48 ∷ 49 ∷ 50 ∷ []) 16 ≡ refusesBy NumberMisspelt 2
+unfolding numbersGiven numbersCheck wordsFrom textCheck nextWord endOf run lineOf wordsOf nonEmpty piecesOf numberOf wellSpelt value valueFrom
+numbers-misspelt = refl

@@ -34,6 +34,9 @@ use Rattle.chain.specs.declared.ChainAnswer.the-variants as chain
 use Rattle.chain.specs.Records.{chainTargets, chainQueries, chainSizes, chainRows}
 use Rattle.chain.specs.Read.{chainCheck}
 use Rattle.chain.specs.Write.{chainWrite, chainText}
+use Rattle.number_line.specs.declared.NumbersAnswer.{NumbersAnswer}
+use Rattle.number_line.specs.declared.NumbersAnswer.the-variants as number-line
+use Rattle.number_line.specs.Numbers.{numbersIn, numbersCheck}
 use Rattle.lift.specs.declared.Span.{Span}
 use Rattle.lift.specs.declared.SpanAnswer.{SpanAnswer}
 use Rattle.lift.specs.declared.SpanAnswer.the-variants as span
@@ -97,6 +100,14 @@ parsedChain s room = ofChain (chainCheck s) (λ r. recorded (length s) room (cha
 
 unfoldable pub parsed : ℕ → List ℕ → ℕ → Outcome
 parsed kind s room = byKind kind (parsedBed s room) (parsedPsl s room) (parsedChain s room)
+
+-- NUMBERS: those of a text of one line
+abbrev pub ofNumbers : NumbersAnswer → Outcome → Outcome
+ofNumbers (number-line.Accepted n) rest = rest
+ofNumbers (number-line.Refused x) rest = refuses x
+
+unfoldable pub numbersGiven : List ℕ → ℕ → Outcome
+numbersGiven s room = ofNumbers (numbersCheck s) (numbered (length s) room (numbersIn s))
 
 -- CONVERT: a call without a text, so that every refusal is at place 0
 abbrev pub ofSpan : SpanAnswer → (Span → Outcome) → Outcome

@@ -13,7 +13,7 @@ ghost use Rattle.region.specs.Tallies.{tallyStep};
 ghost use Rattle.writing.specs.Puts.{Put};
 ghost use Rattle.answers.specs.Answers.{refusalCode, Answered};
 ghost use Rattle.desk.specs.Records.{bedNumbers, pslNumbers, chainNumbers, Staging, BedStaged, PslStaged, ChainStaged, TurnStaged};
-ghost use Rattle.desk.specs.Entries.{checkedBed, checkedPsl, checkedChain, checked, parsedBed, parsedPsl, parsedChain, parsed, convertedNumbers, atEnd, written, bedWritten, pslWritten, chainWritten, formattedBed, formattedPsl, formattedChain, formatted, inWord, ofPosition, positionLifted, ofRegion, regionLifted, tallyIn, tallyBytes, ofTallied, tallyOutcome, TallyRoom, tallied, turnWritten, turnedText};
+ghost use Rattle.desk.specs.Entries.{checkedBed, checkedPsl, checkedChain, checked, parsedBed, parsedPsl, parsedChain, parsed, convertedNumbers, atEnd, written, bedWritten, pslWritten, chainWritten, formattedBed, formattedPsl, formattedChain, formatted, inWord, ofPosition, positionLifted, ofRegion, regionLifted, tallyIn, tallyBytes, ofTallied, tallyOutcome, TallyRoom, tallied, turnWritten, turnedText, numbersGiven};
 use bed::Bed;
 use bed::BedAnswer;
 use chain::Chain;
@@ -22,6 +22,7 @@ use ledger::Reason;
 use ledger::Refusal;
 use lift::PositionAnswer;
 use lift::SpanAnswer;
+use number_line::NumbersAnswer;
 use psl::Psl;
 use psl::PslAnswer;
 use region::RegionAnswer;
@@ -178,6 +179,18 @@ pub extern "C" fn tenderchock_check(kind: u64, text: &[u8]) -> u64
         2 => check_psl(text),
         3 => check_chain(text),
         _ => answers::refused_by(Reason::BadWord, 0),
+    }
+}
+
+// The numbers of a text of one line.
+#[no_mangle]
+pub extern "C" fn tenderchock_numbers(text: &[u8], out: &mut [u8]) -> u64
+    ensures { λ r. ⌜ Answered (numbersGiven (now (text .entry)) (length (now (out .entry))))
+        (now (out .entry)) (now (out .exit)) r ⌝ }
+{
+    match number_line::read_numbers(text, out) {
+        NumbersAnswer::Refused(x) => answers::refusal_code(x),
+        NumbersAnswer::Accepted(n) => answers::told_as(n as u64),
     }
 }
 

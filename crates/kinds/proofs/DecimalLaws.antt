@@ -273,7 +273,7 @@ listed-items w [] some e = absurd (omega arith)
 listed-items w (v ∷ us) some (inl e) = (ap itemsOf e ∙ parted-items v us, rw e (parted-some v us))
 listed-items w (v ∷ us) some (inr e) = (ap itemsOf (e ∙ parted-closed v us) ∙ list-items (v ∷ us), rw e (rw length-append (omega arith)))
 
-values-listed : (least most : ℕ) (us : List ℕ) → most < Most → Between least most us → map value (map digits us) ≡ us
+pub values-listed : (least most : ℕ) (us : List ℕ) → most < Most → Between least most us → map value (map digits us) ≡ us
 values-listed least most [] l between-none = refl
 values-listed least most (v ∷ us) l (between-more low high t) = λ i. value-digits v (omega arith) i ∷ values-listed least most us l t i
 

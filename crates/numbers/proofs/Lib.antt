@@ -1,2 +1,4 @@
 pub mod NumberLaws
+pub mod DigitLaws
+pub mod ItemLaws
 pub mod ListLaws

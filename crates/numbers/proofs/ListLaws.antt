@@ -16,11 +16,12 @@ use Rattle.text.specs.declared.Class.the-variants.{Item}
 use Rattle.text.specs.Scan.{endOf}
 use Rattle.text.specs.Pieces.{piecesOf}
 use Rattle.text.proofs.PieceLaws.{pieces-step}
+use Rattle.numbers.specs.declared.Piece.{Piece}
 use Rattle.numbers.specs.declared.Spelt.{Spelt}
 use Rattle.numbers.specs.declared.Spelt.the-variants.{Means, Faulty}
 use Rattle.numbers.specs.Spelling.{pickSpelt}
 use Rattle.numbers.specs.Numbers.{wellSpelt, value, numberOf}
-use Rattle.numbers.specs.Lists.{itemsOf, testItems, goodValues, orStop, orItem, valuesOf, lastByte, openEnd, listEnd, listOf, ItemsStored, ListEnded, ListRead}
+use Rattle.numbers.specs.Lists.{itemsOf, testItems, goodValues, orStop, orItem, valuesOf, lastByte, openEnd, listEnd, listOf, PieceRead, ItemsStored, ListEnded, ListRead}
 use Rattle.numbers.specs.Ranges.{Between, between-none, between-more}
 
 pub last-none : (w : List ℕ) → length w ≡ 0 → 0 ≡ lastByte 0 w
@@ -96,6 +97,25 @@ module _ (least most : ℕ) (w before out : List ℕ) (i n : ℕ) (inv : sets ou
     pub stored-more : (v : ℕ) (out′ : List ℕ) → num ≡ Means v → out′ ≡ set out n v → sets out′ (n + 1) (goodValues least most (itemsOf (drop (e + 1) w))) ≡ sets before 0 (goodValues least most (itemsOf w))
     unfolding goodValues
     stored-more v out′ q o = rw (o, add-one) (rw (items-step w i e h is-e, ← is-num, q) at inv)
+
+-- the same of an item that is found and read in one step
+module _ (least most : ℕ) (w : List ℕ) (i : ℕ) (h : i < length w) (x : Piece) (is : PieceRead least most w i x) where
+  spelt-is : x .spelt ≡ numberOf least most (take (x .end - i) (drop i w))
+  spelt-is = rw (is .ends) (is .is)
+
+  module _ (n : ℕ) (inv : testItems least most n i (itemsOf (drop i w)) ≡ testItems least most 0 0 (itemsOf w)) where
+    pub item-bad : (why : Reason) (p : ℕ) → x .spelt ≡ Faulty why p → Faulty why i ≡ testItems least most 0 0 (itemsOf w)
+    item-bad why p q = list-bad least most w i n inv (x .end) (x .spelt) h (is .ends) spelt-is why p q
+
+    pub item-more : (v : ℕ) → x .spelt ≡ Means v → testItems least most (n + 1) (x .end + 1) (itemsOf (drop (x .end + 1) w)) ≡ testItems least most 0 0 (itemsOf w)
+    item-more v q = list-more least most w i n inv (x .end) (x .spelt) h (is .ends) spelt-is v q (is .low) (omega (arith, is .high))
+
+  module _ (before out : List ℕ) (n : ℕ) (inv : sets out n (goodValues least most (itemsOf (drop i w))) ≡ sets before 0 (goodValues least most (itemsOf w))) where
+    pub item-stored-bad : (why : Reason) (p : ℕ) → x .spelt ≡ Faulty why p → out ≡ sets before 0 (goodValues least most (itemsOf w))
+    item-stored-bad why p q = stored-bad least most w before out i n inv (x .end) (x .spelt) h (is .ends) spelt-is why p q
+
+    pub item-stored : (v : ℕ) (out′ : List ℕ) → x .spelt ≡ Means v → out′ ≡ set out n v → sets out′ (n + 1) (goodValues least most (itemsOf (drop (x .end + 1) w))) ≡ sets before 0 (goodValues least most (itemsOf w))
+    item-stored v out′ q o = stored-more least most w before out i n inv (x .end) (x .spelt) h (is .ends) spelt-is v out′ q o
 
 -- the end of a list
 module _ (comma : Bool) (n : ℕ) (w : List ℕ) (found : Spelt) where

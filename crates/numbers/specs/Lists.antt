@@ -1,14 +1,16 @@
 -- A comma list: its items, what reading them finds, and the numbers it holds.
-use Prim.Native.Nat.{ℕ, _+_, _≤_}
+use Prim.Native.Nat.{ℕ, _+_, _-_, _≤_}
 use mathlib.Core.Path.{_≡_}
 use mathlib.Core.Bool.{Bool, not, _&&_, _||_}
 use mathlib.Core.List.{List, [], _∷_, map}
-use lib.ListN.{length}
-use lib.Dec.{eqb}
+use lib.ListN.{length, take, drop, getD}
+use lib.Dec.{leb, eqb}
 use lib.Seq.{sets}
 use Rattle.ledger.specs.declared.Reason.the-variants.{NumberMisspelt, ListLength}
 use Rattle.text.specs.declared.Class.the-variants.{Item}
+use Rattle.text.specs.Scan.{endOf}
 use Rattle.text.specs.Pieces.{piecesOf}
+use Rattle.numbers.specs.declared.Piece.{Piece}
 use Rattle.numbers.specs.declared.Spelt.{Spelt}
 use Rattle.numbers.specs.declared.Spelt.the-variants.{Means, Faulty}
 use Rattle.numbers.specs.Spelling.{require, faultIn}
@@ -17,6 +19,17 @@ use Rattle.numbers.specs.Numbers.{numberOf, value}
 -- the items between the commas; a comma at the very end opens no further item
 unfoldable pub itemsOf : List ℕ → List (List ℕ)
 itemsOf w = piecesOf Item w
+
+-- whether an item ends at a place: by a comma, or with the word
+abbrev pub isItemEnd : List ℕ → ℕ → Bool
+isItemEnd w i = leb (length w) i || eqb (getD w i 0) 44
+
+-- what reading the item at a place promises: what it spells, and where it ends
+pub record PieceRead (least most : ℕ) (w : List ℕ) (i : ℕ) (r : Piece) : Type 0 where
+  pub is : r .spelt ≡ numberOf least most (take (endOf Item w i - i) (drop i w))
+  pub ends : r .end ≡ endOf Item w i
+  pub low : i ≤ r .end
+  pub high : r .end ≤ length w
 
 -- a good item lets the rest be tested; a bad one is refused at its own first byte
 abbrev pub orItem : Spelt → ℕ → Spelt → Spelt

@@ -1,13 +1,14 @@
 -- A number: digits only, no leading zero but in `0` itself, within a least and a greatest value.
-use Prim.Native.Nat.{ℕ, _+_, _-_, _*_}
+use Prim.Native.Nat.{ℕ, _+_, _-_, _*_, _≤_, min, max}
 use mathlib.Core.Path.{_≡_}
 use mathlib.Core.Bool.{Bool, not, _&&_, _||_}
 use mathlib.Core.List.{List, [], _∷_}
-use lib.ListN.{length, getD}
+use lib.ListN.{length, getD, take, drop}
 use lib.Dec.{leb, eqb}
 use Rattle.ledger.specs.declared.Reason.the-variants.{NumberMisspelt, NumberOutOfRange}
 use Rattle.text.specs.declared.Class.the-variants.{Digit}
 use Rattle.text.specs.Scan.{endOf}
+use Rattle.numbers.specs.declared.Digits.{Digits}
 use Rattle.numbers.specs.declared.Spelt.{Spelt}
 use Rattle.numbers.specs.declared.Spelt.the-variants.{Means}
 use Rattle.numbers.specs.Spelling.{require, faultIn}
@@ -30,6 +31,26 @@ numberOf least most w =
     require (wellSpelt w) NumberMisspelt 0
     (require (leb least (value w) && leb (value w) most) NumberOutOfRange 0
     (Means (value w)))
+
+-- so many digits have a value below 2^64, whatever they are
+abbrev pub shortLimit : ℕ
+shortLimit = 19
+
+-- what reading the digits from a place on promises, at most so many and at most nineteen: where they end, their value, and where that end lies, which follows
+pub record DigitsRead (s : List ℕ) (i most : ℕ) (r : Digits) : Type 0 where
+  pub is : r .end ≡ min (endOf Digit s i) (i + min most shortLimit)
+  pub means : r .value ≡ value (take (r .end - i) (drop i s))
+  pub low : i ≤ r .end
+  pub high : r .end ≤ max i (length s)
+
+-- so many digits, the first of them given, are a number's: some, and no leading zero but in `0` itself
+abbrev pub isLed : ℕ → ℕ → Bool
+isLed n first = not (eqb n 0) && (eqb n 1 || not (eqb first 48))
+
+-- what judging a value promises, which so many digits spell
+pub record Judged (n first v least most : ℕ) (r : Spelt) : Type 0 where
+  pub is : r ≡ require (isLed n first) NumberMisspelt 0 (require (leb least v && leb v most) NumberOutOfRange 0 (Means v))
+  pub near : faultIn r ≡ 0
 
 -- what reading a number promises: what it spells, and that a fault stands at its first byte, which follows
 pub record NumberRead (least most : ℕ) (w : List ℕ) (r : Spelt) : Type 0 where

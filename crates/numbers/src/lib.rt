@@ -1,9 +1,11 @@
 // Numbers and comma lists: what a word spells, or its first fault with the place in the word.
 ghost use mathlib.Core.Path.{_≡_};
-ghost use Prim.Native.Nat.{_-_};
-ghost use lib.ListN.{set};
-ghost use Rattle.numbers.specs.Numbers.{wellSpelt, NumberRead};
-ghost use Rattle.numbers.specs.Lists.{lastByte, openEnd, ItemsStored, ListEnded, ListRead};
+ghost use Prim.Native.Nat.{_+_, _-_, _*_, _≤_, min};
+ghost use lib.ListN.{length, set, getD};
+ghost use Rattle.text.specs.declared.Class.the-variants.{Digit};
+ghost use Rattle.text.specs.Scan.{isIn};
+ghost use Rattle.numbers.specs.Numbers.{shortLimit, wellSpelt, isLed, NumberRead, Judged, DigitsRead};
+ghost use Rattle.numbers.specs.Lists.{isItemEnd, lastByte, openEnd, PieceRead, ItemsStored, ListEnded, ListRead};
 use ledger::Reason;
 use text::Class;
 
@@ -11,6 +13,115 @@ use text::Class;
 pub enum Spelt {
     Means(u64),
     Faulty(Reason, usize),
+}
+
+// So many digits have a value below 2^64, whatever they are.
+const SHORT: usize = 19;
+
+// A byte as a number.
+fn wide(b: u8) -> u64
+    ensures { λ r. ⌜ r ≡ b ⌝ }
+{
+    b as u64
+}
+
+fn is_digit(b: u64) -> bool
+    ensures { λ r. ⌜ r ≡ isIn Digit b ⌝ }
+{
+    (48 <= b) & (b <= 57)
+}
+
+// The value of some digits and one digit more.
+fn one_more(sum: u64, b: u64) -> u64
+    requires { ⌜ (sum ≤ 999999999999999999) × (48 ≤ b) × (b ≤ 57) ⌝ }
+    ensures { λ r. ⌜ r ≡ sum * 10 + (b - 48) ⌝ }
+{
+    sum * 10 + (b - 48)
+}
+
+fn lesser(a: usize, b: usize) -> usize
+    ensures { λ r. ⌜ r ≡ min a b ⌝ }
+{
+    if a < b { a } else { b }
+}
+
+// Digits in a text: their value, and the place past them.
+pub struct Digits {
+    pub value: u64,
+    pub end: usize,
+}
+
+// The digits from a place on, where so many bytes are there: each is tested and counted in one pass, with no test of the value
+// or of the text's end.
+fn digits_in(text: &[u8], from: usize, most: usize) -> Digits
+    requires { ⌜ (from + most ≤ length (now text)) × (most ≤ shortLimit) ⌝ }
+    ensures { λ r. ⌜ DigitsRead (now (text .entry)) from most r ⌝ }
+{
+    let mut value: u64 = 0;
+    let mut k = 0;
+    while k < most {
+        let b = wide(text[from + k]);
+        if !is_digit(b) {
+            return Digits {
+                value,
+                end: from + k,
+            };
+        }
+        value = one_more(value, b);
+        k += 1;
+    }
+    Digits {
+        value,
+        end: from + k,
+    }
+}
+
+// The digits from a place on, at most so many and at most nineteen.
+pub fn digits_at(text: &[u8], from: usize, most: usize) -> Digits
+    ensures { λ r. ⌜ DigitsRead (now (text .entry)) from most r ⌝ }
+{
+    if text.len() <= from {
+        return Digits {
+            value: 0,
+            end: from,
+        };
+    }
+    let left = text.len() - from;
+    let short = lesser(most, SHORT);
+    if short <= left {
+        return digits_in(text, from, short);
+    }
+    digits_in(text, from, left)
+}
+
+// Whether so many digits, the first of them given, are a number's: some, and no leading zero but in `0` itself.
+pub fn leads(n: usize, first: u8) -> bool
+    ensures { λ r. ⌜ r ≡ isLed n first ⌝ }
+{
+    if n == 0 {
+        return false;
+    }
+    (n == 1) | (first != b'0')
+}
+
+// A value that so many digits spell, the first of them given: its spelling, then its range.
+fn judge(n: usize, first: u8, v: u64, least: u64, most: u64) -> Spelt
+    ensures { λ r. ⌜ Judged n first v least most r ⌝ }
+{
+    if !leads(n, first) {
+        return Spelt::Faulty(Reason::NumberMisspelt, 0);
+    }
+    if (least <= v) & (v <= most) {
+        return Spelt::Means(v);
+    }
+    Spelt::Faulty(Reason::NumberOutOfRange, 0)
+}
+
+// The byte at a place, or 0 past the end.
+fn byte_at(word: &[u8], i: usize) -> u8
+    ensures { λ r. ⌜ r ≡ getD (now (word .entry)) i 0 ⌝ }
+{
+    if i < word.len() { word[i] } else { 0 }
 }
 
 fn digit(b: u8) -> u64
@@ -31,8 +142,8 @@ fn well_spelt(word: &[u8]) -> bool
     (e == n) & ((n == 1) | (word[0] != b'0'))
 }
 
-// The number that a word spells, from a least to a greatest value. A word of any length is told apart: misspelt, or out of range.
-pub fn read_number(word: &[u8], least: u64, most: u64) -> Spelt
+// The number that a word of any length spells: each digit is tested against the greatest value.
+fn read_long(word: &[u8], least: u64, most: u64) -> Spelt
     ensures { λ r. ⌜ NumberRead least most (now (word .entry)) r ⌝ }
 {
     if !well_spelt(word) {
@@ -58,6 +169,58 @@ pub fn read_number(word: &[u8], least: u64, most: u64) -> Spelt
     Spelt::Means(acc)
 }
 
+// The number that a word spells, from a least to a greatest value. A word of any length is told apart: misspelt, or out of range.
+pub fn read_number(word: &[u8], least: u64, most: u64) -> Spelt
+    ensures { λ r. ⌜ NumberRead least most (now (word .entry)) r ⌝ }
+{
+    let n = word.len();
+    if SHORT < n {
+        return read_long(word, least, most);
+    }
+    let d = digits_in(word, 0, n);
+    if d.end < n {
+        return Spelt::Faulty(Reason::NumberMisspelt, 0);
+    }
+    judge(n, byte_at(word, 0), d.value, least, most)
+}
+
+// Whether an item of a list ends at a place: there is a comma, or the word's end.
+fn is_item_end(word: &[u8], i: usize) -> bool
+    ensures { λ r. ⌜ r ≡ isItemEnd (now (word .entry)) i ⌝ }
+{
+    (word.len() <= i) | (byte_at(word, i) == b',')
+}
+
+// An item of a list: what it spells, and the place past it.
+struct Piece {
+    spelt: Spelt,
+    end: usize,
+}
+
+// The item at a place, found before it is read.
+fn read_long_item(word: &[u8], from: usize, least: u64, most: u64) -> Piece
+    requires { ⌜ from ≤ length (now word) ⌝ }
+    ensures { λ r. ⌜ PieceRead least most (now (word .entry)) from r ⌝ }
+{
+    let end = text::scan(word, from, Class::Item);
+    let spelt = read_number(&word[from..end], least, most);
+    Piece { spelt, end }
+}
+
+// The item at a place: in one pass where it is at most nineteen digits.
+fn read_item(word: &[u8], from: usize, least: u64, most: u64) -> Piece
+    requires { ⌜ from ≤ length (now word) ⌝ }
+    ensures { λ r. ⌜ PieceRead least most (now (word .entry)) from r ⌝ }
+{
+    let d = digits_at(word, from, SHORT);
+    let end = d.end;
+    if !is_item_end(word, end) {
+        return read_long_item(word, from, least, most);
+    }
+    let spelt = judge(end - from, byte_at(word, from), d.value, least, most);
+    Piece { spelt, end }
+}
+
 // Stores a number at a place of a table, where the table has that place.
 pub fn store(out: &mut [u64], n: usize, v: u64)
     ensures { λ _. ⌜ now (out .exit) ≡ set (now (out .entry)) n v ⌝ }
@@ -75,8 +238,9 @@ pub fn store_items(word: &[u8], least: u64, most: u64, out: &mut [u64]) -> Spelt
     let mut i = 0;
     let mut n = 0;
     while i < word.len() {
-        let e = text::scan(word, i, Class::Item);
-        match read_number(&word[i..e], least, most) {
+        let x = read_item(word, i, least, most);
+        let spelt = x.spelt;
+        match spelt {
             Spelt::Means(v) => {
                 store(out, n, v);
             }
@@ -85,7 +249,7 @@ pub fn store_items(word: &[u8], least: u64, most: u64, out: &mut [u64]) -> Spelt
             }
         }
         n += 1;
-        i = e + 1;
+        i = x.end + 1;
     }
     Spelt::Means(n as u64)
 }

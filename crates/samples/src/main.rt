@@ -1,11 +1,12 @@
 // The samples program: one case a line on standard input, one answer a line on standard output. A case is its letter, a space and an
 // escaped payload; empty lines and lines that begin with `#` have no answer. Every answer comes from the libraries. Here are the cases of
-// texts, words, lists and columns; each format has a program of its own.
+// texts, words, lists, numbers and columns; each format has a program of its own.
 ghost use mathlib.Core.Path.{_≡_};
 ghost use lib.ListN.{length};
 use columns::Columns;
 use ledger::Position;
 use ledger::Refusal;
+use number_line::NumbersAnswer;
 use numbers::Spelt;
 use text::Check;
 use writing::Writing;
@@ -236,6 +237,45 @@ fn digits_case(word: &[u8], out: &mut [u8], at: usize) -> usize {
     }
 }
 
+// Case `U`: a number of the machine.
+fn number_case(word: &[u8], out: &mut [u8], at: usize) -> usize {
+    match numbers::read_number(word, 0, ledger::LARGEST_NUMBER) {
+        Spelt::Means(v) => cases::put_labelled(out, at, b"value ", v),
+        Spelt::Faulty(reason, place) => cases::put_refusal(out, at, Refusal { reason, place }),
+    }
+}
+
+// Room for the numbers of a text.
+const LISTED: usize = 32;
+
+fn listed_room() -> [u8; 8 * LISTED]
+    ensures { λ r. ⌜ 256 ≡ length r ⌝ }
+{
+    [0; 8 * LISTED]
+}
+
+// The first numbers of a buffer, 8 bytes each.
+fn put_listed(out: &mut [u8], at: usize, bytes: &[u8], n: usize) -> usize {
+    let m = cases::least(n, LISTED);
+    let a = cases::put_labelled(out, at, b"count ", n as u64);
+    let mut p = writing::put_byte(out, a, b':');
+    let mut i = 0;
+    while i < m {
+        p = cases::put_labelled(out, p, b" ", binary::word_at(bytes, binary::WORD_SIZE * i));
+        i += 1;
+    }
+    p
+}
+
+// Case `N`: the numbers of a text of one line.
+fn numbers_case(s: &[u8], out: &mut [u8], at: usize) -> usize {
+    let mut bytes = listed_room();
+    match number_line::read_numbers(s, &mut bytes) {
+        NumbersAnswer::Refused(x) => cases::put_refusal(out, at, x),
+        NumbersAnswer::Accepted(n) => put_listed(out, at, &bytes, n),
+    }
+}
+
 // The first line of a buffer, without its line feed.
 fn put_first_line(out: &mut [u8], at: usize, buf: &[u8], n: usize) -> usize {
     let m = cases::least(n, buf.len());
@@ -279,6 +319,8 @@ fn answer(letter: u8, payload: &[u8], out: &mut [u8], at: usize) -> usize {
         b'Z' => list_case(letter, payload, out, at),
         b'2' => list_case(letter, payload, out, at),
         b'd' => digits_case(payload, out, at),
+        b'U' => number_case(payload, out, at),
+        b'N' => numbers_case(payload, out, at),
         b'B' => columns_case(payload, &BED, b'\t', out, at),
         b'P' => columns_case(payload, &PSL, b'\t', out, at),
         b'C' => columns_case(payload, &CHAIN, b' ', out, at),

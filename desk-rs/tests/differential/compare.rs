@@ -165,6 +165,22 @@ impl Compare<'_> {
         });
     }
 
+    /// The numbers of a text, with room that is enough, exact, a byte too little,
+    /// and none.
+    pub fn numbers(&mut self, text: &[u8]) {
+        let needed = match expected::numbers(text, expected::ROOM) {
+            Ok(numbers) => 8 * numbers.len(),
+            Err(_) => 8,
+        };
+        let enough = needed + self.dice.index(40);
+        for room in [enough, needed, needed.saturating_sub(1), 0] {
+            let wanted = expected::numbers(text, room / 8).map(bytes_of);
+            self.lent_room("numbers", wanted, 8, text.len(), room, |out| {
+                sys::numbers(text, out)
+            });
+        }
+    }
+
     /// A number at one of these edges, near it, below it, or anywhere.
     fn near(&mut self, edges: &[u64]) -> u64 {
         let edge = self.dice.of(edges);
@@ -180,9 +196,8 @@ impl Compare<'_> {
         }
     }
 
-    /// An entry that writes into what is lent: its number, and each byte of the
-    /// lent room, which is now and then too small, exact, or larger.
-    /// `unit` is the size of what it counts, `end` the text's end.
+    /// An entry that writes into what is lent, which is now and then too small,
+    /// exact, or larger.
     fn lent(
         &mut self,
         entry: &'static str,
@@ -198,6 +213,20 @@ impl Compare<'_> {
             2 => needed,
             _ => needed + self.dice.index(40),
         };
+        self.lent_room(entry, wanted, unit, end, room, call);
+    }
+
+    /// An entry that writes into so much room: its number, and each byte of what
+    /// is lent. `unit` is the size of what it counts, `end` the text's end.
+    fn lent_room(
+        &mut self,
+        entry: &'static str,
+        wanted: Answer<Vec<u8>>,
+        unit: usize,
+        end: usize,
+        room: usize,
+        call: impl FnOnce(&mut [u8]) -> u64,
+    ) {
         let mut out = self.dice.bytes(room);
         let mut after = out.clone();
         let answer = wanted.and_then(|bytes| match after.get_mut(..bytes.len()) {

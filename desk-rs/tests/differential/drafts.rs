@@ -19,6 +19,28 @@ pub fn any(dice: &mut Dice, kind: Kind) -> Draft {
     }
 }
 
+/// A line of 1 to 40 words of digits, most of them numbers in range. A word of no
+/// digit leaves only the blanks on its two sides.
+pub fn numbers(dice: &mut Dice) -> Draft {
+    let most = dice.of(&[9, 18, 18, 18, 21]);
+    let count = dice.between(1, 40);
+    vec![(0..count).map(|_| digits(dice, most)).collect()]
+}
+
+/// Up to so many digits: any without a leading zero, all nines, or one and zeros.
+fn digits(dice: &mut Dice, most: u64) -> Word {
+    let length = dice.between(0, most);
+    let (first, others) = match dice.between(0, 19) {
+        0 => ("9", "9"),
+        1 => ("1", "0"),
+        _ if length == 1 => ("0123456789", ""),
+        _ => ("123456789", "0123456789"),
+    };
+    (0..length)
+        .map(|at| dice.of(if at == 0 { first } else { others }.as_bytes()))
+        .collect()
+}
+
 /// A block, and the gaps after it on both sides (0 after the last).
 struct Block {
     size: u64,

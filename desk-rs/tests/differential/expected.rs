@@ -4,11 +4,11 @@ use reference::chain::{self, Chain};
 use reference::ledger::{Answer, Reason, Refusal};
 use reference::lift::{self, Tally};
 use reference::rows::{self, Row};
-use reference::{bed, psl};
+use reference::{bed, numbers, psl};
 use tenderchock::Kind;
 
 /// Room that is enough for every record and text.
-const ROOM: usize = 1 << 20;
+pub const ROOM: usize = 1 << 20;
 
 /// An answer as one number.
 pub fn packed(answer: &Answer<u64>) -> u64 {
@@ -163,6 +163,11 @@ pub fn turn(text: &[u8]) -> Answer<Vec<u8>> {
         query: names.target,
     };
     chain::write(&turned, exchanged, &turned_rows, ROOM)
+}
+
+/// The numbers of a text, with room for so many.
+pub fn numbers(text: &[u8], room: usize) -> Answer<Vec<u64>> {
+    numbers::read(text, room)
 }
 
 /// One region of a batch. The tally left behind, and the bases kept.

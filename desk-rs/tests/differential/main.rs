@@ -2,7 +2,8 @@
 //! damaged, go through every entry of the library, and each number, place, field,
 //! row and byte left behind must be what the second program says.
 //!
-//! TENDERCHOCK_CASES sets the number of cases (20,000), TENDERCHOCK_SEED the seed (1).
+//! TENDERCHOCK_CASES sets the number of cases (20,000, and a quarter as many texts of
+//! numbers), TENDERCHOCK_SEED the seed (1).
 
 mod compare;
 mod damage;
@@ -14,6 +15,7 @@ use std::env;
 
 use compare::{Case, Compare, Seen};
 use dice::Dice;
+use drafts::Draft;
 use expected::Sent;
 use tenderchock::{Kind, Tally};
 
@@ -28,10 +30,20 @@ fn option(name: &str, default: u64) -> u64 {
     }
 }
 
-/// A case: a text that is valid, damaged, or noise.
+/// A case: a text and the kind that it is sent as, most often its own.
 fn drawn(dice: &mut Dice) -> Case {
     let kind = dice.of(&[Kind::Bed, Kind::Psl, Kind::Chain, Kind::Chain]);
-    let mut draft = drafts::any(dice, kind);
+    let draft = drafts::any(dice, kind);
+    let text = sent_text(dice, draft);
+    let number = match dice.once_in(50) {
+        true => dice.of(&[0, 1, 2, 3, 4, 16, u64::MAX]),
+        false => kind.number(),
+    };
+    Case { kind: number, text }
+}
+
+/// A draft's text as it is, damaged, or noise in its place.
+fn sent_text(dice: &mut Dice, mut draft: Draft) -> Vec<u8> {
     let way = dice.between(0, 9);
     if (3..=8).contains(&way) {
         (0..dice.of(&[1, 1, 2])).for_each(|_| damage::to_draft(dice, &mut draft));
@@ -44,11 +56,7 @@ fn drawn(dice: &mut Dice) -> Case {
         let length = dice.index(80);
         text = dice.bytes(length);
     }
-    let number = match dice.once_in(50) {
-        true => dice.of(&[0, 1, 2, 3, 4, 16, u64::MAX]),
-        false => kind.number(),
-    };
-    Case { kind: number, text }
+    text
 }
 
 fn run(seed: u64, cases: u64) -> Seen {
@@ -76,11 +84,44 @@ fn the_library_answers_as_the_second_program() {
     let cases = option("TENDERCHOCK_CASES", CASES);
     let seed = option("TENDERCHOCK_SEED", 1);
     let seen = run(seed, cases);
-    for ((entry, number), times) in &seen {
-        println!("{entry}: {number} {times} times");
-    }
+    told(&seen);
     if cases >= CASES {
-        every_answer_was_seen(&seen);
+        every_answer_was_seen(&seen, &ANSWERS);
+    }
+}
+
+fn run_numbers(seed: u64, cases: u64) -> Seen {
+    let mut seen = Seen::new();
+    for number in 0..cases {
+        let mut dice = Dice::of_case(seed, number);
+        let draft = drafts::numbers(&mut dice);
+        let text = sent_text(&mut dice, draft);
+        let shown = text.escape_ascii();
+        let label = format!("seed {seed}, text of numbers {number}, \"{shown}\"");
+        let mut compare = Compare {
+            dice: &mut dice,
+            seen: &mut seen,
+            label: &label,
+        };
+        compare.numbers(&text);
+    }
+    seen
+}
+
+#[test]
+fn texts_of_numbers_are_read_as_by_the_second_program() {
+    let cases = option("TENDERCHOCK_CASES", CASES);
+    let seed = option("TENDERCHOCK_SEED", 1);
+    let seen = run_numbers(seed, cases / 4);
+    told(&seen);
+    if cases >= CASES {
+        every_answer_was_seen(&seen, &[("numbers", &[0, 1, 2, 3, 4, 5, 11])]);
+    }
+}
+
+fn told(seen: &Seen) {
+    for ((entry, number), times) in seen {
+        println!("{entry}: {number} {times} times");
     }
 }
 
@@ -128,27 +169,32 @@ fn a_batch_is_tallied_as_the_sums_over_its_regions() {
     }
 }
 
-/// The numbers that each entry can give; a run that misses one tests too little.
-fn every_answer_was_seen(seen: &Seen) {
-    let wanted: [(&str, &[u8]); 15] = [
-        ("bed check", &[0, 1, 2, 3, 4, 5, 6, 7, 8, 9]),
-        ("bed parse", &[0, 1, 2, 3, 4, 5, 6, 7, 8, 9, 11]),
-        ("bed format", &[0, 1, 2, 3, 4, 5, 6, 7, 8, 9, 11]),
-        ("psl check", &[0, 1, 2, 3, 4, 5, 6, 7, 8, 9, 10]),
-        ("psl parse", &[0, 1, 2, 3, 4, 5, 6, 7, 8, 9, 10, 11]),
-        ("psl format", &[0, 1, 2, 3, 4, 5, 6, 7, 8, 9, 10, 11]),
-        ("chain check", &[0, 1, 2, 3, 4, 5, 6, 7, 9, 11]),
-        ("chain parse", &[0, 1, 2, 3, 4, 5, 6, 7, 9, 11]),
-        ("chain format", &[0, 1, 2, 3, 4, 5, 6, 7, 9, 11]),
-        ("other check", &[6]),
-        ("turn", &[0, 1, 2, 3, 4, 5, 6, 7, 9, 11]),
-        ("lift position", &[0, 1, 2, 3, 4, 5, 6, 7, 9, 11, 12, 13]),
-        ("lift region", &[0, 1, 2, 3, 4, 5, 6, 7, 9, 11, 12, 13]),
-        ("tally", &[0, 1, 2, 3, 4, 5, 6, 7, 9, 10, 11, 12, 13]),
-        ("convert", &[0, 5, 7, 11]),
-    ];
+/// An entry and the numbers that it can give.
+type Answers = (&'static str, &'static [u8]);
+
+/// The entries that every text goes through.
+const ANSWERS: [Answers; 15] = [
+    ("bed check", &[0, 1, 2, 3, 4, 5, 6, 7, 8, 9]),
+    ("bed parse", &[0, 1, 2, 3, 4, 5, 6, 7, 8, 9, 11]),
+    ("bed format", &[0, 1, 2, 3, 4, 5, 6, 7, 8, 9, 11]),
+    ("psl check", &[0, 1, 2, 3, 4, 5, 6, 7, 8, 9, 10]),
+    ("psl parse", &[0, 1, 2, 3, 4, 5, 6, 7, 8, 9, 10, 11]),
+    ("psl format", &[0, 1, 2, 3, 4, 5, 6, 7, 8, 9, 10, 11]),
+    ("chain check", &[0, 1, 2, 3, 4, 5, 6, 7, 9, 11]),
+    ("chain parse", &[0, 1, 2, 3, 4, 5, 6, 7, 9, 11]),
+    ("chain format", &[0, 1, 2, 3, 4, 5, 6, 7, 9, 11]),
+    ("other check", &[6]),
+    ("turn", &[0, 1, 2, 3, 4, 5, 6, 7, 9, 11]),
+    ("lift position", &[0, 1, 2, 3, 4, 5, 6, 7, 9, 11, 12, 13]),
+    ("lift region", &[0, 1, 2, 3, 4, 5, 6, 7, 9, 11, 12, 13]),
+    ("tally", &[0, 1, 2, 3, 4, 5, 6, 7, 9, 10, 11, 12, 13]),
+    ("convert", &[0, 5, 7, 11]),
+];
+
+/// A run that misses one of these tests too little.
+fn every_answer_was_seen(seen: &Seen, wanted: &[Answers]) {
     for (entry, numbers) in wanted {
-        for number in numbers {
+        for number in *numbers {
             assert!(
                 seen.contains_key(&(entry, *number)),
                 "no {entry} gave {number}"

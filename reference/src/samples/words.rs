@@ -1,7 +1,8 @@
-//! Cases of words, lists, lines and columns.
+//! Cases of words, lists, lines, texts of numbers and columns.
 
 use reference::columns::{self, Column, Value};
 use reference::ledger::{Answer, COORDINATE_LIMIT};
+use reference::numbers;
 use reference::text::{self, Line, Word};
 
 pub fn lines_and_words(text: &[u8]) -> String {
@@ -24,9 +25,18 @@ pub fn value(word: &[u8], least: u64, most: u64) -> Answer<Vec<u8>> {
 }
 
 pub fn items(word: &[u8], least: u64, count: Option<u64>) -> Answer<Vec<u8>> {
-    let items = text::list(word, least, COORDINATE_LIMIT, true, count)?;
-    let spelt: String = items.iter().map(|item| format!(" {item}")).collect();
-    Ok(format!("count {}:{spelt}", items.len()).into_bytes())
+    text::list(word, least, COORDINATE_LIMIT, true, count).map(|items| counted(&items))
+}
+
+/// A text of numbers, read into room for a few of them.
+pub fn numbers(text: &[u8], room: usize) -> Answer<Vec<u8>> {
+    numbers::read(text, room).map(|numbers| counted(&numbers))
+}
+
+/// Numbers, and how many they are.
+fn counted(numbers: &[u64]) -> Vec<u8> {
+    let spelt: String = numbers.iter().map(|number| format!(" {number}")).collect();
+    format!("count {}:{spelt}", numbers.len()).into_bytes()
 }
 
 pub fn strand(word: &[u8], dot_allowed: bool) -> Answer<Vec<u8>> {

@@ -1,60 +1,57 @@
--- Whatever stores the numbers from here on completes the whole. Assumes nothing.
+-- Room for all numbers, or one by one. Assumes nothing.
 use borrow.Author.Needs.{needs}
-use Prim.Native.Nat.{_-_, _≤_}
-use mathlib.Core.Path.{_≡_, refl}
-use lib.ListN.{length, drop}
+use Prim.Native.Nat.{_+_, _*_, _≤_}
+use native.Mathlib.Omega.{arith}
+use lib.ListN.{length}
 use Rattle.ledger.specs.Limits.{largestPlace}
-use Rattle.writing.proofs.PutLaws.{Completes, completes-all}
-use Rattle.binary.specs.Bytes.{wordsBytes}
-use Rattle.binary.proofs.ByteLaws.{words-step, words-done}
+use Rattle.binary.specs.Bytes.{wordSize}
+use Rattle.binary.proofs.WordLaws.{room-there, words-put}
 use Rattle.binary.proofs.put_words.Statement.{statement}
 use Rattle.binary.proofs.put_words.Tie as tie
 
-abbrev Inv-loop : tie.InvT-loop
-Inv-loop buf₀ at vs p₀ i₀ buf p i = (i ≤ length vs) × (length buf ≡ length buf₀) × (length buf ≤ largestPlace) × (p ≤ largestPlace) × Completes (wordsBytes (drop i vs)) p buf (wordsBytes vs) at buf₀
+-- there is room for all numbers
+enough : (c : tie.After-store-words) → let a = c .before .before .before .before .before .before .args in a .at + wordSize * length (a .vs .now) ≤ length (a .buf .now)
+enough c = search room-there
 
-abbrev μ-loop : tie.MeasureT-loop
-μ-loop buf₀ at vs p₀ i₀ buf p i = length vs - i
+has-room-requires : tie.Need-has-room-requires
+has-room-requires c κs = search needs
 
-loop-holds : tie.Need-loop-holds Inv-loop μ-loop
-loop-holds c = (search needs, refl, search needs, search needs, completes-all _ _ _)
+store-words-requires : tie.Need-store-words-requires
+store-words-requires c κs = search room-there
 
-mul-put-low : tie.Need-mul-put-low Inv-loop μ-loop
-mul-put-low c = search needs
+mul-result : tie.Need-mul-result
+mul-result c = search needs
 
-shared-slice-read-put-low : tie.Need-shared-slice-read-put-low Inv-loop μ-loop
-shared-slice-read-put-low c = search needs
+add-result : tie.Need-add-result
+add-result c = omega (arith, enough (c .before .before))
 
-put-low-requires : tie.Need-put-low-requires Inv-loop μ-loop
-put-low-requires c κs = search needs
-
-add-i : tie.Need-add-i Inv-loop μ-loop
-add-i c = search needs
-
-loop-less : tie.Need-loop-less Inv-loop μ-loop
-loop-less c = search needs
-
-loop-again : tie.Need-loop-again Inv-loop μ-loop
-loop-again c = (search needs, search needs, search needs, search needs, search words-step)
-
-same-length : tie.Need-same-length Inv-loop μ-loop
+same-length : tie.Need-same-length
 same-length c = search needs
 
-returns : tie.Need-returns Inv-loop μ-loop
-returns c = search words-done
+returns : tie.Need-returns
+returns c =
+    let l : length (c .before .before .before .before .before .before .before .before .args .buf .now) ≤ largestPlace = search needs in
+    words-put _ _ _ _ (enough (c .before .before)) l (c .before .before .store-words .ensures)
+
+put-each-requires : tie.Need-put-each-requires
+put-each-requires c κs = search needs
+
+same-length-2 : tie.Need-same-length-2
+same-length-2 c = search needs
+
+returns-2 : tie.Need-returns-2
+returns-2 c = search needs
 
 pub put-words-spec : {M : Type 1} → statement M
 put-words-spec =
     tie.close
     (tie.spec
-    Inv-loop
-    μ-loop
-    loop-holds
-    mul-put-low
-    shared-slice-read-put-low
-    put-low-requires
-    add-i
-    loop-less
-    loop-again
+    has-room-requires
+    store-words-requires
+    mul-result
+    add-result
     same-length
-    returns)
+    returns
+    put-each-requires
+    same-length-2
+    returns-2)

@@ -1,19 +1,17 @@
 -- The items from here on, tested and stored, give what the whole list gives. Assumes nothing.
 use borrow.Author.Needs.{needs}
-use native.Mathlib.Omega.{arith}
 use Prim.Native.Nat.{_+_, _-_, _≤_}
 use mathlib.Core.Path.{_≡_, refl}
 use lib.ListN.{length, drop}
 use lib.Seq.{sets}
 use Rattle.numbers.specs.Lists.{itemsOf, testItems, goodValues}
-use Rattle.numbers.proofs.ListLaws.{list-bad, list-more, list-done, stored-more, stored-bad, stored-done}
+use Rattle.numbers.proofs.ListLaws.{item-bad, item-more, list-done, item-stored, item-stored-bad, stored-done}
 use Rattle.numbers.proofs.store_items.Statement.{statement}
 use Rattle.numbers.proofs.store_items.Tie as tie
 use Rattle.numbers.proofs.store_items.Reads as reads
 use Rattle.numbers.proofs.store_items.Lts as lts
-use Rattle.numbers.proofs.read_number.Reads as read-number-reads
+use Rattle.numbers.proofs.read_item.Reads as read-item-reads
 use Rattle.numbers.proofs.store.Reads as store-reads
-use Rattle.text.proofs.scan.Reads as scan-reads
 
 abbrev Inv-loop : tie.InvT-loop
 Inv-loop word least most out₀ i₀ n₀ out i n = (n ≤ i) × (i ≤ length word + 1) × (length out ≡ length out₀)
@@ -23,54 +21,55 @@ Inv-loop word least most out₀ i₀ n₀ out i n = (n ≤ i) × (i ≤ length w
 abbrev μ-loop : tie.MeasureT-loop
 μ-loop word least most out₀ i₀ n₀ out i n = length word + 1 - i
 
+-- src/lib.rt:204:5
 loop-holds : tie.Need-loop-holds Inv-loop μ-loop
 loop-holds c = (search needs, search needs, refl, refl, refl)
 
-scan-requires : tie.Need-scan-requires Inv-loop μ-loop
-scan-requires c κs = search needs
+-- src/lib.rt:205:13
+read-item-requires : tie.Need-read-item-requires Inv-loop μ-loop
+read-item-requires c κs = search needs
 
-sub-read-number : tie.Need-sub-read-number Inv-loop μ-loop
-sub-read-number c = search needs
+-- src/lib.rt:208:26
+enum-known-spelt : tie.Need-enum-known-spelt Inv-loop μ-loop
+enum-known-spelt c = search needs
 
-part-read-number-start : tie.Need-part-read-number-start Inv-loop μ-loop
-part-read-number-start c = search needs
-
-part-read-number-end : tie.Need-part-read-number-end Inv-loop μ-loop
-part-read-number-end c = search needs
-
-read-number-requires : tie.Need-read-number-requires Inv-loop μ-loop
-read-number-requires c κs = search needs
-
-enum-known-v : tie.Need-enum-known-v Inv-loop μ-loop
-enum-known-v c = search needs
-
+-- src/lib.rt:209:17
 store-requires : tie.Need-store-requires Inv-loop μ-loop
 store-requires c κs = search needs
 
-enum-known-reason : tie.Need-enum-known-reason Inv-loop μ-loop
-enum-known-reason c = search needs
+-- src/lib.rt:211:27
+enum-known-spelt-2 : tie.Need-enum-known-spelt-2 Inv-loop μ-loop
+enum-known-spelt-2 c = search needs
 
+-- src/lib.rt:212:17
 same-length : tie.Need-same-length Inv-loop μ-loop
 same-length c = search needs
 
+-- src/lib.rt:212:17
 returns : tie.Need-returns Inv-loop μ-loop
-returns c = record { is = search list-bad; stored = search stored-bad; near = search needs }
+returns c = record { is = search item-bad; stored = search item-stored-bad; near = search needs }
 
+-- src/lib.rt:215:9
 add-n : tie.Need-add-n Inv-loop μ-loop
 add-n c = search needs
 
+-- src/lib.rt:216:13
 add-i : tie.Need-add-i Inv-loop μ-loop
 add-i c = search needs
 
+-- src/lib.rt:204:5
 loop-less : tie.Need-loop-less Inv-loop μ-loop
 loop-less c = search needs
 
+-- src/lib.rt:204:5
 loop-again : tie.Need-loop-again Inv-loop μ-loop
-loop-again c = (search needs, search needs, search needs, search list-more, search stored-more)
+loop-again c = (search needs, search needs, search needs, search item-more, search item-stored)
 
+-- src/lib.rt:199:1
 same-length-2 : tie.Need-same-length-2 Inv-loop μ-loop
 same-length-2 c = search needs
 
+-- src/lib.rt:199:1
 returns-2 : tie.Need-returns-2 Inv-loop μ-loop
 returns-2 c = record { is = search list-done; stored = search stored-done; near = search needs }
 
@@ -81,14 +80,10 @@ store-items-spec =
     Inv-loop
     μ-loop
     loop-holds
-    scan-requires
-    sub-read-number
-    part-read-number-start
-    part-read-number-end
-    read-number-requires
-    enum-known-v
+    read-item-requires
+    enum-known-spelt
     store-requires
-    enum-known-reason
+    enum-known-spelt-2
     same-length
     returns
     add-n

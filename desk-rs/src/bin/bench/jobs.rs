@@ -18,6 +18,8 @@ pub enum Side {
 enum Work {
     Check(Kind),
     Parse(Kind),
+    /// The numbers of the text, into lent bytes.
+    Numbers,
     /// Each region goes through the text, a chain.
     Lift,
 }
@@ -33,6 +35,8 @@ pub struct Job {
     pub unit: &'static str,
 }
 
+/// What lent bytes hold before they are compared.
+const MARK: u8 = 0xA5;
 const BLOCKS: u64 = 512;
 const NUMBERS: u64 = 3_000;
 const REGIONS: u64 = 10_000;
@@ -58,6 +62,12 @@ pub fn all(small: bool) -> Vec<Job> {
         Kind::Chain,
         chain(),
     );
+    let numbers = Job {
+        work: Work::Numbers,
+        units: NUMBERS,
+        unit: "number",
+        ..job("numbers", ABOUT_NUMBERS, Kind::Bed, self::numbers())
+    };
     let scores = Job {
         work: Work::Check(Kind::Chain),
         texts: self::scores(),
@@ -77,9 +87,10 @@ pub fn all(small: bool) -> Vec<Job> {
         unit: "region",
         ..job("lift", LIFT, Kind::Chain, chain.texts[0].clone())
     };
-    vec![scores, list, bed, psl, chain, lift]
+    vec![numbers, scores, list, bed, psl, chain, lift]
 }
 
+const ABOUT_NUMBERS: &str = "3,000 numbers of 1 to 18 digits in one text, read into lent bytes";
 const SCORES: &str =
     "3,000 numbers of 1 to 18 digits, each the score of a chain of one block, checked";
 const LIST: &str = "3,000 numbers of 1 to 10 digits in one list of a BED line, \
@@ -121,6 +132,15 @@ impl Job {
                 let _ = black_box(lent.read(kind, text));
                 black_box(&lent.rows);
             }
+            (Work::Numbers, Side::Library) => {
+                black_box(sys::numbers(text, &mut lent.bytes));
+                black_box(&lent.bytes);
+            }
+            (Work::Numbers, Side::Rust) => {
+                let (room, bytes) = (&mut lent.numbers, &mut lent.bytes);
+                let _ = black_box(fast::numbers::read(text, room, bytes));
+                black_box(&lent.bytes);
+            }
             (Work::Lift, Side::Library) => self.regions.iter().for_each(|(start, end)| {
                 black_box(sys::lift_region(text, *start, *end, &mut lent.bytes));
             }),
@@ -144,13 +164,19 @@ impl Job {
         match self.work {
             Work::Check(kind) | Work::Parse(kind) => {
                 let count = sys::parse(kind.number(), text, &mut lent.bytes);
-                let library = lent.numbers(count);
+                let library = lent.parsed(count);
                 library == lent.read_numbers(kind, text)
+            }
+            Work::Numbers => {
+                let exact = 8 * NUMBERS as usize;
+                [exact, exact - 1, 0]
+                    .iter()
+                    .all(|room| lent.numbers_agree(text, *room))
             }
             Work::Lift => self.regions.iter().take(3).all(|(start, end)| {
                 let count = sys::lift_region(text, *start, *end, &mut lent.bytes);
                 let rust = fast::chain::lift_region(text, *start, *end, &mut lent.room);
-                lent.numbers(count) == rust.map(|numbers| numbers.to_vec())
+                lent.parsed(count) == rust.map(|numbers| numbers.to_vec())
             }),
         }
     }
@@ -161,14 +187,16 @@ pub struct Lent {
     bytes: Vec<u8>,
     rows: Vec<Row>,
     room: Box<Rows>,
+    numbers: Box<fast::numbers::Numbers>,
 }
 
 impl Lent {
     pub fn new() -> Lent {
         Lent {
-            bytes: vec![0; 8 * (20 + 3 * BLOCK_LIMIT)],
+            bytes: vec![0; 8 * NUMBERS.max(20 + 3 * BLOCKS) as usize],
             rows: vec![Row::default(); BLOCK_LIMIT],
             room: Box::new([Row::default(); BLOCK_LIMIT]),
+            numbers: fast::numbers::room(),
         }
     }
 
@@ -197,8 +225,21 @@ impl Lent {
         Ok(numbers)
     }
 
+    /// Whether both sides give the same answer for a text of numbers, and leave the
+    /// same bytes in so much room.
+    fn numbers_agree(&mut self, text: &[u8], room: usize) -> bool {
+        let (mut library, mut rust) = (vec![MARK; room], vec![MARK; room]);
+        let answer = sys::numbers(text, &mut library);
+        let wanted = match fast::numbers::read(text, &mut self.numbers, &mut rust) {
+            Ok(count) => count as u64 * 16,
+            Err(refused) => refused.place as u64 * 16 + u64::from(refused.number),
+        };
+        let kept = wanted % 16 == 0 || rust.iter().all(|byte| *byte == MARK);
+        answer == wanted && library == rust && kept
+    }
+
     /// The library's answer taken apart.
-    fn numbers(&self, answer: u64) -> Answer<Vec<u64>> {
+    fn parsed(&self, answer: u64) -> Answer<Vec<u64>> {
         let (number, value) = ((answer % 16) as u8, (answer / 16) as usize);
         match number {
             0 => {
@@ -224,6 +265,13 @@ fn mixed(seed: u64) -> u64 {
 fn of_digits(seed: u64, digits: u64) -> u64 {
     let least = 10u64.pow(digits as u32 - 1);
     least + mixed(seed) % (9 * least)
+}
+
+fn numbers() -> Vec<u8> {
+    let words: Vec<String> = (0..NUMBERS)
+        .map(|at| of_digits(at, mixed(at + 8_000) % 18 + 1).to_string())
+        .collect();
+    format!("{}\n", words.join(" ")).into_bytes()
 }
 
 fn scores() -> Vec<Vec<u8>> {
@@ -373,10 +421,32 @@ fn damage(text: &[u8], seed: u64) -> Vec<u8> {
 
 #[cfg(test)]
 mod tests {
+    use super::Lent;
+
     #[test]
     fn both_sides_answer_the_same() {
         for job in super::all(true) {
             assert!(job.sides_agree(1_000), "{}", job.name);
+        }
+    }
+
+    /// Each word near the start and near the end of texts of all small lengths.
+    #[test]
+    fn both_sides_read_short_texts_of_numbers_the_same() {
+        let mut lent = Lent::new();
+        let words =
+            "|0|00|7|007|x|1x|x1|,|1:|/1|-1|\t|\n|\n\n|\n \t|\r|\x7F|1\n|\n1|x\n|1\nx|1 \n\x00|\
+            99999999999999999|100000000000000000|999999999999999999|000000000000000001|\
+            1000000000000000000|0999999999999999999|999999999999999999x|18446744073709551616|\
+            99999999999999999999999999|99999999999999999999999999x";
+        for word in words.split('|') {
+            for more in 0..24 {
+                for (before, after) in [("7 ", " 8"), ("7", ""), (" ", ""), ("", "9"), ("", "\t")] {
+                    let text = before.repeat(more) + word + &after.repeat(more);
+                    let agree = lent.numbers_agree(text.as_bytes(), 8 * 24);
+                    assert!(agree, "{}", text.escape_default());
+                }
+            }
         }
     }
 }

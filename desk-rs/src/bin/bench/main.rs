@@ -18,7 +18,7 @@ bench: times the jobs of docs/BENCHMARKS.md, through the library and in plain Ru
   bench [JOB..]                  times: warm-up, then the median of many short samples of each side in turn
   bench --instructions [JOB..]   instructions, counted by valgrind --tool=callgrind
 
-Without a JOB, all: scores, list, bed, psl, chain, lift.
+Without a JOB, all: numbers, scores, list, bed, psl, chain, lift.
 ";
 
 /// Samples of each side, the two in turn; their median counts. A short sample is

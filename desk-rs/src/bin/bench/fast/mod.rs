@@ -1,14 +1,17 @@
 //! The same jobs in plain Rust, written for speed: one split of each line into
 //! words, numbers read in place, no allocation. The checks and their order are
-//! the ledger's, and a refusal leaves the lent rows as they were.
+//! the ledger's, and a refusal leaves the lent rows and bytes as they were.
 
 pub mod bed;
 pub mod chain;
+pub mod numbers;
 pub mod psl;
 mod words;
 
 pub use words::{Answer, Refused};
 
+/// Most bytes in a text.
+const TEXT_LIMIT: usize = 65_536;
 /// Most blocks in a record.
 pub const BLOCK_LIMIT: usize = 512;
 /// Largest coordinate, size or PSL count.

@@ -1,5 +1,7 @@
 //! The bytes of a text, the words of a line, numbers and lists.
 
+use super::TEXT_LIMIT;
+
 /// A refusal: its number and its place.
 #[derive(Clone, Copy, Debug, PartialEq, Eq)]
 pub struct Refused {
@@ -20,7 +22,7 @@ pub type Word = (usize, usize);
 
 /// The text's length (1), then its bytes (3), sixty-four at a time.
 pub fn check_text(text: &[u8]) -> Answer<()> {
-    if text.len() > 65_536 {
+    if text.len() > TEXT_LIMIT {
         return Err(Refused::new(1, 0));
     }
     let mut chunks = text.chunks_exact(64);
@@ -78,9 +80,11 @@ pub fn split<const N: usize>(text: &[u8], from: usize) -> Split<N> {
 }
 
 fn blanks(text: &[u8]) -> usize {
-    text.iter()
-        .take_while(|byte| matches!(byte, b' ' | b'\t'))
-        .count()
+    text.iter().take_while(|byte| blank(byte)).count()
+}
+
+pub fn blank(byte: &u8) -> bool {
+    matches!(byte, b' ' | b'\t')
 }
 
 /// Refusal 2 if a line follows the one that ends at `end`.
