@@ -23,15 +23,13 @@ use Rattle.numbers.specs.Numbers.{wellSpelt, valueFrom, value, numberOf}
 use Rattle.numbers.specs.Ranges.{Between, between-none, between-more}
 use Rattle.numbers.specs.Lists.{itemsOf, orItem, testItems, lastByte, openEnd, thenCount, listEnd, listOf, valuesOf}
 use Rattle.numbers.proofs.NumberLaws.{valueFrom-le}
+use Rattle.numbers.proofs.DigitLaws.{digit-range}
 use Rattle.writing.specs.Digits.{digits, listText}
 use Rattle.writing.proofs.DigitLaws.{Most, digits-small, digits-large, some-digits, number-digits, value-digits, digits-items}
 use Rattle.writing.proofs.ListLaws.{items-join, list-items}
 use Rattle.kinds.specs.SpeltAs.{Decimal, parted, Listed}
 
 -- ---- numbers
-digit-range : (b : ℕ) → isIn Digit b ≡ true → (48 ≤ b) × (b ≤ 57)
-digit-range b h = let p = both (leb 48 b) (leb b 57) h in (leb-true 48 b (p .0), leb-true b 57 (p .1))
-
 -- digits after a number that is not 0 are those of the longer number
 digits-on : (acc : ℕ) (w : List ℕ) → 1 ≤ acc → All Digit w → valueFrom acc w < Most → digits (valueFrom acc w) ≡ digits acc ++ w
 unfolding valueFrom run

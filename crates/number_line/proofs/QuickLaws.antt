@@ -1,7 +1,7 @@
 -- Laws of the quick way: numbers parted by single blanks, and what a text of such a line is. Assumes nothing.
 use mathlib.Core.Path.{_≡_, refl, sym, ap, _∙_}
 use mathlib.Core.Bool.{Bool, true, false, not, _||_}
-use mathlib.Core.List.{List, [], _∷_, _++_}
+use mathlib.Core.List.{List, [], _∷_, _++_, append-nil}
 use Prim.Native.Nat.{ℕ, _+_, _-_, _≤_, _<_, min}
 use native.Mathlib.Numerals.{add-one}
 use native.Mathlib.Omega.{arith}
@@ -65,8 +65,8 @@ module _ (line : List ℕ) (at : ℕ) (h : at < length line) (m : ℕ) (d : Digi
   inside : d .end ≤ endOf Digit line at
   inside = omega (arith, read .is)
 
-  high : d .end ≤ length line
-  high = digits-high Digit (λ b e. e) line at (d .end) (omega arith) (read .low) inside
+  pub end-high : d .end ≤ length line
+  end-high = digits-high Digit (λ b e. e) line at (d .end) (omega arith) (read .low) inside
 
   gap-there : d .end < length line → isIn Blank (getD line (d .end) 0) ≡ true
   gap-there l = go (leb (length line) (d .end)) (isIn Blank (getD line (d .end) 0)) refl refl (sym eu ∙ not-false u gap)
@@ -88,7 +88,7 @@ module _ (line : List ℕ) (at : ℕ) (h : at < length line) (m : ℕ) (d : Digi
           omega arith
 
   -- a class that holds digits and blanks goes on
-  pub class-on : (c : Class) → ((b : ℕ) → isIn Digit b ≡ true → isIn c b ≡ true) → ((b : ℕ) → isIn Blank b ≡ true → isIn c b ≡ true)
+  class-on : (c : Class) → ((b : ℕ) → isIn Digit b ≡ true → isIn c b ≡ true) → ((b : ℕ) → isIn Blank b ≡ true → isIn c b ≡ true)
       → endOf c line (min at (length line)) ≡ endOf c line 0 → endOf c line (min (d .end + 1) (length line)) ≡ endOf c line 0
   class-on c digit blank inv = either (length line) (d .end) _ over within
     where
@@ -98,27 +98,33 @@ module _ (line : List ℕ) (at : ℕ) (h : at < length line) (m : ℕ) (d : Digi
           digits-pass c digit line at (d .end) (omega arith) (read .low) inside ∙ rw q at inv
 
       over : length line ≤ d .end → endOf c line (min (d .end + 1) (length line)) ≡ endOf c line 0
-      over l = let q : min (d .end + 1) (length line) ≡ d .end = omega (arith, high) in rw q here
+      over l = let q : min (d .end + 1) (length line) ≡ d .end = omega (arith, end-high) in rw q here
 
       within : d .end < length line → endOf c line (min (d .end + 1) (length line)) ≡ endOf c line 0
       within l =
           let q : min (d .end + 1) (length line) ≡ d .end + 1 = omega arith in
           rw q (sym (endOf-step c line (d .end) l (blank (getD line (d .end) 0) (gap-there l))) ∙ here)
 
+  pub allowed-on : endOf Allowed line (min at (length line)) ≡ endOf Allowed line 0 → endOf Allowed line (min (d .end + 1) (length line)) ≡ endOf Allowed line 0
+  allowed-on inv = class-on Allowed digit-allowed blank-allowed inv
+
+  pub line-on : endOf Line line (min at (length line)) ≡ endOf Line line 0 → endOf Line line (min (d .end + 1) (length line)) ≡ endOf Line line 0
+  line-on inv = class-on Line digit-line blank-line inv
+
   word-end : d .end ≡ endOf Word line at
   word-end = digits-ended Word digit-word line at (d .end) (omega arith) (read .low) inside (λ l. blank-parts (getD line (d .end) 0) (gap-there l))
 
   words-next : wordsOf (drop at line) ≡ take (d .end - at) (drop at line) ∷ wordsOf (drop (d .end + 1) line)
   unfolding wordsOf nonEmpty
-  words-next = rw (pieces-step Word line at (d .end) h word-end) (or-skip (take (d .end - at) (drop at line)) (nonEmpty (piecesOf Word (drop (d .end + 1) line))) (omega (arith, part-length line at (d .end) high, some)))
+  words-next = rw (pieces-step Word line at (d .end) h word-end) (or-skip (take (d .end - at) (drop at line)) (nonEmpty (piecesOf Word (drop (d .end + 1) line))) (omega (arith, part-length line at (d .end) end-high, some)))
 
   spelt : m ≤ 18 → numberOf 0 largestListed (take (d .end - at) (drop at line)) ≡ Means (d .value)
   spelt few =
       let a : All Digit (take (d .end - at) (drop at line)) = part-in Digit line at (d .end) (read .low) inside in
-      let l : length (take (d .end - at) (drop at line)) ≤ 18 = omega (arith, part-length line at (d .end) high, read .is) in
+      let l : length (take (d .end - at) (drop at line)) ≤ 18 = omega (arith, part-length line at (d .end) end-high, read .is) in
       let v : d .value ≤ largestListed = rw (read .means) (value-most (take (d .end - at) (drop at line)) a l) in
       let j = judged-good (d .end - at) first (d .value) 0 largestListed t et led (rw (le-leb 0 (d .value) (omega arith), le-leb (d .value) largestListed v)) in
-      sym (judged-part line at (d .end) first (d .value) 0 largestListed (Means (d .value)) (read .low) high a ef (read .means) j .is)
+      sym (judged-part line at (d .end) first (d .value) 0 largestListed (Means (d .value)) (read .low) end-high a ef (read .means) j .is)
 
   pub count-on : (n m : ℕ) → n + length (wordsOf (drop at line)) ≡ m → n + 1 + length (wordsOf (drop (d .end + 1) line)) ≡ m
   count-on n m inv = omega (arith, inv, ap length words-next)
@@ -151,14 +157,10 @@ module _ (line room : List ℕ) (at n : ℕ) (past : length line ≤ at) where
       allowed = class-all Allowed allowed;
       inLine = class-all Line inLine;
       count = omega (arith, count, ap length nothing-left);
-      values = sym (rw (nothing-left, append-none (take n room)) at values);
+      values = sym (rw (nothing-left, append-nil (take n room)) at values);
     };
     few = few;
   }
-    where
-      append-none : (xs : List ℕ) → xs ++ [] ≡ xs
-      append-none [] = refl
-      append-none (x ∷ xs) = ap (λ (k : List ℕ). x ∷ k) (append-none xs)
 
 pub few-on : (room : List ℕ) (n v : ℕ) → n < length room → n + 1 ≤ length (set room n v)
 few-on room n v h = rw length-set (omega arith)
@@ -166,14 +168,3 @@ few-on room n v h = rw length-set (omega arith)
 -- what the loop keeps of the bytes
 pub class-first : (c : Class) (line : List ℕ) → endOf c line (min 0 (length line)) ≡ endOf c line 0
 class-first c line = let q : min 0 (length line) ≡ 0 = omega arith in rw q
-
-module _ (line : List ℕ) (at : ℕ) (h : at < length line) (m : ℕ) (d : Digits) (read : DigitsRead line at m d) (t : Bool) (first : ℕ) (ef : first ≡ getD line at 0) (et : t ≡ isLed (d .end - at) first) (led : not t ≡ false)
-    (u : Bool) (eu : u ≡ isGap line (d .end)) (gap : not u ≡ false) where
-  pub allowed-on : endOf Allowed line (min at (length line)) ≡ endOf Allowed line 0 → endOf Allowed line (min (d .end + 1) (length line)) ≡ endOf Allowed line 0
-  allowed-on inv = class-on line at h m d read t first ef et led u eu gap Allowed digit-allowed blank-allowed inv
-
-  pub line-on : endOf Line line (min at (length line)) ≡ endOf Line line 0 → endOf Line line (min (d .end + 1) (length line)) ≡ endOf Line line 0
-  line-on inv = class-on line at h m d read t first ef et led u eu gap Line digit-line blank-line inv
-
-  pub end-high : d .end ≤ length line
-  end-high = high line at h m d read t first ef et led u eu gap

@@ -39,7 +39,7 @@ tens-most : (i : ℕ) → i ≤ 18 → tens i ≤ 1000000000000000000
 unfolding tens
 tens-most i h = let q : i + (18 - i) ≡ 18 = omega arith in rw q at (tens-grow (18 - i) i)
 
-digit-range : (b : ℕ) → isIn Digit b ≡ true → (48 ≤ b) × (b ≤ 57)
+pub digit-range : (b : ℕ) → isIn Digit b ≡ true → (48 ≤ b) × (b ≤ 57)
 digit-range b h = let p = both (leb 48 b) (leb b 57) h in (leb-true 48 b (p .0), leb-true b 57 (p .1))
 
 value-tens : (acc k : ℕ) (w : List ℕ) → acc < tens k → All Digit w → valueFrom acc w < tens (k + length w)

@@ -2,11 +2,11 @@
 use mathlib.Core.Path.{_≡_, refl, sym, ap, _∙_}
 use mathlib.Core.Bool.{Bool, true, false, not, _&&_, _||_}
 use mathlib.Core.List.{List, [], _∷_, map}
-use Prim.Native.Nat.{ℕ, suc, _+_, _-_, _≤_, _<_, max, zero-le}
+use Prim.Native.Nat.{ℕ, suc, _+_, _-_, _≤_, _<_, zero-le}
 use native.Mathlib.Nat.{le-refl}
 use native.Mathlib.Numerals.{add-one}
 use native.Mathlib.Omega.{arith}
-use lib.ListN.{length, take, drop, getD, set, length-take, length-drop, drop-of-length-le}
+use lib.ListN.{length, take, drop, getD, set, drop-of-length-le}
 use lib.Seq.{sets}
 use lib.Dec.{leb, eqb}
 use borrow.Author.Tests.{eq-eqb, ne-eqb, eqb-true, leb-true}
@@ -23,6 +23,7 @@ use Rattle.numbers.specs.Spelling.{pickSpelt}
 use Rattle.numbers.specs.Numbers.{wellSpelt, value, numberOf}
 use Rattle.numbers.specs.Lists.{itemsOf, testItems, goodValues, orStop, orItem, valuesOf, lastByte, openEnd, listEnd, listOf, PieceRead, ItemsStored, ListEnded, ListRead}
 use Rattle.numbers.specs.Ranges.{Between, between-none, between-more}
+use Rattle.numbers.proofs.DigitLaws.{part-length}
 
 pub last-none : (w : List ℕ) → length w ≡ 0 → 0 ≡ lastByte 0 w
 unfolding lastByte
@@ -63,25 +64,25 @@ pub items-past : (w : List ℕ) (i : ℕ) → length w ≤ i → itemsOf (drop i
 unfolding itemsOf piecesOf
 items-past w i h = rw (drop-of-length-le w h)
 
--- the length of an item, from its first place to past its last
-item-length : (w : List ℕ) (i e : ℕ) → i ≤ e → e ≤ length w → length (take (e - i) (drop i w)) ≡ e - i
-item-length w i e l m = rw (length-take, length-drop) (omega arith)
+-- what an item spells that is found and read in one step
+spelt-in : (least most : ℕ) (w : List ℕ) (i : ℕ) (x : Piece) → PieceRead least most w i x → x .spelt ≡ numberOf least most (take (x .end - i) (drop i w))
+spelt-in least most w i x is = rw (is .ends) (is .is)
 
 module _ (least most : ℕ) (w : List ℕ) (i n : ℕ) (inv : testItems least most n i (itemsOf (drop i w)) ≡ testItems least most 0 0 (itemsOf w)) where
   pub list-done : length w ≤ i → Means n ≡ testItems least most 0 0 (itemsOf w)
   unfolding testItems
   list-done h = rw (items-past w i h) at inv
 
-  module _ (e : ℕ) (num : Spelt) (h : i < length w) (is-e : e ≡ endOf Item w i) (is-num : num ≡ numberOf least most (take (e - i) (drop i w))) where
-    pub list-bad : (why : Reason) (p : ℕ) → num ≡ Faulty why p → Faulty why i ≡ testItems least most 0 0 (itemsOf w)
+  module _ (h : i < length w) (x : Piece) (is : PieceRead least most w i x) where
+    pub list-bad : (why : Reason) (p : ℕ) → x .spelt ≡ Faulty why p → Faulty why i ≡ testItems least most 0 0 (itemsOf w)
     unfolding testItems
-    list-bad why p q = rw (items-step w i e h is-e, ← is-num, q) at inv
+    list-bad why p q = rw (items-step w i (x .end) h (is .ends), ← (spelt-in least most w i x is), q) at inv
 
-    pub list-more : (v : ℕ) → num ≡ Means v → i ≤ e → e ≤ max i (length w) → testItems least most (n + 1) (e + 1) (itemsOf (drop (e + 1) w)) ≡ testItems least most 0 0 (itemsOf w)
+    pub list-more : (v : ℕ) → x .spelt ≡ Means v → testItems least most (n + 1) (x .end + 1) (itemsOf (drop (x .end + 1) w)) ≡ testItems least most 0 0 (itemsOf w)
     unfolding testItems
-    list-more v q l m =
-        let p : e + 1 ≡ i + (e - i) + 1 = omega arith in
-        rw p (rw (items-step w i e h is-e, ← is-num, q, item-length w i e l (omega arith), p) at inv)
+    list-more v q =
+        let p : x .end + 1 ≡ i + (x .end - i) + 1 = omega (arith, is .low) in
+        rw p (rw (items-step w i (x .end) h (is .ends), ← (spelt-in least most w i x is), q, part-length w i (x .end) (is .high), p) at inv)
 
 -- what is stored: the values from here on complete those of the whole list
 module _ (least most : ℕ) (w before out : List ℕ) (i n : ℕ) (inv : sets out n (goodValues least most (itemsOf (drop i w))) ≡ sets before 0 (goodValues least most (itemsOf w))) where
@@ -89,33 +90,14 @@ module _ (least most : ℕ) (w before out : List ℕ) (i n : ℕ) (inv : sets ou
   unfolding goodValues
   stored-done h = rw (items-past w i h) at inv
 
-  module _ (e : ℕ) (num : Spelt) (h : i < length w) (is-e : e ≡ endOf Item w i) (is-num : num ≡ numberOf least most (take (e - i) (drop i w))) where
-    pub stored-bad : (why : Reason) (p : ℕ) → num ≡ Faulty why p → out ≡ sets before 0 (goodValues least most (itemsOf w))
+  module _ (h : i < length w) (x : Piece) (is : PieceRead least most w i x) where
+    pub stored-bad : (why : Reason) (p : ℕ) → x .spelt ≡ Faulty why p → out ≡ sets before 0 (goodValues least most (itemsOf w))
     unfolding goodValues
-    stored-bad why p q = rw (items-step w i e h is-e, ← is-num, q) at inv
+    stored-bad why p q = rw (items-step w i (x .end) h (is .ends), ← (spelt-in least most w i x is), q) at inv
 
-    pub stored-more : (v : ℕ) (out′ : List ℕ) → num ≡ Means v → out′ ≡ set out n v → sets out′ (n + 1) (goodValues least most (itemsOf (drop (e + 1) w))) ≡ sets before 0 (goodValues least most (itemsOf w))
+    pub stored-more : (v : ℕ) (out′ : List ℕ) → x .spelt ≡ Means v → out′ ≡ set out n v → sets out′ (n + 1) (goodValues least most (itemsOf (drop (x .end + 1) w))) ≡ sets before 0 (goodValues least most (itemsOf w))
     unfolding goodValues
-    stored-more v out′ q o = rw (o, add-one) (rw (items-step w i e h is-e, ← is-num, q) at inv)
-
--- the same of an item that is found and read in one step
-module _ (least most : ℕ) (w : List ℕ) (i : ℕ) (h : i < length w) (x : Piece) (is : PieceRead least most w i x) where
-  spelt-is : x .spelt ≡ numberOf least most (take (x .end - i) (drop i w))
-  spelt-is = rw (is .ends) (is .is)
-
-  module _ (n : ℕ) (inv : testItems least most n i (itemsOf (drop i w)) ≡ testItems least most 0 0 (itemsOf w)) where
-    pub item-bad : (why : Reason) (p : ℕ) → x .spelt ≡ Faulty why p → Faulty why i ≡ testItems least most 0 0 (itemsOf w)
-    item-bad why p q = list-bad least most w i n inv (x .end) (x .spelt) h (is .ends) spelt-is why p q
-
-    pub item-more : (v : ℕ) → x .spelt ≡ Means v → testItems least most (n + 1) (x .end + 1) (itemsOf (drop (x .end + 1) w)) ≡ testItems least most 0 0 (itemsOf w)
-    item-more v q = list-more least most w i n inv (x .end) (x .spelt) h (is .ends) spelt-is v q (is .low) (omega (arith, is .high))
-
-  module _ (before out : List ℕ) (n : ℕ) (inv : sets out n (goodValues least most (itemsOf (drop i w))) ≡ sets before 0 (goodValues least most (itemsOf w))) where
-    pub item-stored-bad : (why : Reason) (p : ℕ) → x .spelt ≡ Faulty why p → out ≡ sets before 0 (goodValues least most (itemsOf w))
-    item-stored-bad why p q = stored-bad least most w before out i n inv (x .end) (x .spelt) h (is .ends) spelt-is why p q
-
-    pub item-stored : (v : ℕ) (out′ : List ℕ) → x .spelt ≡ Means v → out′ ≡ set out n v → sets out′ (n + 1) (goodValues least most (itemsOf (drop (x .end + 1) w))) ≡ sets before 0 (goodValues least most (itemsOf w))
-    item-stored v out′ q o = stored-more least most w before out i n inv (x .end) (x .spelt) h (is .ends) spelt-is v out′ q o
+    stored-more v out′ q o = rw (o, add-one) (rw (items-step w i (x .end) h (is .ends), ← (spelt-in least most w i x is), q) at inv)
 
 -- the end of a list
 module _ (comma : Bool) (n : ℕ) (w : List ℕ) (found : Spelt) where

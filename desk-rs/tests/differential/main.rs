@@ -59,64 +59,53 @@ fn sent_text(dice: &mut Dice, mut draft: Draft) -> Vec<u8> {
     text
 }
 
-fn run(seed: u64, cases: u64) -> Seen {
+/// Draws so many cases and compares each; all answers must be among those seen.
+fn run(
+    cases: u64,
+    answers: &[Answers],
+    draw: fn(&mut Dice) -> Case,
+    compare: fn(&mut Compare, &Case),
+) {
+    let seed = option("TENDERCHOCK_SEED", 1);
     let mut seen = Seen::new();
     for number in 0..cases {
         let mut dice = Dice::of_case(seed, number);
-        let case = drawn(&mut dice);
-        let text = case.text.escape_ascii().to_string();
-        let label = format!(
-            "seed {seed}, case {number}, kind {}, text \"{text}\"",
-            case.kind
-        );
-        let mut compare = Compare {
+        let case = draw(&mut dice);
+        let (kind, text) = (case.kind, case.text.escape_ascii());
+        let label = format!("seed {seed}, case {number}, kind {kind}, text \"{text}\"");
+        let mut one = Compare {
             dice: &mut dice,
             seen: &mut seen,
             label: &label,
         };
-        compare.case(&case);
+        compare(&mut one, &case);
     }
-    seen
+    told(&seen);
+    if option("TENDERCHOCK_CASES", CASES) >= CASES {
+        every_answer_was_seen(&seen, answers);
+    }
 }
 
 #[test]
 fn the_library_answers_as_the_second_program() {
     let cases = option("TENDERCHOCK_CASES", CASES);
-    let seed = option("TENDERCHOCK_SEED", 1);
-    let seen = run(seed, cases);
-    told(&seen);
-    if cases >= CASES {
-        every_answer_was_seen(&seen, &ANSWERS);
-    }
+    run(cases, &ANSWERS, drawn, |one, case| one.case(case));
 }
 
-fn run_numbers(seed: u64, cases: u64) -> Seen {
-    let mut seen = Seen::new();
-    for number in 0..cases {
-        let mut dice = Dice::of_case(seed, number);
-        let draft = drafts::numbers(&mut dice);
-        let text = sent_text(&mut dice, draft);
-        let shown = text.escape_ascii();
-        let label = format!("seed {seed}, text of numbers {number}, \"{shown}\"");
-        let mut compare = Compare {
-            dice: &mut dice,
-            seen: &mut seen,
-            label: &label,
-        };
-        compare.numbers(&text);
-    }
-    seen
+/// A text of numbers, which has no kind.
+fn drawn_numbers(dice: &mut Dice) -> Case {
+    let draft = drafts::numbers(dice);
+    let text = sent_text(dice, draft);
+    Case { kind: 0, text }
 }
 
 #[test]
 fn texts_of_numbers_are_read_as_by_the_second_program() {
-    let cases = option("TENDERCHOCK_CASES", CASES);
-    let seed = option("TENDERCHOCK_SEED", 1);
-    let seen = run_numbers(seed, cases / 4);
-    told(&seen);
-    if cases >= CASES {
-        every_answer_was_seen(&seen, &[("numbers", &[0, 1, 2, 3, 4, 5, 11])]);
-    }
+    let cases = option("TENDERCHOCK_CASES", CASES) / 4;
+    let answers: Answers = ("numbers", &[0, 1, 2, 3, 4, 5, 11]);
+    run(cases, &[answers], drawn_numbers, |one, case| {
+        one.numbers(&case.text)
+    });
 }
 
 fn told(seen: &Seen) {

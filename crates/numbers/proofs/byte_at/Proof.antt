@@ -1,3 +1,4 @@
+-- A byte of the word, or none. Assumes nothing.
 use Rattle.numbers.proofs.DigitLaws.{byte-none}
 use borrow.Author.Needs.{needs}
 use Rattle.numbers.proofs.byte_at.Statement.{statement}
@@ -5,15 +6,12 @@ use Rattle.numbers.proofs.byte_at.Tie as tie
 use Rattle.numbers.proofs.byte_at.Reads as reads
 use Rattle.numbers.proofs.byte_at.Lts as lts
 
--- src/lib.rt:97:25
 shared-slice-read-result : tie.Need-shared-slice-read-result
 shared-slice-read-result c = search needs
 
--- src/lib.rt:94:1
 returns : tie.Need-returns
 returns c = search needs
 
--- src/lib.rt:94:1
 returns-2 : tie.Need-returns-2
 returns-2 c = search byte-none
 

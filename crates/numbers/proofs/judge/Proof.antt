@@ -1,3 +1,4 @@
+-- Misspelt, good, or out of range. Assumes nothing.
 use Rattle.numbers.proofs.DigitLaws.{judged-misspelt, judged-good, judged-range}
 use borrow.Author.Needs.{needs}
 use Rattle.numbers.proofs.judge.Statement.{statement}
@@ -6,19 +7,15 @@ use Rattle.numbers.proofs.judge.Reads as reads
 use Rattle.numbers.proofs.judge.Lts as lts
 use Rattle.numbers.proofs.leads.Reads as leads-reads
 
--- src/lib.rt:84:9
 leads-requires : tie.Need-leads-requires
 leads-requires c κs = search needs
 
--- src/lib.rt:85:9
 returns : tie.Need-returns
 returns c = search judged-misspelt
 
--- src/lib.rt:88:9
 returns-2 : tie.Need-returns-2
 returns-2 c = search judged-good
 
--- src/lib.rt:81:1
 returns-3 : tie.Need-returns-3
 returns-3 c = search judged-range
 

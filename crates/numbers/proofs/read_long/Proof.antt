@@ -1,3 +1,4 @@
+-- The digits passed, and those from here on, have the value of them all. Assumes nothing.
 use borrow.Author.Needs.{needs}
 use native.Mathlib.Omega.{arith}
 use Prim.Native.Nat.{_-_, _/_, _≤_}
