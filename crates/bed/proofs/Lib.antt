@@ -3,6 +3,7 @@ pub mod ColumnLaws
 pub mod AcceptLaws
 pub mod LineLaws
 pub mod ValidLaws
+pub mod StandardLaws
 pub mod StoreLaws
 pub mod RuleLaws
 pub mod WriteLaws

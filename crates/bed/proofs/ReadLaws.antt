@@ -7,7 +7,6 @@ use native.Mathlib.Omega.{arith}
 use lib.ListN.{length, set, getD, take, drop, length-set}
 use lib.Dec.{eqb}
 use borrow.Author.Tests.{le-leb, lt-leb, lt-ltb, le-ltb, ne-eqb, eq-eqb, eqb-true, eqb-false}
-use Rattle.ledger.specs.Limits.{blockLimit}
 use Rattle.ledger.specs.Strands.{strandOf}
 use Rattle.ledger.specs.declared.Strand.{Strand}
 use Rattle.ledger.specs.declared.Part.{Part}
@@ -17,6 +16,8 @@ use Rattle.text.specs.declared.Check.{Check}
 use Rattle.text.specs.declared.Check.the-variants.{Holds}
 use Rattle.text.specs.declared.Check.the-variants as check
 use Rattle.text.specs.Checks.{require, lastLineCheck}
+use Rattle.text.specs.Words.{lineEnd}
+use Rattle.text.proofs.Laws.{last-as}
 use Rattle.blocks.specs.Blocks.{blocksFill}
 use Rattle.blocks.proofs.TakeLaws.{part-all}
 use Rattle.bed.specs.declared.Bed.{Bed}
@@ -51,18 +52,18 @@ module _ (n : ℕ) (vs : List ℕ) (r : ℕ) where
   thick-start h e = rw (lt-leb 8 n h) e
 
 -- the default block
-module _ (r : Bed) (l : List ℕ) where
-  pub block-given : r .words ≡ 12 → l ≡ withDefault r l
+module _ (b : ℕ) (r : Bed) (l : List ℕ) where
+  pub block-given : r .words ≡ 12 → l ≡ withDefault b r l
   block-given e = rw (eq-eqb (r .words) 12 e)
 
-  pub block-default : (v : ℕ) (l₁ l₂ : List ℕ) → (r .words ≡ 12 → ⊥) → v ≡ r .chromEnd - r .chromStart → l₁ ≡ set l 0 v → l₂ ≡ set l₁ blockLimit 0 → l₂ ≡ withDefault r l
+  pub block-default : (v : ℕ) (l₁ l₂ : List ℕ) → (r .words ≡ 12 → ⊥) → v ≡ r .chromEnd - r .chromStart → l₁ ≡ set l 0 v → l₂ ≡ set l₁ b 0 → l₂ ≡ withDefault b r l
   block-default v l₁ l₂ h e e₁ e₂ = rw (ne-eqb (r .words) 12 h, e₂, e₁, e)
 
 -- the blocks, tested in the working room
-module _ (s : List ℕ) (r : Bed) (l : List ℕ) (held : Blocked s r l) (t : Bool) (v : ℕ) (ev : v ≡ r .chromEnd - r .chromStart)
-    (et : t ≡ blocksFill 0 v (take (r .blockCount) (take (length l - blockLimit) (drop blockLimit l))) (take (r .blockCount) l)) where
+module _ (b : ℕ) (s : List ℕ) (r : Bed) (l : List ℕ) (held : Blocked b s r l) (t : Bool) (v : ℕ) (ev : v ≡ r .chromEnd - r .chromStart)
+    (et : t ≡ blocksFill 0 v (take (r .blockCount) (take (length l - b) (drop b l))) (take (r .blockCount) l)) where
   tested : t ≡ blocksFill 0 (r .chromEnd - r .chromStart) (bedStarts s r) (bedSizes s r)
-  tested = rw (← ev, ← (held .starts), ← (held .sizes)) (rw (part-all l blockLimit) at et)
+  tested = rw (← ev, ← (held .starts), ← (held .sizes)) (rw (part-all l b) at et)
 
   pub blocks-checked : (c : Check) → c ≡ require t BlockRules (length s) Holds → c ≡ blockCheck s r
   unfolding blockCheck
@@ -91,51 +92,55 @@ drop-set-at [] i v h = absurd (omega arith)
 drop-set-at (x ∷ l) zero v h = refl
 drop-set-at (x ∷ l) (suc i) v h = drop-set-at l i v (omega arith)
 
-pub block-held : (s : List ℕ) (r : Bed) (l l′ : List ℕ) → Listed s r l → l′ ≡ withDefault r l → Blocked s r l′
+pub block-held : (b : ℕ) (s : List ℕ) (r : Bed) (l l′ : List ℕ) → Listed b s r l → l′ ≡ withDefault b r l → Blocked b s r l′
 unfolding bedSizes bedStarts
-block-held s r l l′ h e =
+block-held b s r l l′ h e =
     split (r .words) 12 _ (λ w.
     let q : l′ ≡ l = e ∙ rw (eq-eqb (r .words) 12 w) in
     record { long = rw q (h .long); few = h .few; sizes = rw (q, eq-eqb (r .words) 12 w) (h .sizes w); starts = rw (q, eq-eqb (r .words) 12 w) (h .starts w) })
     (λ w.
     let v = r .chromEnd - r .chromStart in
-    let q : l′ ≡ set (set l 0 v) blockLimit 0 = e ∙ rw (ne-eqb (r .words) 12 w) in
+    let q : l′ ≡ set (set l 0 v) b 0 = e ∙ rw (ne-eqb (r .words) 12 w) in
     let one = h .one w in
-    let z : length (set l 0 v) ≡ 2 * blockLimit = length-set l 0 v ∙ h .long in
+    let some : 1 ≤ b = omega (arith, one, h .few) in
+    let z : length (set l 0 v) ≡ 2 * b = length-set l 0 v ∙ h .long in
     record {
-      long = rw q (length-set (set l 0 v) blockLimit 0 ∙ z);
+      long = rw q (length-set (set l 0 v) b 0 ∙ z);
       few = h .few;
-      sizes = rw (q, ne-eqb (r .words) 12 w, one) (take-set-past (set l 0 v) blockLimit 0 1 (omega arith) ∙ first-set l v (omega (arith, h .long)));
-      starts = rw (q, ne-eqb (r .words) 12 w, one) (drop-set-at (set l 0 v) blockLimit 0 (omega (arith, z)));
+      sizes = rw (q, ne-eqb (r .words) 12 w, one) (take-set-past (set l 0 v) b 0 1 some ∙ first-set l v (omega (arith, h .long)));
+      starts = rw (q, ne-eqb (r .words) 12 w, one) (drop-set-at (set l 0 v) b 0 (omega (arith, z)));
     })
 
 -- a stage that refuses, and one that goes on
-module _ (s : List ℕ) (l : List ℕ) (c : Check) where
-  module _ (r : Bed) (ec : c ≡ blockCheck s r) (held : Blocked s r l) where
-    pub spans-refused : (x : Refusal) → c ≡ check.Refused x → Staged s (afterSpans s r) l (Refused x)
+module _ (b : ℕ) (s : List ℕ) (l : List ℕ) (c : Check) where
+  module _ (r : Bed) (ec : c ≡ blockCheck s r) (held : Blocked b s r l) where
+    pub spans-refused : (x : Refusal) → c ≡ check.Refused x → Staged b s (afterSpans s r) l (Refused x)
     unfolding afterSpans
-    spans-refused x q = record { is = rw (← ec, q); held = λ b e. absurd (let z : _≡_ {A = ℕ} 0 1 = cc in omega arith) }
+    spans-refused x q = record { is = rw (← ec, q); held = λ y e. absurd (let z : _≡_ {A = ℕ} 0 1 = cc in omega arith) }
 
-    pub spans-accepted : c ≡ Holds → Staged s (afterSpans s r) l (Accepted r)
+    pub spans-accepted : c ≡ Holds → Staged b s (afterSpans s r) l (Accepted r)
     unfolding afterSpans
-    spans-accepted q = record { is = rw (← ec, q); held = λ b e. let p : r ≡ b = cc in rw p at held }
+    spans-accepted q = record { is = rw (← ec, q); held = λ y e. let p : r ≡ y = cc in rw p at held }
 
-  module _ (n : ℕ) (vs : List ℕ) (ec : c ≡ lastLineCheck s 0) where
-    pub columns-refused : (x : Refusal) → c ≡ check.Refused x → Staged s (afterColumns s n vs) l (Refused x)
+  module _ (n : ℕ) (vs : List ℕ) (end : ℕ) (on : lineEnd s end ≡ lineEnd s 0) (el : c ≡ lastLineCheck s end) where
+    ec : c ≡ lastLineCheck s 0
+    ec = el ∙ last-as s end 0 on
+
+    pub columns-refused : (x : Refusal) → c ≡ check.Refused x → Staged b s (afterColumns s n vs) l (Refused x)
     unfolding afterColumns
-    columns-refused x q = record { is = rw (← ec, q); held = λ b e. absurd (let z : _≡_ {A = ℕ} 0 1 = cc in omega arith) }
+    columns-refused x q = record { is = rw (← ec, q); held = λ y e. absurd (let z : _≡_ {A = ℕ} 0 1 = cc in omega arith) }
 
     module _ (q : c ≡ Holds) (r : Bed) (er : r ≡ bedRecord n (length s) vs) (d : Check) (ed : d ≡ spanCheck r vs) where
-      pub lines-refused : (x : Refusal) → d ≡ check.Refused x → Staged s (afterColumns s n vs) l (Refused x)
+      pub lines-refused : (x : Refusal) → d ≡ check.Refused x → Staged b s (afterColumns s n vs) l (Refused x)
       unfolding afterColumns
-      lines-refused x k = record { is = rw (← ec, q, ← er, ← ed, k); held = λ b e. absurd (let z : _≡_ {A = ℕ} 0 1 = cc in omega arith) }
+      lines-refused x k = record { is = rw (← ec, q, ← er, ← ed, k); held = λ y e. absurd (let z : _≡_ {A = ℕ} 0 1 = cc in omega arith) }
 
-      pub lines-on : (l′ : List ℕ) (a : BedAnswer) → d ≡ Holds → Staged s (afterSpans s r) l′ a → Staged s (afterColumns s n vs) l′ a
+      pub lines-on : (l′ : List ℕ) (a : BedAnswer) → d ≡ Holds → Staged b s (afterSpans s r) l′ a → Staged b s (afterColumns s n vs) l′ a
       unfolding afterColumns
       lines-on l′ a k h = record { is = rw (← ec, q, ← er, ← ed, k) (h .is); held = h .held }
 
-pub listed-as : (s : List ℕ) (r b : Bed) (l : List ℕ) → r ≡ b → Listed s b l → Listed s r l
-listed-as s r b l e h = rw e h
+pub listed-as : (b : ℕ) (s : List ℕ) (r r′ : Bed) (l : List ℕ) → r ≡ r′ → Listed b s r′ l → Listed b s r l
+listed-as b s r r′ l e h = rw e h
 
 -- a record from its columns
 pub record-is : (n len : ℕ) (vs : List ℕ) (start end chromPlace chromLength namePlace nameLength score letter thickStart thickEnd rgb count : ℕ) (chrom name : Part) (strand : Strand) → start ≡ getD vs 2 0 → end ≡ getD vs 4 0

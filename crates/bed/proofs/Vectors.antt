@@ -9,7 +9,9 @@ use Rattle.ledger.specs.Limits.{textLimit}
 use Rattle.text.specs.declared.Check.the-variants.{Holds}
 use Rattle.text.specs.Scan.{run, endOf}
 use Rattle.text.specs.Parts.{partBytes}
-use Rattle.text.specs.Pieces.{joined}
+use Rattle.text.specs.Pieces.{piecesOf, nonEmpty, wordsOf, lineOf, joined, Plain}
+use Rattle.text.specs.Words.{nextWord, wordAt, bytesOf}
+use Rattle.numbers.specs.Lists.{lastByte}
 use Rattle.writing.specs.Digits.{digitsIn, digits, listText}
 use Rattle.kinds.specs.Words.{colourText}
 use Rattle.blocks.specs.Blocks.{orderFrom, blocksFill, areSums, allBetween, subtracted, rowNumbersFit}
@@ -94,6 +96,15 @@ clone-chrom = rw clone-text at (back-chrom clone chr22 cloneA targets queries si
 
 pub clone-targets : bedTargets line (placed line clone) ≡ targets
 clone-targets = rw clone-text at (back-targets clone chr22 cloneA targets queries sizes clone-written clone-short)
+
+-- the line is in standard form, so copying it is writing it
+pub clone-plain : Plain line
+unfolding joined wordsOf lineOf piecesOf nonEmpty run
+clone-plain = record { is = refl }
+
+pub clone-tidy : (length (bytesOf line (wordAt line 0 8)) ≡ 1) × (lastByte 0 (bytesOf line (wordAt line 0 10)) ≡ 44) × (lastByte 0 (bytesOf line (wordAt line 0 11)) ≡ 44)
+unfolding wordAt nextWord bytesOf lastByte endOf run
+clone-tidy = (refl, refl, refl)
 
 -- a record of three words: its one block is the span, and its name is empty
 abbrev bare : Bed

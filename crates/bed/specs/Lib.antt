@@ -4,3 +4,4 @@ pub mod Read
 pub mod Tests
 pub mod Rules
 pub mod Write
+pub mod Standard

@@ -17,9 +17,10 @@ use Rattle.numbers.specs.Lists.{valuesOf}
 use Rattle.columns.specs.declared.Columns.{Columns}
 use Rattle.columns.specs.declared.Columns.the-variants.{Next}
 use Rattle.columns.specs.declared.Columns.the-variants as columns
-use Rattle.columns.specs.Columns.{columnsFrom, valuesFrom}
+use Rattle.columns.specs.Columns.{columnsFrom, valuesFrom, fewBlocks}
 use Rattle.blocks.specs.Blocks.{blocksFill, rowsOf}
 use Rattle.bed.specs.declared.Bed.{Bed}
+use Rattle.bed.specs.declared.Sure.{Sure}
 use Rattle.bed.specs.declared.BedAnswer.{BedAnswer}
 use Rattle.bed.specs.declared.BedAnswer.the-variants.{Accepted, Refused}
 use Rattle.bed.specs.Table.{bedColumns}
@@ -71,6 +72,10 @@ afterColumns s n vs = thenCheck (lastLineCheck s 0) (thenCheck (spanCheck (bedRe
 unfoldable pub afterWords : List ℕ → ℕ → BedAnswer
 afterWords s n = thenRead (columnsFrom (take n bedColumns) 0 s 0) (afterColumns s n (valuesFrom (take n bedColumns) 0 s 0))
 
+-- after the text's length and bytes: the number of words
+unfoldable pub afterText : List ℕ → BedAnswer
+afterText s = thenCheck (bedWordsCheck s (wordCount s 0)) (afterWords s (wordCount s 0))
+
 -- THE TEXT CHECKER, the reader without room: the text's length and bytes (1, 3), then the number of words
 unfoldable pub bedCheck : List ℕ → BedAnswer
 bedCheck s = thenCheck (textCheck s) (thenCheck (bedWordsCheck s (wordCount s 0)) (afterWords s (wordCount s 0)))
@@ -95,17 +100,17 @@ pub record BedRead (s ts ts′ qs qs′ zs zs′ : List ℕ) (r : BedAnswer) : T
   pub queries : qs′ ≡ rowsAfter r (bedQueries s) qs
   pub sizes : zs′ ≡ rowsAfter r (bedSizes s) zs
 
--- the working room with the one block of a line without block columns
-abbrev pub withDefault : Bed → List ℕ → List ℕ
-withDefault r lists = pickList (eqb (r .words) 12) lists (set (set lists 0 (r .chromEnd - r .chromStart)) blockLimit 0)
+-- working room for two lists of b numbers each: with the one block of a line without block columns
+abbrev pub withDefault : ℕ → Bed → List ℕ → List ℕ
+withDefault b r lists = pickList (eqb (r .words) 12) lists (set (set lists 0 (r .chromEnd - r .chromStart)) b 0)
 
--- the working room of a reader holds the lists of the block columns: sizes at its front, starts after the room for a record's blocks
-pub record Listed (s : List ℕ) (r : Bed) (lists : List ℕ) : Type 0 where
-  pub long : length lists ≡ 2 * blockLimit
-  pub few : r .blockCount ≤ blockLimit
+-- it holds the lists of the block columns: sizes at its front, starts after the room for b numbers
+pub record Listed (b : ℕ) (s : List ℕ) (r : Bed) (lists : List ℕ) : Type 0 where
+  pub long : length lists ≡ 2 * b
+  pub few : r .blockCount ≤ b
   pub one : (r .words ≡ 12 → ⊥) → r .blockCount ≡ 1
   pub sizes : r .words ≡ 12 → take (r .blockCount) lists ≡ valuesOf (bytesOf s (wordAt s 0 10))
-  pub starts : r .words ≡ 12 → take (r .blockCount) (drop blockLimit lists) ≡ valuesOf (bytesOf s (wordAt s 0 11))
+  pub starts : r .words ≡ 12 → take (r .blockCount) (drop b lists) ≡ valuesOf (bytesOf s (wordAt s 0 11))
 
 -- a line of a good number of words, before its columns are read
 pub record Counted (s : List ℕ) (n : ℕ) (lists : List ℕ) : Type 0 where
@@ -114,20 +119,24 @@ pub record Counted (s : List ℕ) (n : ℕ) (lists : List ℕ) : Type 0 where
   pub good : isWordCount n ≡ true
 
 -- the blocks of a record, in the working room
-pub record Blocked (s : List ℕ) (r : Bed) (lists : List ℕ) : Type 0 where
-  pub long : length lists ≡ 2 * blockLimit
-  pub few : r .blockCount ≤ blockLimit
+pub record Blocked (b : ℕ) (s : List ℕ) (r : Bed) (lists : List ℕ) : Type 0 where
+  pub long : length lists ≡ 2 * b
+  pub few : r .blockCount ≤ b
   pub sizes : take (r .blockCount) lists ≡ bedSizes s r
-  pub starts : take (r .blockCount) (drop blockLimit lists) ≡ bedStarts s r
+  pub starts : take (r .blockCount) (drop b lists) ≡ bedStarts s r
 
 -- what a stage promises: its answer, and the blocks of an accepted line in the working room
-pub record Staged (s : List ℕ) (answer : BedAnswer) (lists′ : List ℕ) (r : BedAnswer) : Type 0 where
-  pub is : r ≡ answer
-  pub held : (b : Bed) → r ≡ Accepted b → Blocked s b lists′
+pub record Staged (b : ℕ) (s : List ℕ) (answer : BedAnswer) (lists′ : List ℕ) (x : BedAnswer) : Type 0 where
+  pub is : x ≡ answer
+  pub held : (r : Bed) → x ≡ Accepted r → Blocked b s r lists′
+
+-- what the quick way promises: where it is sure, its answer is the line's, and the blocks of an accepted line are in its working room
+pub record QuickStaged (s : List ℕ) (answer : BedAnswer) (lists′ : List ℕ) (x : Sure) : Type 0 where
+  pub staged : x .sure ≡ true → Staged fewBlocks s answer lists′ (x .answer)
 
 -- an accepted line's blocks in the working room, and that they fill its span: before the rows are stored
-pub record Stored (s : List ℕ) (r : Bed) (lists : List ℕ) : Type 0 where
-  pub held : Blocked s r lists
+pub record Stored (b : ℕ) (s : List ℕ) (r : Bed) (lists : List ℕ) : Type 0 where
+  pub held : Blocked b s r lists
   pub fill : blocksFill 0 (r .chromEnd - r .chromStart) (bedStarts s r) (bedSizes s r) ≡ true
   pub span : r .chromStart < r .chromEnd
   pub high : r .chromEnd ≤ largestPosition

@@ -1,19 +1,27 @@
 // One BED line: reader, text checker, record checker, writer, over three flat slices of blocks.
 ghost use mathlib.Core.Path.{_≡_};
+ghost use mathlib.Core.Bool.{true, false, _&&_};
 ghost use Prim.Native.Nat.{_*_, _≤_};
+ghost use lib.Dec.{leb};
 ghost use lib.ListN.{length, take};
 ghost use Rattle.ledger.specs.Limits.{nameLimit, blockLimit};
 ghost use Rattle.writing.specs.Answers.{Wrote};
+ghost use Rattle.text.specs.Words.{lineEnd, bytesOf};
+ghost use Rattle.numbers.specs.Lists.{lastByte};
+ghost use Rattle.columns.specs.Columns.{fewBlocks};
 ghost use Rattle.bed.specs.Records.{isWordCount, valueOr, placeOr, bedRecord};
 ghost use Rattle.bed.specs.Tests.{ifThere, namesFit, isDot, strandFits, fieldsFit, spansFit, rowsFit, bedValid};
+ghost use Rattle.bed.specs.declared.BedAnswer.the-variants.{Accepted};
+ghost use Rattle.bed.specs.Standard.{Tidied, Standard};
 ghost use Rattle.bed.specs.Write.{namesShow, writeCheck, bedValues, bedText, RowsThere, ListsPut, Writable, BedWrote, recordCheck};
-ghost use Rattle.bed.specs.Read.{thickFits, thickPlace, spanCheck, blockCheck, withDefault, afterSpans, afterColumns, afterWords, bedCheck, Counted, Listed, Blocked, Staged, Stored, RowsStored, BedRead};
+ghost use Rattle.bed.specs.Read.{thickFits, thickPlace, spanCheck, blockCheck, withDefault, afterSpans, afterColumns, afterWords, afterText, bedCheck, Counted, Listed, Blocked, Staged, QuickStaged, Stored, RowsStored, BedRead};
 use columns::Columns;
 use ledger::Part;
 use ledger::Reason;
 use ledger::Refusal;
 use ledger::Strand;
 use text::Check;
+use text::Extent;
 use writing::Writing;
 
 // The record of a BED line. A name is a part of the text; a colour is one number, (red × 256 + green) × 256 + blue.
@@ -128,22 +136,21 @@ fn check_spans(r: Bed, values: &[u64]) -> Check
 }
 
 // The one block of a line without block columns.
-fn default_block(r: Bed, lists: &mut [u64])
-    ensures { λ _. ⌜ now (lists .exit) ≡ withDefault r (now (lists .entry)) ⌝ }
+fn default_block(r: Bed, b: usize, lists: &mut [u64])
+    ensures { λ _. ⌜ now (lists .exit) ≡ withDefault b r (now (lists .entry)) ⌝ }
 {
     if r.words == 12 {
         return;
     }
     numbers::store(lists, 0, blocks::less(r.chromEnd, r.chromStart));
-    numbers::store(lists, ledger::BLOCK_LIMIT as usize, 0);
+    numbers::store(lists, b, 0);
 }
 
 // The blocks (9).
-fn check_blocks(text: &[u8], r: Bed, lists: &[u64]) -> Check
-    requires { ⌜ Blocked (now text) r (now lists) ⌝ }
+fn check_blocks(text: &[u8], r: Bed, b: usize, lists: &[u64]) -> Check
+    requires { ⌜ Blocked b (now text) r (now lists) ⌝ }
     ensures { λ x. ⌜ x ≡ blockCheck (now (text .entry)) r ⌝ }
 {
-    let b = ledger::BLOCK_LIMIT as usize;
     let span = blocks::less(r.chromEnd, r.chromStart);
     text::require(
         blocks::blocks_fill(&lists[b..], lists, r.blockCount as usize, 0, span),
@@ -154,66 +161,109 @@ fn check_blocks(text: &[u8], r: Bed, lists: &[u64]) -> Check
 }
 
 // The default block, then the blocks.
-fn after_spans(text: &[u8], r: Bed, lists: &mut [u64]) -> BedAnswer
-    requires { ⌜ Listed (now text) r (now lists) ⌝ }
-    ensures { λ x. ⌜ Staged (now (text .entry)) (afterSpans (now (text .entry)) r) (now (lists .exit)) x ⌝ }
+fn after_spans(text: &[u8], r: Bed, b: usize, lists: &mut [u64]) -> BedAnswer
+    requires { ⌜ Listed b (now text) r (now lists) ⌝ }
+    ensures { λ x. ⌜ Staged b (now (text .entry)) (afterSpans (now (text .entry)) r) (now (lists .exit)) x ⌝ }
 {
-    default_block(r, lists);
-    match check_blocks(text, r, lists) {
+    default_block(r, b, lists);
+    match check_blocks(text, r, b, lists) {
         Check::Refused(x) => BedAnswer::Refused(x),
         Check::Holds => BedAnswer::Accepted(r),
     }
 }
 
-// A surplus line, the spans, and on.
-fn after_columns(text: &[u8], n: u64, values: &[u64], lists: &mut [u64]) -> BedAnswer
-    requires { ⌜ Listed (now text) (bedRecord n (length (now text)) (now values)) (now lists) ⌝ }
-    ensures { λ x. ⌜ Staged (now (text .entry)) (afterColumns (now (text .entry)) n (now (values .entry))) (now (lists .exit)) x ⌝ }
+// A surplus line, the spans, and on; the columns end on the line of a place.
+fn after_columns(
+    text: &[u8],
+    end: usize,
+    n: u64,
+    values: &[u64],
+    b: usize,
+    lists: &mut [u64],
+) -> BedAnswer
+    requires { ⌜ Listed b (now text) (bedRecord n (length (now text)) (now values)) (now lists)
+        × (lineEnd (now text) end ≡ lineEnd (now text) 0) ⌝ }
+    ensures { λ x. ⌜ Staged b (now (text .entry)) (afterColumns (now (text .entry)) n (now (values .entry))) (now (lists .exit)) x ⌝ }
 {
-    match text::check_last_line(text, 0) {
+    match text::check_last_line(text, end) {
         Check::Refused(x) => BedAnswer::Refused(x),
         Check::Holds => {
             let r = record_of(values, n, text.len());
             match check_spans(r, values) {
                 Check::Refused(x) => BedAnswer::Refused(x),
-                Check::Holds => after_spans(text, r, lists),
+                Check::Holds => after_spans(text, r, b, lists),
             }
         }
     }
 }
 
+// Room for a record's blocks.
+const BLOCKS: usize = ledger::BLOCK_LIMIT as usize;
+
 // The columns from the left, and on.
 fn after_words(text: &[u8], n: usize, lists: &mut [u64]) -> BedAnswer
     requires { ⌜ Counted (now text) n (now lists) ⌝ }
-    ensures { λ x. ⌜ Staged (now (text .entry)) (afterWords (now (text .entry)) n) (now (lists .exit)) x ⌝ }
+    ensures { λ x. ⌜ Staged blockLimit (now (text .entry)) (afterWords (now (text .entry)) n) (now (lists .exit)) x ⌝ }
 {
     let table = BED;
     let mut values = [0u64; 24];
-    match columns::read_columns(text, 0, &table[..n], &mut values, lists) {
+    match columns::walk_line(text, 0, &table[..n], &mut values, lists) {
         Columns::Refused(x) => BedAnswer::Refused(x),
-        Columns::Next(_) => after_columns(text, n as u64, &values, lists),
+        Columns::Next(e) => after_columns(text, e, n as u64, &values, BLOCKS, lists),
+    }
+}
+
+// A text of more bytes is likely to have all 12 columns.
+pub const LONG: usize = 256;
+
+// The number of words, and on.
+fn after_text(text: &[u8], lists: &mut [u64]) -> BedAnswer
+    requires { ⌜ length (now lists) ≡ 2 * blockLimit ⌝ }
+    ensures { λ x. ⌜ Staged blockLimit (now (text .entry)) (afterText (now (text .entry))) (now (lists .exit)) x ⌝ }
+{
+    let n = text::count_words(text, 0);
+    match text::check_words(text, 0, n, 12, is_word_count(n as u64)) {
+        Check::Refused(x) => BedAnswer::Refused(x),
+        Check::Holds => after_words(text, n, lists),
+    }
+}
+
+// The same of a text that is likely to have all 12 columns: a good walk over them that no word follows needs no count.
+fn after_long(text: &[u8], lists: &mut [u64]) -> BedAnswer
+    requires { ⌜ length (now lists) ≡ 2 * blockLimit ⌝ }
+    ensures { λ x. ⌜ Staged blockLimit (now (text .entry)) (afterText (now (text .entry))) (now (lists .exit)) x ⌝ }
+{
+    let table = BED;
+    let mut values = [0u64; 24];
+    match columns::walk_words(text, &table, &mut values, lists) {
+        Columns::Next(e) => after_columns(text, e, 12, &values, BLOCKS, lists),
+        Columns::Refused(x) => {
+            if text::count_words(text, 0) == 12 {
+                return BedAnswer::Refused(x);
+            }
+            after_text(text, lists)
+        }
     }
 }
 
 // All checks of a text, the blocks of an accepted line in the working room.
 fn stage(text: &[u8], lists: &mut [u64]) -> BedAnswer
     requires { ⌜ length (now lists) ≡ 2 * blockLimit ⌝ }
-    ensures { λ x. ⌜ Staged (now (text .entry)) (bedCheck (now (text .entry))) (now (lists .exit)) x ⌝ }
+    ensures { λ x. ⌜ Staged blockLimit (now (text .entry)) (bedCheck (now (text .entry))) (now (lists .exit)) x ⌝ }
 {
     match text::check_text(text) {
         Check::Refused(x) => BedAnswer::Refused(x),
         Check::Holds => {
-            let n = text::count_words(text, 0);
-            match text::check_words(text, 0, n, 12, is_word_count(n as u64)) {
-                Check::Refused(x) => BedAnswer::Refused(x),
-                Check::Holds => after_words(text, n, lists),
+            if LONG < text.len() {
+                return after_long(text, lists);
             }
+            after_text(text, lists)
         }
     }
 }
 
 // Working room for the sizes and the starts of a record's blocks.
-const ROOM: usize = 2 * ledger::BLOCK_LIMIT as usize;
+const ROOM: usize = 2 * BLOCKS;
 
 fn working_room() -> [u64; ROOM]
     ensures { λ r. ⌜ length r ≡ 2 * blockLimit ⌝ }
@@ -221,24 +271,147 @@ fn working_room() -> [u64; ROOM]
     [0; ROOM]
 }
 
-// THE TEXT CHECKER: what the reader answers, given room.
-pub fn check_bed_text(text: &[u8]) -> BedAnswer
+// The text checker with room for any record's blocks.
+fn check_long(text: &[u8]) -> BedAnswer
     ensures { λ r. ⌜ r ≡ bedCheck (now (text .entry)) ⌝ }
 {
     let mut lists = working_room();
     stage(text, &mut lists)
 }
 
+// An answer of the quick way, which holds where it is sure.
+pub struct Sure {
+    pub sure: bool,
+    pub answer: BedAnswer,
+}
+
+fn unsure() -> Sure
+    ensures { λ r. ⌜ r .sure ≡ false ⌝ }
+{
+    let answer = BedAnswer::Refused(Refusal {
+        reason: Reason::WrongCount,
+        place: 0,
+    });
+    Sure {
+        sure: false,
+        answer,
+    }
+}
+
+// Whether a line of n good words is one that the quick way goes on with: a good number of words, and few blocks.
+fn is_few(values: &[u64], n: u64) -> bool
+    ensures { λ r. ⌜ r ≡ isWordCount n && leb (valueOr n (now (values .entry)) 9 1) fewBlocks ⌝ }
+{
+    let count = value_or(values, n, 9, 1);
+    is_word_count(n) & (count <= columns::FEW as u64)
+}
+
+// The quick way of a line: its words in one walk, and on.
+fn quick_line(text: &[u8], lists: &mut [u64]) -> Sure
+    requires { ⌜ length (now lists) ≡ 2 * fewBlocks ⌝ }
+    ensures { λ x. ⌜ QuickStaged (now (text .entry)) (afterText (now (text .entry))) (now (lists .exit)) x ⌝ }
+{
+    let table = BED;
+    let mut values = [0u64; 24];
+    let w = columns::quick_words(text, 0, &table, &mut values, lists);
+    let n = w.count as u64;
+    let go_on = w.good & is_few(&values, n);
+    if !go_on {
+        return unsure();
+    }
+    let answer = after_columns(text, w.last, n, &values, columns::FEW, lists);
+    Sure { sure: true, answer }
+}
+
+// The quick way of a short text.
+fn quick(text: &[u8], lists: &mut [u64]) -> Sure
+    requires { ⌜ length (now lists) ≡ 2 * fewBlocks ⌝ }
+    ensures { λ x. ⌜ QuickStaged (now (text .entry)) (bedCheck (now (text .entry))) (now (lists .exit)) x ⌝ }
+{
+    if LONG < text.len() {
+        return unsure();
+    }
+    match text::check_text(text) {
+        Check::Refused(_) => unsure(),
+        Check::Holds => quick_line(text, lists),
+    }
+}
+
+// Working room for the lists of a short line.
+const FEW_ROOM: usize = 2 * columns::FEW;
+
+fn few_room() -> [u64; FEW_ROOM]
+    ensures { λ r. ⌜ length r ≡ 2 * fewBlocks ⌝ }
+{
+    [0; FEW_ROOM]
+}
+
+// THE TEXT CHECKER: what the reader answers, given room.
+pub fn check_bed_text(text: &[u8]) -> BedAnswer
+    ensures { λ r. ⌜ r ≡ bedCheck (now (text .entry)) ⌝ }
+{
+    let mut lists = few_room();
+    let q = quick(text, &mut lists);
+    if q.sure {
+        return q.answer;
+    }
+    check_long(text)
+}
+
+// Whether a word ends with a comma.
+fn ends_with_comma(text: &[u8], word: Extent) -> bool
+    ensures { λ r. ⌜ (r ≡ true → lastByte 0 (bytesOf (now (text .entry)) word) ≡ 44) ⌝ }
+{
+    if word.end <= word.start {
+        return false;
+    }
+    if text.len() < word.end {
+        return false;
+    }
+    text[word.end - 1] == b','
+}
+
+// Whether the words of a line with more than one spelling have the standard one: black is one digit, and lists end with a comma.
+fn is_tidy(text: &[u8], r: Bed) -> bool
+    requires { ⌜ bedCheck (now text) ≡ Accepted r ⌝ }
+    ensures { λ x. ⌜ (x ≡ true → Tidied (now (text .entry)) r) ⌝ }
+{
+    if r.words < 9 {
+        return true;
+    }
+    let name_end = r.name.start + r.name.length;
+    let rgb = text::word_at(text, name_end, 4);
+    let black = (r.itemRgb != 0) | (rgb.end - rgb.start == 1);
+    if r.words < 12 {
+        return black;
+    }
+    let count = text::next_word(text, rgb.end);
+    let sizes = text::next_word(text, count.end);
+    let starts = text::next_word(text, sizes.end);
+    black & (ends_with_comma(text, sizes) & ends_with_comma(text, starts))
+}
+
+// Whether a text is the standard text of its own record, with or without the line feed: a quick way that may say yes.
+pub fn is_standard(text: &[u8]) -> bool
+    ensures { λ x. ⌜ (x ≡ true → Standard (now (text .entry))) ⌝ }
+{
+    match check_bed_text(text) {
+        BedAnswer::Refused(_) => false,
+        BedAnswer::Accepted(r) => is_tidy(text, r) & text::is_plain(text),
+    }
+}
+
 // The room (11), then the rows into the lent slices.
 fn store_rows(
     text: &[u8],
     r: Bed,
+    b: usize,
     lists: &[u64],
     targets: &mut [u64],
     queries: &mut [u64],
     sizes: &mut [u64],
 ) -> BedAnswer
-    requires { ⌜ Stored (now text) r (now lists) ⌝ }
+    requires { ⌜ Stored b (now text) r (now lists) ⌝ }
     ensures { λ x. ⌜ RowsStored (now (text .entry)) r (now (targets .entry)) (now (targets .exit)) (now (queries .entry))
         (now (queries .exit)) (now (sizes .entry)) (now (sizes .exit)) x ⌝ }
 {
@@ -250,11 +423,40 @@ fn store_rows(
             place: text.len(),
         });
     }
-    let b = ledger::BLOCK_LIMIT as usize;
     blocks::put_shifted(&lists[b..], count, r.chromStart, targets);
     blocks::put_sums(lists, count, queries);
     blocks::copy_numbers(lists, count, sizes);
     BedAnswer::Accepted(r)
+}
+
+// The rows of an accepted line from the working room to the lent slices.
+fn hand_over(
+    text: &[u8],
+    answer: BedAnswer,
+    b: usize,
+    lists: &[u64],
+    targets: &mut [u64],
+    queries: &mut [u64],
+    sizes: &mut [u64],
+) -> BedAnswer
+    requires { ⌜ Staged b (now text) (bedCheck (now text)) (now lists) answer ⌝ }
+    ensures { λ x. ⌜ BedRead (now (text .entry)) (now (targets .entry)) (now (targets .exit)) (now (queries .entry))
+        (now (queries .exit)) (now (sizes .entry)) (now (sizes .exit)) x ⌝ }
+{
+    match answer {
+        BedAnswer::Refused(x) => BedAnswer::Refused(x),
+        BedAnswer::Accepted(r) => store_rows(text, r, b, lists, targets, queries, sizes),
+    }
+}
+
+// The reader with room for any record's blocks.
+fn read_long(text: &[u8], targets: &mut [u64], queries: &mut [u64], sizes: &mut [u64]) -> BedAnswer
+    ensures { λ x. ⌜ BedRead (now (text .entry)) (now (targets .entry)) (now (targets .exit)) (now (queries .entry))
+        (now (queries .exit)) (now (sizes .entry)) (now (sizes .exit)) x ⌝ }
+{
+    let mut lists = working_room();
+    let answer = stage(text, &mut lists);
+    hand_over(text, answer, BLOCKS, &lists, targets, queries, sizes)
 }
 
 // THE READER: one BED line, its blocks to the front of three lent slices. A refusal leaves them as they were, and rows past the
@@ -268,11 +470,13 @@ pub fn read_bed(
     ensures { λ x. ⌜ BedRead (now (text .entry)) (now (targets .entry)) (now (targets .exit)) (now (queries .entry))
         (now (queries .exit)) (now (sizes .entry)) (now (sizes .exit)) x ⌝ }
 {
-    let mut lists = working_room();
-    match stage(text, &mut lists) {
-        BedAnswer::Refused(x) => BedAnswer::Refused(x),
-        BedAnswer::Accepted(r) => store_rows(text, r, &lists, targets, queries, sizes),
+    let mut lists = few_room();
+    let q = quick(text, &mut lists);
+    if q.sure {
+        let answer = q.answer;
+        return hand_over(text, answer, columns::FEW, &lists, targets, queries, sizes);
     }
+    read_long(text, targets, queries, sizes)
 }
 
 // Of column k: a test where it is there, and another where it is left out.

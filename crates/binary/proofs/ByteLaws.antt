@@ -51,15 +51,15 @@ unfolding wordsBytes
 words-append [] ys = refl
 words-append (x ∷ xs) ys = rw (words-append xs ys, append-assoc)
 
+pub append-nil : (xs : List ℕ) → xs ++ [] ≡ xs
+append-nil [] = refl
+append-nil (x ∷ xs) = ap (λ (l : List ℕ). x ∷ l) (append-nil xs)
+
 -- the three numbers of a row
 pub row-put : (t q z at p₁ p₂ r : ℕ) (b b₁ b₂ b₃ : List ℕ) → Put (lowBytes wordSize t) at b b₁ p₁ → Put (lowBytes wordSize q) p₁ b₁ b₂ p₂ → Put (lowBytes wordSize z) p₂ b₂ b₃ r
     → Put (wordsBytes (rowsNumbers (rowAs t q z ∷ []))) at b b₃ r
 unfolding wordsBytes rowsNumbers
 row-put t q z at p₁ p₂ r b b₁ b₂ b₃ f g h = put-then f (put-then g (rw (append-nil (lowBytes wordSize z)) h))
-  where
-    append-nil : (xs : List ℕ) → xs ++ [] ≡ xs
-    append-nil [] = refl
-    append-nil (x ∷ xs) = ap (λ (l : List ℕ). x ∷ l) (append-nil xs)
 
 rows-append : (xs ys : List Row) → rowsNumbers (xs ++ ys) ≡ rowsNumbers xs ++ rowsNumbers ys
 unfolding rowsNumbers
@@ -76,12 +76,13 @@ module _ (ts qs zs : List ℕ) where
   row-next : (i : ℕ) → i < rowsOf ts qs zs → drop i rows ≡ rowAt ts qs zs i ∷ drop (i + 1) rows
   row-next i h = rw whole at (taken-cons (rowsOf ts qs zs) ts qs zs (omega arith) (omega arith) (omega arith) i h)
 
-  row-past : (i : ℕ) → rowsOf ts qs zs ≤ i → drop i rows ≡ []
-  row-past i h = let l : length rows ≤ i = omega (arith, table-length ts qs zs) in drop-of-length-le rows l
-
-  rows-next : (i : ℕ) → i < rowsOf ts qs zs → wordsBytes (rowsNumbers (drop i rows)) ≡ wordsBytes (rowsNumbers (rowAt ts qs zs i ∷ [])) ++ wordsBytes (rowsNumbers (drop (i + 1) rows))
+  pub rows-next : (i : ℕ) → i < rowsOf ts qs zs → wordsBytes (rowsNumbers (drop i rows)) ≡ wordsBytes (rowsNumbers (rowAt ts qs zs i ∷ [])) ++ wordsBytes (rowsNumbers (drop (i + 1) rows))
   rows-next i h =
       rw (row-next i h, rows-append (rowAt ts qs zs i ∷ []) (drop (i + 1) rows), words-append (rowsNumbers (rowAt ts qs zs i ∷ [])) (rowsNumbers (drop (i + 1) rows)))
+
+  pub rows-past : (i : ℕ) → rowsOf ts qs zs ≤ i → wordsBytes (rowsNumbers (drop i rows)) ≡ []
+  unfolding wordsBytes rowsNumbers
+  rows-past i h = let l : length rows ≤ i = omega (arith, table-length ts qs zs) in rw (drop-of-length-le rows l)
 
   -- rows one by one
   module _ (i p at n : ℕ) (b b₀ : List ℕ) (is : n ≡ rowsOf ts qs zs) (c : Completes (wordsBytes (rowsNumbers (drop i rows))) p b (wordsBytes (rowsNumbers rows)) at b₀) where
@@ -91,8 +92,7 @@ module _ (ts qs zs : List ℕ) where
         completes-step _ _ _ _ p q at b b₁ b₀ c (rows-next i (omega arith)) f
 
     pub rows-done : n ≤ i → p ≤ largestPlace → length b ≤ largestPlace → Put (wordsBytes (rowsNumbers rows)) at b₀ b p
-    unfolding wordsBytes rowsNumbers
-    rows-done h l m = completes-done _ _ p at b b₀ c (rw (row-past i (omega arith))) l m
+    rows-done h l m = completes-done _ _ p at b b₀ c (rows-past i (omega arith)) l m
 
 -- reading: the bytes above, then one below them
 low-high : (s : List ℕ) (at n left most : ℕ) → 0 < left → left ≤ most → n ≡ lowAt (most - left) s (at + left) → (b : ℕ) → ByteRead s (at + (left - 1)) b

@@ -1,7 +1,7 @@
--- Numbers stored as whole words, which there is room for. Assumes nothing.
+-- Numbers and rows stored as whole words, which there is room for. Assumes nothing.
 use mathlib.Core.Path.{_≡_, refl, sym, _∙_}
 use mathlib.Core.Bool.{Bool, true, false}
-use mathlib.Core.List.{List}
+use mathlib.Core.List.{List, [], _∷_, _++_}
 use Prim.Native.Nat.{ℕ, suc, _+_, _-_, _*_, _/_, _%_, _≤_, _<_}
 use native.Mathlib.Omega.{arith}
 use lib.Dec.{leb}
@@ -9,11 +9,14 @@ use lib.ListN.{length, getD, set, drop}
 use lib.Seq.{sets, length-sets}
 use borrow.Author.Tests.{leb-true, leb-false, le-leb, lt-leb}
 use Rattle.ledger.specs.Limits.{largestPlace}
+use Rattle.blocks.specs.Blocks.{rowsOf}
+use Rattle.blocks.specs.Rows.{rowAs, tableOf}
+use Rattle.blocks.proofs.TableLaws.{table-length}
 use Rattle.writing.specs.Puts.{Put}
 use Rattle.writing.proofs.PutLaws.{sets-append}
-use Rattle.binary.specs.Bytes.{lowBytes, wordSize, wordsBytes}
-use Rattle.binary.proofs.BackLaws.{low-length, words-length}
-use Rattle.binary.proofs.ByteLaws.{words-next, words-past}
+use Rattle.binary.specs.Bytes.{lowBytes, wordSize, wordsBytes, rowsNumbers}
+use Rattle.binary.proofs.BackLaws.{low-length, words-length, rows-length}
+use Rattle.binary.proofs.ByteLaws.{words-next, words-past, append-nil, rows-next, rows-past}
 
 -- a word's bytes one by one
 pub word-stored : (d : List ℕ) (at n : ℕ)
@@ -56,6 +59,43 @@ module _ (vs : List ℕ) (at : ℕ) (b₀ : List ℕ) (i : ℕ) (b : List ℕ) (
   pub storing-ends : length vs ≤ i → b ≡ sets b₀ at (wordsBytes vs)
   storing-ends h = rw (words-past vs i h) at (s .rest)
 
+-- the three numbers of a row
+pub row-stored : (t q z at : ℕ) (b b₁ b₂ b₃ : List ℕ) → b₁ ≡ sets b at (lowBytes wordSize t) → b₂ ≡ sets b₁ (at + wordSize) (lowBytes wordSize q) → b₃ ≡ sets b₂ (at + 2 * wordSize) (lowBytes wordSize z)
+    → b₃ ≡ sets b at (wordsBytes (rowsNumbers (rowAs t q z ∷ [])))
+unfolding wordsBytes rowsNumbers
+row-stored t q z at b b₁ b₂ b₃ e f g =
+    let x = lowBytes wordSize t in
+    let y = lowBytes wordSize q in
+    let w = lowBytes wordSize z in
+    let m : at + wordSize ≡ at + length x = omega (arith, low-length wordSize t) in
+    let n : at + 2 * wordSize ≡ at + length x + length y = omega (arith, low-length wordSize t, low-length wordSize q) in
+    rw (append-nil w, ← (sets-append b at x (y ++ w)), ← (sets-append (sets b at x) (at + length x) y w), ← n, ← m, ← e, ← f) g
+
+-- what the loop over rows keeps
+module _ (ts qs zs : List ℕ) (at : ℕ) (b₀ : List ℕ) where
+  pub record RowsStoring (i : ℕ) (b : List ℕ) : Type 0 where
+    pub few : i ≤ rowsOf ts qs zs
+    pub long : length b ≡ length b₀
+    pub rest : sets b (at + 3 * wordSize * i) (wordsBytes (rowsNumbers (drop i (tableOf ts qs zs)))) ≡ sets b₀ at (wordsBytes (rowsNumbers (tableOf ts qs zs)))
+
+  pub rows-start : RowsStoring 0 b₀
+  rows-start = let z : at + 3 * wordSize * 0 ≡ at = omega arith in record { few = omega arith; long = refl; rest = rw z }
+
+  module _ (i n : ℕ) (b : List ℕ) (s : RowsStoring i b) (is : n ≡ rowsOf ts qs zs) where
+    pub rows-store : (b₁ : List ℕ) → i < n → b₁ ≡ sets b (at + 3 * wordSize * i) (wordsBytes (rowsNumbers (rowAs (getD ts i 0) (getD qs i 0) (getD zs i 0) ∷ []))) → RowsStoring (i + 1) b₁
+    rows-store b₁ h e =
+        let r = rowAs (getD ts i 0) (getD qs i 0) (getD zs i 0) ∷ [] in
+        let v = wordsBytes (rowsNumbers r) in
+        let m : at + 3 * wordSize * (i + 1) ≡ at + 3 * wordSize * i + length v = omega (arith, words-length (rowsNumbers r), rows-length r) in
+        record {
+          few = omega arith;
+          long = rw e (length-sets b (at + 3 * wordSize * i) v ∙ s .long);
+          rest = rw (m, e, sets-append b (at + 3 * wordSize * i) v (wordsBytes (rowsNumbers (drop (i + 1) (tableOf ts qs zs)))), ← rows-next ts qs zs i (omega arith)) (s .rest);
+        }
+
+    pub rows-stored : n ≤ i → b ≡ sets b₀ at (wordsBytes (rowsNumbers (tableOf ts qs zs)))
+    rows-stored h = rw (rows-past ts qs zs i (omega arith)) at (s .rest)
+
 -- room for so many words, told by a quotient
 module _ (n at words : ℕ) where
   pub room-none : n < at → false ≡ leb (at + wordSize * words) n
@@ -75,3 +115,9 @@ module _ (n at words : ℕ) where
 pub words-put : (vs : List ℕ) (at : ℕ) (b b₁ : List ℕ) → at + wordSize * length vs ≤ length b → length b ≤ largestPlace → b₁ ≡ sets b at (wordsBytes vs)
     → Put (wordsBytes vs) at b b₁ (at + wordSize * length vs)
 words-put vs at b b₁ h l e = record { next = omega (arith, words-length vs); stored = e; room = l }
+
+pub rows-put : (ts qs zs : List ℕ) (at n : ℕ) (b b₁ : List ℕ) → n ≡ rowsOf ts qs zs → at + wordSize * (3 * n) ≤ length b → length b ≤ largestPlace → b₁ ≡ sets b at (wordsBytes (rowsNumbers (tableOf ts qs zs)))
+    → Put (wordsBytes (rowsNumbers (tableOf ts qs zs))) at b b₁ (at + 3 * wordSize * n)
+rows-put ts qs zs at n b b₁ is h l e =
+    let m : length (wordsBytes (rowsNumbers (tableOf ts qs zs))) ≡ 3 * wordSize * n = omega (arith, words-length (rowsNumbers (tableOf ts qs zs)), rows-length (tableOf ts qs zs), table-length ts qs zs) in
+    record { next = omega (arith, m); stored = e; room = l }

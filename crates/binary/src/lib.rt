@@ -5,6 +5,7 @@ ghost use Prim.Native.Nat.{_+_, _*_, _≤_, min};
 ghost use lib.Dec.{leb};
 ghost use lib.ListN.{length};
 ghost use lib.Seq.{sets};
+ghost use Rattle.blocks.specs.Blocks.{rowsOf};
 ghost use Rattle.blocks.specs.Rows.{rowAs, tableOf};
 ghost use Rattle.writing.specs.Puts.{Put};
 ghost use Rattle.binary.specs.Bytes.{lowBytes, wordSize, wordsBytes, lowAt, rowsNumbers, ByteRead};
@@ -104,12 +105,48 @@ fn put_row(buf: &mut [u8], at: usize, target: u64, query: u64, size: u64) -> usi
     put_low(buf, q, size, WORD_SIZE)
 }
 
-// Stores the rows of three flat slices, as many as the shortest has.
-pub fn put_rows(buf: &mut [u8], at: usize, targets: &[u64], queries: &[u64], sizes: &[u64]) -> usize
+// Stores the three numbers of a row, which there is room for.
+fn store_row(buf: &mut [u8], at: usize, target: u64, query: u64, size: u64)
+    requires { ⌜ at + 3 * wordSize ≤ length (now buf) ⌝ }
+    ensures { λ _. ⌜ now (buf .exit) ≡ sets (now (buf .entry)) at (wordsBytes (rowsNumbers (rowAs target query size ∷ []))) ⌝ }
+{
+    store_word(buf, at, target);
+    store_word(buf, at + WORD_SIZE, query);
+    store_word(buf, at + 2 * WORD_SIZE, size);
+}
+
+// Stores the rows of three flat slices, so many as the shortest has, which there is room for.
+fn store_rows(buf: &mut [u8], at: usize, targets: &[u64], queries: &[u64], sizes: &[u64], n: usize)
+    requires { ⌜ (n ≡ rowsOf (now targets) (now queries) (now sizes)) × (at + wordSize * (3 * n) ≤ length (now buf)) ⌝ }
+    ensures { λ _. ⌜ now (buf .exit) ≡ sets (now (buf .entry)) at
+        (wordsBytes (rowsNumbers (tableOf (now (targets .entry)) (now (queries .entry)) (now (sizes .entry))))) ⌝ }
+{
+    let mut i = 0;
+    while i < n {
+        store_row(
+            buf,
+            at + 3 * WORD_SIZE * i,
+            targets[i],
+            queries[i],
+            sizes[i],
+        );
+        i += 1;
+    }
+}
+
+// The same byte by byte, as far as the buffer reaches.
+fn put_each_row(
+    buf: &mut [u8],
+    at: usize,
+    targets: &[u64],
+    queries: &[u64],
+    sizes: &[u64],
+    n: usize,
+) -> usize
+    requires { ⌜ n ≡ rowsOf (now targets) (now queries) (now sizes) ⌝ }
     ensures { λ r. ⌜ Put (wordsBytes (rowsNumbers (tableOf (now (targets .entry)) (now (queries .entry)) (now (sizes .entry))))) at
         (now (buf .entry)) (now (buf .exit)) r ⌝ }
 {
-    let n = blocks::rows_of(targets, queries, sizes);
     let mut p = at;
     let mut i = 0;
     while i < n {
@@ -117,6 +154,20 @@ pub fn put_rows(buf: &mut [u8], at: usize, targets: &[u64], queries: &[u64], siz
         i += 1;
     }
     p
+}
+
+// Stores the rows of three flat slices, as many as the shortest has. Where there is room for all of them no byte is
+// tested by itself.
+pub fn put_rows(buf: &mut [u8], at: usize, targets: &[u64], queries: &[u64], sizes: &[u64]) -> usize
+    ensures { λ r. ⌜ Put (wordsBytes (rowsNumbers (tableOf (now (targets .entry)) (now (queries .entry)) (now (sizes .entry))))) at
+        (now (buf .entry)) (now (buf .exit)) r ⌝ }
+{
+    let n = blocks::rows_of(targets, queries, sizes);
+    if has_room(buf.len(), at, 3 * n) {
+        store_rows(buf, at, targets, queries, sizes, n);
+        return at + 3 * WORD_SIZE * n;
+    }
+    put_each_row(buf, at, targets, queries, sizes, n)
 }
 
 fn wide(b: u8) -> u64

@@ -2,13 +2,13 @@
 use mathlib.Core.Path.{_≡_, refl, sym, _∙_}
 use mathlib.Core.Bool.{Bool, true, false, _&&_}
 use mathlib.Core.List.{List, [], _∷_}
-use Prim.Native.Nat.{ℕ, _+_, _-_, _≤_, _<_, min}
+use Prim.Native.Nat.{ℕ, suc, _+_, _-_, _≤_, _<_, min}
 use native.Mathlib.Numerals.{add-one}
 use native.Mathlib.Omega.{arith}
 use lib.ListN.{length, take, drop, getD, set, length-take, drop-of-length-le}
-use lib.Seq.{drop-cons, getD-take, sets}
+use lib.Seq.{drop-cons, getD-take, set-out, sets}
 use lib.Dec.{leb, eqb}
-use borrow.Author.Tests.{eq-eqb, ne-eqb, le-leb, lt-leb, eqb-true, eqb-false}
+use borrow.Author.Tests.{eq-eqb, ne-eqb, le-leb, lt-leb, leb-true, leb-false, eqb-true, eqb-false}
 use Rattle.blocks.specs.Blocks.{shiftedWithin, subtracted, orderFrom, blocksFill, areSums, sumsWithin, allBetween}
 
 -- the first k rows from a place on: the next one and the rest, or none
@@ -22,6 +22,18 @@ pub rows-done : (l : List ℕ) (k n i : ℕ) → n ≡ min k (length l) → n �
 rows-done l k n i e h =
     let q : length (take k l) ≤ i = rw length-take (omega arith) in
     drop-of-length-le (take k l) q
+
+-- what is stored past a table's end changes nothing
+sets-past : (to : List ℕ) (i : ℕ) (vs : List ℕ) → length to ≤ i → sets to i vs ≡ to
+sets-past to i [] h = refl
+sets-past to i (v ∷ vs) h = rw (set-out to i v h) (sets-past to (suc i) vs (omega arith))
+
+either : (a b : ℕ) (P : Type 0) → (a ≤ b → P) → (b < a → P) → P
+either a b P f g = go (leb a b) refl
+  where
+    go : (t : Bool) → leb a b ≡ t → P
+    go true e = f (leb-true a b e)
+    go false e = g (leb-false a b e)
 
 and-false : (t u : Bool) → u ≡ false → (t && u) ≡ false
 and-false true u e = e
@@ -155,11 +167,12 @@ module _ (l : List ℕ) (k n i : ℕ) (en : n ≡ min k (length l)) where
     between-done h = rw (rows-done l k n i en h) at inv
 
   module _ (before to : List ℕ) (inv : sets to i (drop i (take k l)) ≡ sets before 0 (take k l)) where
-    pub copied-more : i < n → (to′ : List ℕ) → to′ ≡ set to i (getD l i 0) → sets to′ (i + 1) (drop (i + 1) (take k l)) ≡ sets before 0 (take k l)
-    copied-more h to′ e = rw (e, add-one i) (rw (row l k n i en h, add-one i) at inv)
+    module _ (m : ℕ) (em : m ≡ min n (length before)) where
+      pub copied-more : i < m → sets (set to i (getD l i 0)) (i + 1) (drop (i + 1) (take k l)) ≡ sets before 0 (take k l)
+      copied-more h = rw (add-one i) (rw (row l k n i en (omega arith), add-one i) at inv)
 
-    pub copied-done : n ≤ i → to ≡ sets before 0 (take k l)
-    copied-done h = rw (rows-done l k n i en h) at inv
+      pub copied-done : length to ≡ length before → m ≤ i → to ≡ sets before 0 (take k l)
+      copied-done e h = either n i _ (λ q. rw (rows-done l k n i en q) at inv) (λ q. sym (sets-past to i (drop i (take k l)) (omega arith)) ∙ inv)
 
   module _ (most sum : ℕ) (before to : List ℕ) (inv : sets to i (sumsWithin most sum (drop i (take k l))) ≡ sets before 0 (sumsWithin most 0 (take k l))) where
     module _ (h : i < n) (to′ : List ℕ) (e : to′ ≡ set to i sum) where

@@ -246,6 +246,14 @@ back-shifted a most (x ∷ xs) e =
     let q : a + (x - a) ≡ x = omega arith in
     rw (q, back-shifted a most xs (b .1))
 
+-- and numbers moved up and down again
+pub shifted-back : (a : ℕ) (xs : List ℕ) → subtracted a (shifted a xs) ≡ xs
+unfolding shifted subtracted
+shifted-back a [] = refl
+shifted-back a (x ∷ xs) =
+    let q : a + x - a ≡ x = omega arith in
+    rw (q, shifted-back a xs)
+
 -- where all of them fit, all numbers moved up are within a number
 pub shifted-within : (most a high : ℕ) (xs : List ℕ) → allBetween 0 high xs ≡ true → a + high ≤ most → shiftedWithin most a xs ≡ shifted a xs
 unfolding shiftedWithin shifted allBetween

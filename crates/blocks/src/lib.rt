@@ -121,9 +121,10 @@ pub fn copy_numbers(from: &[u64], count: usize, to: &mut [u64])
     ensures { λ _. ⌜ now (to .exit) ≡ sets (now (to .entry)) 0 (take count (now (from .entry))) ⌝ }
 {
     let n = reach(from.len(), count);
+    let m = reach(to.len(), n);
     let mut i = 0;
-    while i < n {
-        numbers::store(to, i, from[i]);
+    while i < m {
+        to[i] = from[i];
         i += 1;
     }
 }

@@ -22,7 +22,7 @@ use Rattle.kinds.proofs.RangeLaws.{number-spelt}
 use Rattle.columns.specs.declared.Columns.{Columns}
 use Rattle.columns.specs.declared.Columns.the-variants.{Next}
 use Rattle.columns.specs.declared.Columns.the-variants as columns
-use Rattle.columns.specs.Columns.{tableOf, columnsFrom, valuesFrom, ColumnsRead}
+use Rattle.columns.specs.Columns.{tableOf, columnsFrom, valuesFrom, ColumnsWalked}
 use Rattle.columns.specs.Spells.{firsts}
 use Rattle.columns.proofs.Meant.{Meant}
 use Rattle.columns.proofs.SpellsLaws.{columns-mean}
@@ -125,7 +125,7 @@ module _ (s : List ℕ) (line n : ℕ) (counted : LineCounted s line n) where
   pub numbers-length : n ≡ length (take n blockCodes)
   numbers-length = codes-length n numbers-few
 
-module _ (s : List ℕ) (line n : ℕ) (counted : LineCounted s line n) (b′ d d′ : List ℕ) (x : Columns) (read : ColumnsRead (tableOf (take n blockCodes)) s line (replicate 6 0) b′ d d′ x) where
+module _ (s : List ℕ) (line n : ℕ) (counted : LineCounted s line n) (b′ d d′ : List ℕ) (x : Columns) (read : ColumnsWalked (tableOf (take n blockCodes)) s line (replicate 6 0) b′ d d′ x) where
   few : n ≤ 3
   few = count-most n (counted .good)
 

@@ -1,5 +1,6 @@
 pub mod ReadLaws
 pub mod BlockLaws
+pub mod QuickLaws
 pub mod WalkLaws
 pub mod StageLaws
 pub mod TestLaws

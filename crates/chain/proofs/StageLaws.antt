@@ -1,5 +1,6 @@
 -- The stages of reading a chain: one that refuses, and one that goes on. Assumes nothing.
 use mathlib.Core.Path.{_≡_, refl, sym, _∙_}
+use mathlib.Core.Bool.{true}
 use mathlib.Core.List.{List, [], _∷_, map}
 use Prim.Native.Nat.{ℕ, _-_, _*_, _≤_, _<_}
 use native.Mathlib.Omega.{arith}
@@ -15,13 +16,14 @@ use Rattle.text.specs.declared.Check.the-variants as check
 use Rattle.text.specs.Checks.{textCheck, lastLineCheck}
 use Rattle.text.specs.Pieces.{wordsOf, lineOf}
 use Rattle.text.specs.Words.{nextLine, wordCount}
+use Rattle.text.proofs.Laws.{next-as}
 use Rattle.kinds.specs.declared.Range.the-variants.{Coordinate}
 use Rattle.kinds.specs.Kinds.{kindOf}
 use Rattle.kinds.proofs.RangeLaws.{number-spelt}
 use Rattle.columns.specs.declared.Columns.{Columns}
 use Rattle.columns.specs.declared.Columns.the-variants.{Next}
 use Rattle.columns.specs.declared.Columns.the-variants as columns
-use Rattle.columns.specs.Columns.{tableOf, columnsFrom, valuesFrom, ColumnsRead}
+use Rattle.columns.specs.Columns.{tableOf, columnsFrom, valuesFrom, ColumnsWalked}
 use Rattle.columns.specs.Spells.{firsts}
 use Rattle.columns.proofs.Meant.{Meant}
 use Rattle.columns.proofs.SpellsLaws.{columns-mean}
@@ -30,6 +32,7 @@ use Rattle.blocks.specs.Blocks.{rowsOf}
 use Rattle.blocks.proofs.TakeLaws.{part-all}
 use Rattle.chain.specs.declared.Chain.{Chain}
 use Rattle.chain.specs.declared.Ending.{Ending}
+use Rattle.chain.specs.declared.Head.{Head}
 use Rattle.chain.specs.declared.Lines.{Lines}
 use Rattle.chain.specs.declared.Lines.the-variants.{Ended}
 use Rattle.chain.specs.declared.Lines.the-variants as lines
@@ -37,9 +40,10 @@ use Rattle.chain.specs.declared.ChainAnswer.{ChainAnswer}
 use Rattle.chain.specs.declared.ChainAnswer.the-variants.{Accepted, Refused}
 use Rattle.chain.specs.Table.{chainColumns}
 use Rattle.chain.specs.Records.{chainRecord, chainTargets, chainQueries, chainSizes}
-use Rattle.chain.specs.Read.{thenCheck, spanCheck, fillCheck, roomCheck, afterLast, afterLines, afterSpans, afterColumns, afterWords, afterText, chainCheck, chainRead, Counted, Walked, Headed, Held, Staged, RowsStored, ChainRead}
-use Rattle.columns.specs.OneLine.{countCheck}
-use Rattle.columns.proofs.OneLineLaws.{count-of}
+use Rattle.chain.specs.Read.{thenCheck, thenRead, spanCheck, fillCheck, roomCheck, afterLast, afterLines, afterSpans, afterColumns, afterWords, afterText, chainCheck, chainRead, Walked, Headed, HeadTaken, InRoom, Held, Staged, RowsStored, ChainRead}
+use Rattle.columns.specs.OneLine.{countCheck, thenLine, WordsWalked}
+use Rattle.columns.proofs.OneLineLaws.{count-of, count-is}
+use Rattle.columns.proofs.WalkLaws.{walk-through}
 use Rattle.columns.proofs.TableLaws as table
 
 -- the codes of the header's table in the code
@@ -85,7 +89,10 @@ unfolding afterLines afterLast
 lines-record s vs e b q = record-of (lastLineCheck s (e .line)) (fillCheck s (chainRecord vs (e .count)) e) (chainRecord vs (e .count)) b q
 
 -- the block lines
-module _ (s vs rows rows′ : List ℕ) (from t q : ℕ) (ef : from ≡ nextLine s 0) (et : t ≡ getD vs 10 0) (eq : q ≡ getD vs 20 0) (x : Lines) (walked : Walked s from t q rows rows′ x) where
+module _ (s vs rows rows′ : List ℕ) (end : ℕ) (headed : Headed s end vs rows) (from t q : ℕ) (first : from ≡ nextLine s end) (et : t ≡ getD vs 10 0) (eq : q ≡ getD vs 20 0) (x : Lines) (walked : Walked s from t q rows rows′ x) where
+  ef : from ≡ nextLine s 0
+  ef = first ∙ next-as s end 0 (headed .line)
+
   pub spans-refused : (y : Refusal) → x ≡ lines.Refused y → Staged s (afterSpans s vs) rows′ (Refused y)
   unfolding afterSpans
   spans-refused y k = record { is = rw (← ef, ← et, ← eq, ← (walked .is), k); held = λ b e. absurd (let z : _≡_ {A = ℕ} 0 1 = cc in omega arith) }
@@ -163,43 +170,69 @@ module _ (s : List ℕ) (e : ℕ) (count : wordCount s 0 ≡ 13) (read : columns
   unfolding chainColumns
   query-low = rw (← value-first vs 10) (number-spelt Coordinate _ _ _ (spelt-at head-spells 10 (omega arith)) .1)
 
-module _ (s rows b′ d d′ : List ℕ) (counted : Counted s rows) (x : Columns) (read : ColumnsRead (tableOf chainCodes) s 0 (replicate 26 0) b′ d d′ x) where
-  read-is : x ≡ columnsFrom chainColumns 0 s 0
+-- the number of words and the columns in one walk
+line-then : (c : Check) (rest : Columns) (e : ℕ) → thenLine c rest ≡ Next e → (c ≡ Holds) × (rest ≡ Next e)
+line-then Holds rest e q = (refl, q)
+line-then (check.Refused x) rest e q = absurd (let z : _≡_ {A = ℕ} 0 1 = cc in omega arith)
+
+line-refused : (c : Check) (d : Columns) (y : Refusal) (rest : ChainAnswer) → thenLine c d ≡ columns.Refused y → Refused y ≡ thenCheck c (thenRead d rest)
+line-refused Holds (Next e) y rest q = absurd (let z : _≡_ {A = ℕ} 0 1 = cc in omega arith)
+line-refused Holds (columns.Refused x) y rest q = cc
+line-refused (check.Refused x) d y rest q = cc
+
+module _ (s rows b′ d d′ : List ℕ) (long : length rows ≡ 3 * blockLimit) (x : Columns) (read : WordsWalked (tableOf chainCodes) s (replicate 26 0) b′ d d′ x) where
+  read-is : x ≡ thenLine (countCheck s 0 13) (columnsFrom chainColumns 0 s 0)
   unfolding chainColumns
-  read-is = table.read-is chainCodes chainColumns codes-same (omega arith) 13 (omega arith) s 0 26 (omega arith) b′ d d′ x read
+  read-is = rw table-is at (read .result)
 
   module _ (e : ℕ) (q : x ≡ Next e) where
-    next : columnsFrom chainColumns 0 s 0 ≡ Next e
-    next = sym read-is ∙ q
+    both-read : (countCheck s 0 13 ≡ Holds) × (columnsFrom chainColumns 0 s 0 ≡ Next e)
+    both-read = line-then (countCheck s 0 13) (columnsFrom chainColumns 0 s 0) e (sym read-is ∙ q)
+
+    walked : ColumnsWalked (tableOf chainCodes) s 0 (replicate 26 0) b′ d d′ (Next e)
+    walked = record { result = rw table-is (sym (both-read .1)); stored = λ f p. read .stored e q; held = λ f p. read .held e q }
 
     values-same : (i : ℕ) → getD b′ i 0 ≡ getD (valuesFrom chainColumns 0 s 0) i 0
     unfolding chainColumns
-    values-same = table.values-same chainCodes chainColumns codes-same (omega arith) 13 (omega arith) s 0 26 (omega arith) b′ d d′ x read e q
+    values-same = table.values-same chainCodes chainColumns codes-same (omega arith) 13 (omega arith) s 0 26 (omega arith) b′ d d′ (Next e) walked e refl
 
-    pub words-headed : Headed b′ rows
-    words-headed = record { target = rw (values-same 10) (target-low s e (counted .count) next); query = rw (values-same 20) (query-low s e (counted .count) next); long = counted .long }
+    pub words-headed : Headed s e b′ rows
+    words-headed =
+        let count = count-of s 0 13 (both-read .0) in
+        record {
+          line = read .line e q;
+          target = rw (values-same 10) (target-low s e count (both-read .1));
+          query = rw (values-same 20) (query-low s e count (both-read .1));
+          long = long;
+        }
 
-    pub words-on : (l : List ℕ) (a : ChainAnswer) → Staged s (afterColumns s b′) l a → Staged s (afterWords s) l a
-    unfolding afterWords
-    words-on l a h = record { is = rw (next, ← columns-same b′ (valuesFrom chainColumns 0 s 0) values-same s) (h .is); held = h .held }
+    pub words-on : (l : List ℕ) (a : ChainAnswer) → Staged s (afterColumns s b′) l a → Staged s (afterText s) l a
+    unfolding afterText afterWords
+    words-on l a h = record { is = rw (both-read .0, both-read .1, ← columns-same b′ (valuesFrom chainColumns 0 s 0) values-same s) (h .is); held = h .held }
 
-  pub words-refused : (l : List ℕ) (y : Refusal) → x ≡ columns.Refused y → Staged s (afterWords s) l (Refused y)
-  unfolding afterWords
-  words-refused l y q =
-      let z : columnsFrom chainColumns 0 s 0 ≡ columns.Refused y = sym read-is ∙ q in
-      record { is = rw z; held = λ b e. absurd (let k : _≡_ {A = ℕ} 0 1 = cc in omega arith) }
+  pub words-refused : (l : List ℕ) (y : Refusal) → x ≡ columns.Refused y → Staged s (afterText s) l (Refused y)
+  unfolding afterText afterWords
+  words-refused l y q = record {
+    is = line-refused (countCheck s 0 13) (columnsFrom chainColumns 0 s 0) y (afterColumns s (valuesFrom chainColumns 0 s 0)) (sym read-is ∙ q);
+    held = λ b e. absurd (let k : _≡_ {A = ℕ} 0 1 = cc in omega arith);
+  }
 
-module _ (s : List ℕ) (c : Check) (ec : c ≡ countCheck s 0 13) where
-  pub text-counted : (d : List ℕ) → length d ≡ 3 * blockLimit → c ≡ Holds → Counted s d
-  text-counted d l q = record { count = count-of s 0 13 (sym ec ∙ q); long = l }
+-- the header taken in one pass
+module _ (s : List ℕ) (x : Head) (taken : HeadTaken s x) (good : x .good ≡ true) where
+  pub head-headed : (rows : List ℕ) → length rows ≡ 3 * blockLimit → Headed s (x .end) (x .values) rows
+  head-headed rows long =
+      let count = taken .count good in
+      let read = taken .read good in
+      record {
+        line = walk-through chainColumns 0 s 0 (x .end) read .line;
+        target = rw (← (taken .values good)) (target-low s (x .end) count read);
+        query = rw (← (taken .values good)) (query-low s (x .end) count read);
+        long = long;
+      }
 
-  pub text-refused : (l : List ℕ) (x : Refusal) → c ≡ check.Refused x → Staged s (afterText s) l (Refused x)
-  unfolding afterText
-  text-refused l x q = record { is = rw (← ec, q); held = λ b e. absurd (let k : _≡_ {A = ℕ} 0 1 = cc in omega arith) }
-
-  pub text-on : (l : List ℕ) (a : ChainAnswer) → c ≡ Holds → Staged s (afterWords s) l a → Staged s (afterText s) l a
-  unfolding afterText
-  text-on l a q h = record { is = rw (← ec, q) (h .is); held = h .held }
+  pub head-on : (l : List ℕ) (a : ChainAnswer) → Staged s (afterColumns s (x .values)) l a → Staged s (afterText s) l a
+  unfolding afterText afterWords
+  head-on l a h = record { is = rw (count-is s 0 13 (taken .count good), taken .read good, taken .values good) (h .is); held = h .held }
 
 module _ (s : List ℕ) (c : Check) (ec : c ≡ textCheck s) where
   pub check-refused : (l : List ℕ) (x : Refusal) → c ≡ check.Refused x → Staged s (chainCheck s) l (Refused x)
@@ -226,6 +259,10 @@ module _ (s : List ℕ) (r : Chain) (l ts qs zs : List ℕ) (held : Held s r l) 
     queries = rw (eq, part-all l blockLimit, held .queries);
     sizes = rw (ez, part-all l (2 * blockLimit), held .sizes);
   }
+
+-- the reader into working room
+pub room-other : (s rows : List ℕ) (x : ChainAnswer) → (length rows ≡ 3 * blockLimit → ⊥) → x ≡ chainCheck s → InRoom s rows rows x
+room-other s rows x n h = record { is = h; held = λ l. absurd (n l) }
 
 -- the reader: the checks, then the rows
 module _ (s ts qs zs l : List ℕ) (x : ChainAnswer) (staged : Staged s (chainCheck s) l x) where

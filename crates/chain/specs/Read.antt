@@ -1,5 +1,5 @@
 -- Reading a chain: the checks in the ledger's order. Each stage names what is tested from there on; the last one, `chainRead`, is the reader.
-use Prim.Native.Nat.{ℕ, zero, suc, _+_, _-_, _*_, _≤_}
+use Prim.Native.Nat.{ℕ, zero, suc, _+_, _-_, _*_, _≤_, _<_}
 use mathlib.Core.Path.{_≡_}
 use mathlib.Core.Bool.{Bool, true, false, _&&_, _||_}
 use mathlib.Core.List.{List}
@@ -12,7 +12,10 @@ use Rattle.text.specs.declared.Check.{Check}
 use Rattle.text.specs.declared.Check.the-variants.{Holds}
 use Rattle.text.specs.declared.Check.the-variants as check
 use Rattle.text.specs.Checks.{require, textCheck, lastLineCheck, wordsCheck}
-use Rattle.text.specs.Words.{nextLine, wordCount}
+use Rattle.text.specs.Words.{lineEnd, nextLine, nextWord, wordCount, bytesOf}
+use Rattle.numbers.specs.declared.Spelt.the-variants.{Means}
+use Rattle.numbers.specs.declared.Taken.{Taken}
+use Rattle.numbers.specs.Numbers.{numberOf}
 use Rattle.columns.specs.declared.Columns.{Columns}
 use Rattle.columns.specs.declared.Columns.the-variants.{Next}
 use Rattle.columns.specs.declared.Columns.the-variants as columns
@@ -24,6 +27,10 @@ use Rattle.chain.specs.declared.Block.{Block}
 use Rattle.chain.specs.declared.Block.the-variants.{Last, Gap}
 use Rattle.chain.specs.declared.Block.the-variants as block
 use Rattle.chain.specs.declared.Ending.{Ending}
+use Rattle.chain.specs.declared.Head.{Head}
+use Rattle.chain.specs.declared.Quick.{Quick}
+use Rattle.chain.specs.declared.Rest.{Rest}
+use Rattle.chain.specs.declared.Step.{Step}
 use Rattle.chain.specs.declared.Lines.{Lines}
 use Rattle.chain.specs.declared.Lines.the-variants.{Ended}
 use Rattle.chain.specs.declared.Lines.the-variants as lines
@@ -196,12 +203,7 @@ blockQueryGap (Last z) = 0
 blockQueryGap (Gap z dt dq) = dq
 blockQueryGap (block.Refused x) = 0
 
--- a header of a good number of words, before its columns are read
-pub record Counted (s rows : List ℕ) : Type 0 where
-  pub count : wordCount s 0 ≡ 13
-  pub long : length rows ≡ 3 * blockLimit
-
--- and a block line of a good number of words
+-- a block line of a good number of words
 pub record LineCounted (s : List ℕ) (line n : ℕ) : Type 0 where
   pub count : n ≡ wordCount s line
   pub good : isBlockCount n ≡ true
@@ -225,6 +227,36 @@ pub record BlockRead (s : List ℕ) (line k : ℕ) (r : Block) : Type 0 where
   pub size : blockSize r ≤ largestPosition
   pub targetGap : blockTargetGap r ≤ largestPosition
   pub queryGap : blockQueryGap r ≤ largestPosition
+
+-- what taking the number of a word promises: where it is good, it is what the word at or after a place spells, and ends
+-- with the word
+pub record WordTaken (least : ℕ) (s : List ℕ) (at : ℕ) (r : Taken) : Type 0 where
+  pub means : r .good ≡ true → numberOf least largestPosition (bytesOf s (nextWord s at)) ≡ Means (r .value)
+  pub ends : r .good ≡ true → r .end ≡ nextWord s at .end
+  pub some : r .good ≡ true → nextWord s at .start < nextWord s at .end
+  pub small : r .good ≡ true → r .value ≤ largestPosition
+
+-- what seeing the rest of a line promises: where it is bare, no word follows, and the next line is known
+pub record RestSeen (s : List ℕ) (at : ℕ) (r : Rest) : Type 0 where
+  pub none : r .bare ≡ true → nextWord s at .start ≡ nextWord s at .end
+  pub next : r .bare ≡ true → r .next ≡ nextLine s at
+
+-- what taking a block line in one pass promises: where it is good, it is the block line
+pub record GapTaken (s : List ℕ) (line : ℕ) (r : Quick) : Type 0 where
+  pub is : r .good ≡ true → blockLine s line ≡ Gap (r .size) (r .dt) (r .dq)
+  pub next : r .good ≡ true → r .next ≡ nextLine s line
+  pub size : r .good ≡ true → r .size ≤ largestPosition
+  pub targetGap : r .good ≡ true → r .dt ≤ largestPosition
+  pub queryGap : r .good ≡ true → r .dq ≤ largestPosition
+
+pub record LastTaken (s : List ℕ) (line : ℕ) (r : Taken) : Type 0 where
+  pub is : r .good ≡ true → blockLine s line ≡ Last (r .value)
+  pub size : r .good ≡ true → r .value ≤ largestPosition
+
+-- and what reading a block line with the place of the next promises, where k blocks may still come
+pub record StepRead (s : List ℕ) (line k : ℕ) (r : Step) : Type 0 where
+  pub read : BlockRead s line k (r .block)
+  pub next : (z dt dq : ℕ) → r .block ≡ Gap z dt dq → r .next ≡ nextLine s line
 
 -- the working room of a reader holds n rows of the block lines from a place on: targets at its front, queries and sizes each after the room for a
 -- record's blocks
@@ -259,11 +291,24 @@ pub record Staged (s : List ℕ) (answer : ChainAnswer) (rows′ : List ℕ) (r 
   pub is : r ≡ answer
   pub held : (b : Chain) → r ≡ Accepted b → Held s b rows′
 
--- the values of a header that was read, before its spans are tested
-pub record Headed (vs rows : List ℕ) : Type 0 where
+-- what the reader into working room promises: the text checker's answer, and the rows of an accepted chain where the
+-- room is that of three lists
+pub record InRoom (s rows rows′ : List ℕ) (r : ChainAnswer) : Type 0 where
+  pub is : r ≡ chainCheck s
+  pub held : length rows ≡ 3 * blockLimit → (b : Chain) → r ≡ Accepted b → Held s b rows′
+
+-- the values of a header that was read up to a place, before its spans are tested
+pub record Headed (s : List ℕ) (end : ℕ) (vs rows : List ℕ) : Type 0 where
+  pub line : lineEnd s end ≡ lineEnd s 0
   pub target : getD vs 10 0 ≤ largestPosition
   pub query : getD vs 20 0 ≤ largestPosition
   pub long : length rows ≡ 3 * blockLimit
+
+-- what taking a header in one pass promises: where it is good, its number of words is, and its columns are read
+pub record HeadTaken (s : List ℕ) (r : Head) : Type 0 where
+  pub count : r .good ≡ true → wordCount s 0 ≡ 13
+  pub read : r .good ≡ true → columnsFrom chainColumns 0 s 0 ≡ Next (r .end)
+  pub values : r .good ≡ true → valuesFrom chainColumns 0 s 0 ≡ r .values
 
 -- what storing the rows of an accepted chain promises
 pub record RowsStored (s : List ℕ) (r : Chain) (ts ts′ qs qs′ zs zs′ : List ℕ) (x : ChainAnswer) : Type 0 where

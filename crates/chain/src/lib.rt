@@ -6,18 +6,23 @@ ghost use Rattle.ledger.specs.Limits.{nameLimit, blockLimit};
 ghost use Rattle.writing.specs.Puts.{Put};
 ghost use Rattle.writing.specs.Answers.{Wrote};
 ghost use Rattle.chain.specs.Records.{chainRecord};
-ghost use Rattle.chain.specs.Read.{spanCheck, isBlockCount, limitCheck, firstOf, lineCheck, blockIs, fillCheck, afterLast, afterLines, afterSpans, afterColumns, afterWords, afterText, chainCheck, LineCounted, NumbersRead, BlockRead, Counted, Begins, Walked, Headed, Staged, Held, RowsStored, ChainRead};
+ghost use Rattle.chain.specs.Read.{spanCheck, isBlockCount, limitCheck, firstOf, lineCheck, blockIs, fillCheck, afterLast, afterLines, afterSpans, afterColumns, afterText, chainCheck, LineCounted, NumbersRead, BlockRead, WordTaken, RestSeen, GapTaken, LastTaken, StepRead, HeadTaken, Begins, Walked, Headed, Staged, Held, InRoom, RowsStored, ChainRead};
 ghost use Rattle.chain.specs.Tests.{namesFit, sizeFits, fieldsFit, spansFit, rowsFit, chainValid};
 ghost use Rattle.chain.specs.Write.{namesShow, writeCheck, fedWords, gapWords, blockText, chainText, chainValues, textOf, ChainWrote, recordCheck, RowsThere, Writable};
 ghost use Rattle.chain.specs.Table.{blockColumns};
 ghost use Rattle.columns.specs.Lines.{fedLine};
 ghost use mathlib.Core.List.{[], _∷_};
 use columns::Columns;
+use kinds::Fixed;
+use kinds::Kind;
+use kinds::Range;
 use ledger::Part;
 use ledger::Reason;
 use ledger::Refusal;
 use ledger::Strand;
+use numbers::Taken;
 use text::Check;
+use text::Class;
 use writing::Writing;
 
 // The record of a chain. A name is a part of the text; with `-`, qStart and qEnd count on the reversed query.
@@ -167,7 +172,7 @@ fn read_numbers(text: &[u8], line: usize, n: usize) -> Block
     let table = BLOCK;
     let mut values = [0u64; 6];
     let mut none = [0u64; 0];
-    match columns::read_columns(text, line, &table[..n], &mut values, &mut none) {
+    match columns::walk_line(text, line, &table[..n], &mut values, &mut none) {
         Columns::Refused(x) => Block::Refused(x),
         Columns::Next(_) => block_of(&values, n),
     }
@@ -182,6 +187,112 @@ fn read_block(text: &[u8], line: usize, left: u64) -> Block
         Check::Refused(x) => Block::Refused(x),
         Check::Holds => read_numbers(text, line, n),
     }
+}
+
+// A number of at least so much, and at most a coordinate, in the word at or after a place.
+fn take_number(text: &[u8], at: usize, least: u64) -> Taken
+    ensures { λ r. ⌜ WordTaken least (now (text .entry)) at r ⌝ }
+{
+    let a = text::scan(text, at, Class::Blank);
+    numbers::number_at(text, a, least, ledger::Position::LARGEST)
+}
+
+// What follows a place on its line: whether no word does, and then where the next line begins.
+pub struct Rest {
+    pub bare: bool,
+    pub next: usize,
+}
+
+fn rest_of(text: &[u8], at: usize) -> Rest
+    ensures { λ r. ⌜ RestSeen (now (text .entry)) at r ⌝ }
+{
+    let e = text::scan(text, at, Class::Blank);
+    if text.len() <= e {
+        return Rest {
+            bare: true,
+            next: e,
+        };
+    }
+    Rest {
+        bare: text[e] == b'\n',
+        next: e + 1,
+    }
+}
+
+// A block line with gaps, taken in one pass, and where the next line begins. Where it is not good, the line has to be
+// read with more care.
+pub struct Quick {
+    pub good: bool,
+    pub size: u64,
+    pub dt: u64,
+    pub dq: u64,
+    pub next: usize,
+}
+
+fn quick_gap(text: &[u8], line: usize) -> Quick
+    ensures { λ r. ⌜ GapTaken (now (text .entry)) line r ⌝ }
+{
+    let a = take_number(text, line, 1);
+    let b = take_number(text, a.end, 0);
+    let c = take_number(text, b.end, 0);
+    let r = rest_of(text, c.end);
+    Quick {
+        good: a.good & (b.good & (c.good & r.bare)),
+        size: a.value,
+        dt: b.value,
+        dq: c.value,
+        next: r.next,
+    }
+}
+
+// The last block line in one pass.
+fn quick_last(text: &[u8], line: usize) -> Taken
+    ensures { λ r. ⌜ LastTaken (now (text .entry)) line r ⌝ }
+{
+    let a = take_number(text, line, 1);
+    let r = rest_of(text, a.end);
+    Taken {
+        good: a.good & r.bare,
+        value: a.value,
+        end: a.end,
+    }
+}
+
+// A block line, and where the next line begins if one has to.
+pub struct Step {
+    pub block: Block,
+    pub next: usize,
+}
+
+fn read_step(text: &[u8], line: usize, left: u64) -> Step
+    ensures { λ r. ⌜ StepRead (now (text .entry)) line left r ⌝ }
+{
+    let block = read_block(text, line, left);
+    let next = text::next_line(text, line);
+    Step { block, next }
+}
+
+// The block line at a place, where so many blocks may still come: in one pass if it is a plain one.
+fn take_step(text: &[u8], line: usize, left: u64) -> Step
+    ensures { λ r. ⌜ StepRead (now (text .entry)) line left r ⌝ }
+{
+    if left < 1 {
+        return read_step(text, line, left);
+    }
+    let x = quick_gap(text, line);
+    if x.good {
+        let block = Block::Gap(x.size, x.dt, x.dq);
+        return Step {
+            block,
+            next: x.next,
+        };
+    }
+    let y = quick_last(text, line);
+    if y.good {
+        let block = Block::Last(y.value);
+        return Step { block, next: line };
+    }
+    read_step(text, line, left)
 }
 
 // Stores row i in the working room.
@@ -206,7 +317,9 @@ fn walk_lines(text: &[u8], from: usize, target: u64, query: u64, rows: &mut [u64
     let mut q = query;
     let mut left = ledger::BLOCK_LIMIT;
     while line < text.len() {
-        match read_block(text, line, left) {
+        let step = take_step(text, line, left);
+        let block = step.block;
+        match block {
             Block::Refused(x) => {
                 return Lines::Refused(x);
             }
@@ -223,7 +336,7 @@ fn walk_lines(text: &[u8], from: usize, target: u64, query: u64, rows: &mut [u64
                 put_row(rows, ledger::BLOCK_LIMIT - left, t, q, z);
                 t = t + z + dt;
                 q = q + z + dq;
-                line = text::next_line(text, line);
+                line = step.next;
             }
         }
         left -= 1;
@@ -263,12 +376,12 @@ fn after_lines(text: &[u8], values: &[u64], e: Ending) -> ChainAnswer
     }
 }
 
-// The block lines from the top, and on.
-fn after_spans(text: &[u8], values: &[u64], rows: &mut [u64]) -> ChainAnswer
-    requires { ⌜ Headed (now values) (now rows) ⌝ }
+// The block lines from the top, and on; the header ends on the line of a place.
+fn after_spans(text: &[u8], end: usize, values: &[u64], rows: &mut [u64]) -> ChainAnswer
+    requires { ⌜ Headed (now text) end (now values) (now rows) ⌝ }
     ensures { λ x. ⌜ Staged (now (text .entry)) (afterSpans (now (text .entry)) (now (values .entry))) (now (rows .exit)) x ⌝ }
 {
-    let first = text::next_line(text, 0);
+    let first = text::next_line(text, end);
     let target = columns::value_at(values, 10);
     let query = columns::value_at(values, 20);
     match walk_lines(text, first, target, query, rows) {
@@ -278,38 +391,91 @@ fn after_spans(text: &[u8], values: &[u64], rows: &mut [u64]) -> ChainAnswer
 }
 
 // The spans, and on.
-fn after_columns(text: &[u8], values: &[u64], rows: &mut [u64]) -> ChainAnswer
-    requires { ⌜ Headed (now values) (now rows) ⌝ }
+fn after_columns(text: &[u8], end: usize, values: &[u64], rows: &mut [u64]) -> ChainAnswer
+    requires { ⌜ Headed (now text) end (now values) (now rows) ⌝ }
     ensures { λ x. ⌜ Staged (now (text .entry)) (afterColumns (now (text .entry)) (now (values .entry))) (now (rows .exit)) x ⌝ }
 {
     match check_spans(record_of(values, 0), values) {
         Check::Refused(x) => ChainAnswer::Refused(x),
-        Check::Holds => after_spans(text, values, rows),
+        Check::Holds => after_spans(text, end, values, rows),
     }
 }
 
-// The header's columns from the left, and on.
-fn after_words(text: &[u8], rows: &mut [u64]) -> ChainAnswer
-    requires { ⌜ Counted (now text) (now rows) ⌝ }
-    ensures { λ x. ⌜ Staged (now (text .entry)) (afterWords (now (text .entry))) (now (rows .exit)) x ⌝ }
+// A header taken in one pass: whether it is good, then its columns' values and places, and where it ends.
+pub struct Head {
+    pub good: bool,
+    pub values: [u64; 26],
+    pub end: usize,
+}
+
+fn quick_head(text: &[u8]) -> Head
+    ensures { λ r. ⌜ HeadTaken (now (text .entry)) r ⌝ }
 {
-    let table = CHAIN;
-    let mut values = [0u64; 26];
-    let mut none = [0u64; 0];
-    match columns::read_columns(text, 0, &table, &mut values, &mut none) {
-        Columns::Refused(x) => ChainAnswer::Refused(x),
-        Columns::Next(_) => after_columns(text, &values, rows),
+    let a = columns::take_field(Kind::Word(Fixed::Chain), text, 0);
+    let b = columns::take_number(Range::ChainScore, text, a.end);
+    let c = columns::take_field(Kind::Name, text, b.end);
+    let d = columns::take_number(Range::Size, text, c.end);
+    let e = columns::take_field(Kind::Word(Fixed::Plus), text, d.end);
+    let f = columns::take_number(Range::Coordinate, text, e.end);
+    let g = columns::take_number(Range::Coordinate, text, f.end);
+    let h = columns::take_field(Kind::Name, text, g.end);
+    let i = columns::take_number(Range::Size, text, h.end);
+    let j = columns::take_field(Kind::Stranded(false), text, i.end);
+    let k = columns::take_number(Range::Coordinate, text, j.end);
+    let l = columns::take_number(Range::Coordinate, text, k.end);
+    let m = columns::take_number(Range::ChainId, text, l.end);
+    let r = rest_of(text, m.end);
+    Head {
+        good: (a.good & (b.good & (c.good & (d.good & (e.good & (f.good & g.good))))))
+            & (h.good & (i.good & (j.good & (k.good & (l.good & (m.good & r.bare)))))),
+        values: [
+            a.value,
+            a.start as u64,
+            b.value,
+            b.start as u64,
+            c.value,
+            c.start as u64,
+            d.value,
+            d.start as u64,
+            e.value,
+            e.start as u64,
+            f.value,
+            f.start as u64,
+            g.value,
+            g.start as u64,
+            h.value,
+            h.start as u64,
+            i.value,
+            i.start as u64,
+            j.value,
+            j.start as u64,
+            k.value,
+            k.start as u64,
+            l.value,
+            l.start as u64,
+            m.value,
+            m.start as u64,
+        ],
+        end: m.end,
     }
 }
 
-// The header's number of words, and on.
+// The header's number of words, its columns from the left, and on.
 fn after_text(text: &[u8], rows: &mut [u64]) -> ChainAnswer
     requires { ⌜ length (now rows) ≡ 3 * blockLimit ⌝ }
     ensures { λ x. ⌜ Staged (now (text .entry)) (afterText (now (text .entry))) (now (rows .exit)) x ⌝ }
 {
-    match columns::check_count(text, 0, 13) {
-        Check::Refused(x) => ChainAnswer::Refused(x),
-        Check::Holds => after_words(text, rows),
+    let q = quick_head(text);
+    if q.good {
+        let values = q.values;
+        return after_columns(text, q.end, &values, rows);
+    }
+    let table = CHAIN;
+    let mut values = [0u64; 26];
+    let mut none = [0u64; 0];
+    match columns::walk_words(text, &table, &mut values, &mut none) {
+        Columns::Refused(x) => ChainAnswer::Refused(x),
+        Columns::Next(e) => after_columns(text, e, &values, rows),
     }
 }
 
@@ -330,6 +496,17 @@ pub fn check_chain_text(text: &[u8]) -> ChainAnswer
 {
     let mut rows = blocks::working_room();
     stage(text, &mut rows)
+}
+
+// The reader into working room for any record's blocks: targets, queries and sizes, each after the room for a record's
+// blocks. In room of another length nothing is stored.
+pub fn read_rows(text: &[u8], rows: &mut [u64]) -> ChainAnswer
+    ensures { λ x. ⌜ InRoom (now (text .entry)) (now (rows .entry)) (now (rows .exit)) x ⌝ }
+{
+    if rows.len() != blocks::ROOM {
+        return check_chain_text(text);
+    }
+    stage(text, rows)
 }
 
 // The room (11), then the rows into the lent slices.

@@ -8,3 +8,6 @@ pub mod OneLineLaws
 pub mod NameLaws
 pub mod WordLaws
 pub mod TableLaws
+pub mod WalkLaws
+pub mod QuickLaws
+pub mod PartLaws

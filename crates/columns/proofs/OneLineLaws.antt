@@ -1,7 +1,7 @@
 -- A text of one line: what each step of reading it shows, and that it is read exactly when its words spell values. Assumes nothing.
 use mathlib.Core.Path.{_≡_, refl, sym, ap, _∙_}
 use mathlib.Core.List.{List, [], _∷_, map}
-use Prim.Native.Nat.{ℕ, suc, _≤_, min}
+use Prim.Native.Nat.{ℕ, suc, _-_, _≤_, min}
 use native.Mathlib.Omega.{arith}
 use lib.ListN.{length, take, length-take}
 use lib.Dec.{leb}
@@ -11,23 +11,45 @@ use Rattle.text.specs.declared.Check.{Check}
 use Rattle.text.specs.declared.Check.the-variants.{Holds}
 use Rattle.text.specs.declared.Check.the-variants as check
 use Rattle.text.specs.Checks.{textCheck, lastLineCheck, wordsCheck}
-use Rattle.text.specs.Words.{wordCount}
+use Rattle.text.specs.declared.Extent.{Extent}
+use Rattle.text.specs.Words.{wordCount, nextWord}
 use Rattle.text.specs.Pieces.{wordsOf, lineOf}
+use Rattle.text.proofs.Laws.{last-as}
+use Rattle.text.proofs.PieceLaws.{count-none}
 use Rattle.text.proofs.CheckLaws.{words-good, words-hold, text-of, text-is, one-of, one-is, some-text}
 use Rattle.kinds.specs.declared.Kind.{Kind}
 use Rattle.kinds.specs.Kinds.{kindOf}
 use Rattle.columns.specs.declared.Columns.{Columns}
 use Rattle.columns.specs.declared.Columns.the-variants.{Next, Refused}
-use Rattle.columns.specs.Columns.{columnLimit, tableOf, columnsFrom, valuesFrom, ColumnsRead}
+use Rattle.columns.specs.Columns.{columnLimit, tableOf, columnsFrom, valuesFrom, ColumnsRead, ColumnsWalked}
 use Rattle.columns.specs.Spells.{firsts}
-use Rattle.columns.specs.OneLine.{countCheck, thenLine, thenLast, lineRead, OneLine, CountedRead, LineRead}
+use Rattle.columns.specs.OneLine.{countCheck, thenLine, thenLast, lineRead, OneLine, CountedRead, LineRead, WordsWalked, LineWalked}
 use Rattle.columns.proofs.SpellsLaws.{columns-spell, spells-read}
 use Rattle.columns.proofs.Meant.{listsIn}
+use Rattle.columns.proofs.WalkLaws.{walk-through}
 
 -- the number of words
 pub count-checked : (s : List ℕ) (line n count : ℕ) (c : Check) → count ≡ wordCount s line → c ≡ wordsCheck s line count n (leb n count) → c ≡ countCheck s line n
 unfolding countCheck
 count-checked s line n count c e h = rw (← e) h
+
+pub count-of : (s : List ℕ) (line n : ℕ) → countCheck s line n ≡ Holds → wordCount s line ≡ n
+unfolding countCheck
+count-of s line n e =
+    let a = words-hold s line (wordCount s line) n (leb n (wordCount s line)) e in
+    omega (arith, a .0, leb-true n (wordCount s line) (a .1))
+
+pub count-is : (s : List ℕ) (line n : ℕ) → wordCount s line ≡ n → countCheck s line n ≡ Holds
+unfolding countCheck
+count-is s line n e = sym (words-good s line (wordCount s line) n (leb n (wordCount s line)) (omega arith) (le-leb n (wordCount s line) (omega arith)))
+
+-- what was found, where the number of words is good
+module _ (s : List ℕ) (n : ℕ) (found : Columns) (c : Check) (ec : c ≡ countCheck s 0 n) where
+  pub first-refused : (y : Refusal) → c ≡ check.Refused y → Refused y ≡ thenLine (countCheck s 0 n) found
+  first-refused y q = rw (← ec, q)
+
+  pub first-good : c ≡ Holds → found ≡ thenLine (countCheck s 0 n) found
+  first-good q = rw (← ec, q)
 
 -- the columns, then the surplus line
 module _ (cs : List Kind) (s : List ℕ) (x : Columns) (o o′ l l′ : List ℕ) (first : ColumnsRead cs s 0 o o′ l l′ x) where
@@ -73,24 +95,82 @@ module _ (codes s out lists : List ℕ) (t : Check) (et : t ≡ textCheck s) whe
 
 pub ruleset lines = (line-text, line-count, line-read)
 
--- a text of one line is read exactly when its words spell values, and then as those values
 line-then : (c : Check) (rest : Columns) (e : ℕ) → thenLine c rest ≡ Next e → (c ≡ Holds) × (rest ≡ Next e)
 line-then Holds rest e q = (refl, q)
 line-then (check.Refused x) rest e q = absurd (let z : _≡_ {A = ℕ} 0 1 = cc in omega arith)
 
+-- the number of words and the columns in one walk
+module _ (codes s out out′ lists lists′ : List ℕ) (n : ℕ) (en : n ≡ min columnLimit (length codes)) (x : Columns) (walk : ColumnsWalked (tableOf codes) s 0 out out′ lists lists′ x) where
+  words-counted : (r : Columns) → r ≡ thenLine (countCheck s 0 n) x → WordsWalked (tableOf codes) s out out′ lists lists′ r
+  words-counted r er =
+      let good : (e : ℕ) → r ≡ Next e → x ≡ Next e = λ e p. line-then (countCheck s 0 n) x e (sym er ∙ p) .1 in
+      record {
+        result = rw (← table-length codes n en, ← (walk .result)) er;
+        stored = λ e p. walk .stored e (good e p);
+        held = λ e p. walk .held e (good e p);
+        line = λ e p. walk-through (tableOf codes) 0 s 0 e (sym (walk .result) ∙ good e p) .line;
+      }
+
+  pub words-refused : (y : Refusal) → x ≡ Refused y → (r : Columns) → r ≡ thenLine (countCheck s 0 n) (Refused y) → WordsWalked (tableOf codes) s out out′ lists lists′ r
+  words-refused y q r er = words-counted r (rw q er)
+
+  module _ (e : ℕ) (q : x ≡ Next e) (w : Extent) (ew : w ≡ nextWord s e) where
+    pub words-more : (r : Columns) → r ≡ thenLine (countCheck s 0 n) (Next e) → WordsWalked (tableOf codes) s out out′ lists lists′ r
+    words-more r er = words-counted r (rw q er)
+
+    pub words-all : w .start ≡ w .end → WordsWalked (tableOf codes) s out out′ lists lists′ (Next e)
+    words-all h =
+        let t = walk-through (tableOf codes) 0 s 0 e (sym (walk .result) ∙ q) in
+        let k : nextWord s e .start ≡ nextWord s e .end = rw ew at h in
+        let c : wordCount s 0 ≡ n = omega (arith, t .count, count-none s e k, table-length codes n en) in
+        words-counted (Next e) (rw (count-is s 0 n c, q))
+
+pub ruleset words = (words-refused, words-more, words-all)
+
+-- the whole text in one walk
+line-refused : (c : Check) (x : Columns) (d : Check) (y : Refusal) → thenLine c x ≡ Refused y → Refused y ≡ thenLine c (thenLast x d)
+line-refused Holds (Next e) d y q = absurd (let z : _≡_ {A = ℕ} 0 1 = cc in omega arith)
+line-refused Holds (Refused z) d y q = sym q
+line-refused (check.Refused z) x d y q = sym q
+
+module _ (cs : List Kind) (s out lists out′ lists′ : List ℕ) (t : Check) (et : t ≡ textCheck s) where
+  refused : (y : Refusal) → Refused y ≡ lineRead cs s → LineWalked cs s out out′ lists lists′ (Refused y)
+  refused y h = record {
+    result = h;
+    stored = λ e p. absurd (let z : _≡_ {A = ℕ} 0 1 = cc in omega arith);
+    held = λ e p. absurd (let z : _≡_ {A = ℕ} 0 1 = cc in omega arith);
+  }
+
+  pub text-text : (x : Refusal) → t ≡ check.Refused x → LineWalked cs s out out′ lists lists′ (Refused x)
+  unfolding lineRead
+  text-text x q = refused x (rw (← et, q))
+
+  module _ (q : t ≡ Holds) (x : Columns) (walk : WordsWalked cs s out out′ lists lists′ x) where
+    pub text-words : (y : Refusal) → x ≡ Refused y → LineWalked cs s out out′ lists lists′ (Refused y)
+    unfolding lineRead
+    text-words y p = refused y (rw (← et, q) (line-refused (countCheck s 0 (length cs)) (columnsFrom cs 0 s 0) (lastLineCheck s 0) y (sym (walk .result) ∙ p)))
+
+    module _ (e : ℕ) (p : x ≡ Next e) (c : Check) (ec : c ≡ lastLineCheck s e) where
+      both-read : (countCheck s 0 (length cs) ≡ Holds) × (columnsFrom cs 0 s 0 ≡ Next e)
+      both-read = line-then _ _ e (sym (walk .result) ∙ p)
+
+      last-is : lastLineCheck s 0 ≡ c
+      last-is = sym (ec ∙ last-as s e 0 (walk .line e p))
+
+      pub text-surplus : (y : Refusal) → c ≡ check.Refused y → LineWalked cs s out out′ lists lists′ (Refused y)
+      unfolding lineRead
+      text-surplus y h = refused y (rw (← et, q, both-read .0, both-read .1, last-is, h))
+
+      pub text-read : c ≡ Holds → LineWalked cs s out out′ lists lists′ (Next e)
+      unfolding lineRead
+      text-read h = record { result = rw (← et, q, both-read .0, both-read .1, last-is, h); stored = λ d r. walk .stored e p; held = λ d r. walk .held e p }
+
+pub ruleset texts = (text-text, text-words, text-surplus, text-read)
+
+-- a text of one line is read exactly when its words spell values, and then as those values
 last-then : (x : Columns) (c : Check) (e : ℕ) → thenLast x c ≡ Next e → (x ≡ Next e) × (c ≡ Holds)
 last-then (Next d) c e q = let a = line-then c (Next d) e q in (a .1, a .0)
 last-then (Refused x) c e q = absurd (let z : _≡_ {A = ℕ} 0 1 = cc in omega arith)
-
-pub count-of : (s : List ℕ) (line n : ℕ) → countCheck s line n ≡ Holds → wordCount s line ≡ n
-unfolding countCheck
-count-of s line n e =
-    let a = words-hold s line (wordCount s line) n (leb n (wordCount s line)) e in
-    omega (arith, a .0, leb-true n (wordCount s line) (a .1))
-
-pub count-is : (s : List ℕ) (line n : ℕ) → wordCount s line ≡ n → countCheck s line n ≡ Holds
-unfolding countCheck
-count-is s line n e = sym (words-good s line (wordCount s line) n (leb n (wordCount s line)) (omega arith) (le-leb n (wordCount s line) (omega arith)))
 
 -- what a line that is read shows
 pub record Found (cs : List Kind) (s : List ℕ) (e : ℕ) : Type 0 where

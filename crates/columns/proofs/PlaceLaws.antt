@@ -6,14 +6,13 @@ use Prim.Native.Nat.{ℕ, zero, suc, _+_, _-_, _*_, _≤_, _<_}
 use native.Mathlib.Omega.{arith}
 use lib.ListN.{length, set, getD, take, drop, length-take}
 use lib.Seq.{sets, length-sets, sets-eq, drop-set-add, take-set-le, take-at, drop-at}
-use Rattle.ledger.specs.Limits.{blockLimit}
 use Rattle.text.specs.Words.{nextWord, wordAt, bytesOf}
 use Rattle.numbers.specs.declared.Spelt.{Spelt}
 use Rattle.numbers.specs.declared.Spelt.the-variants.{Means, Faulty}
 use Rattle.kinds.specs.declared.Kind.{Kind}
-use Rattle.kinds.specs.Kinds.{spelt, itemsIn, countAfter, isList, pickBase, baseAfter}
+use Rattle.kinds.specs.Kinds.{spelt, itemsIn, countAfter, isList, pickBase, baseBy}
 use Rattle.columns.specs.declared.Columns.the-variants.{Next}
-use Rattle.columns.specs.Columns.{fieldOf, fieldFrom, thenColumns, columnsFrom, valuesFrom, listsFrom}
+use Rattle.columns.specs.Columns.{fieldOf, fieldFrom, thenColumns, columnsFrom, valuesFrom, listsBy}
 use Rattle.columns.specs.Spells.{firsts, seconds}
 use Rattle.columns.proofs.Meant.{Meant, meant-none, meant-more}
 use Rattle.columns.specs.Places.{kindAt, countBefore, baseBefore}
@@ -92,43 +91,43 @@ sets-there d base xs h =
     let l : length (take base d) ≡ base = rw length-take (omega arith) in
     rw (sets-eq xs d base h, append-assoc, drop-at (take base d) (xs ++ drop (base + length xs) d) base l) (take-at xs (drop (base + length xs) d) (length xs) refl)
 
-base-grows : (t : Bool) (base : ℕ) → base ≤ pickBase t base
-base-grows true base = omega arith
-base-grows false base = omega arith
+base-grows : (t : Bool) (stride base : ℕ) → base ≤ pickBase t stride base
+base-grows true stride base = omega arith
+base-grows false stride base = omega arith
 
 -- the lists of a line leave what stands before their base, and the length of the table
-pub lists-keep : (cs : List Kind) (n : ℕ) (s : List ℕ) (at e base : ℕ) (d : List ℕ) → columnsFrom cs n s at ≡ Next e → (b m : ℕ) → b + m ≤ base → take m (drop b (listsFrom cs n s at base d)) ≡ take m (drop b d)
-unfolding listsFrom fieldFrom
-lists-keep [] n s at e base d q b m h = refl
-lists-keep (c ∷ cs) n s at e base d q b m h =
+pub lists-keep : (stride : ℕ) (cs : List Kind) (n : ℕ) (s : List ℕ) (at e base : ℕ) (d : List ℕ) → columnsFrom cs n s at ≡ Next e → (b m : ℕ) → b + m ≤ base → take m (drop b (listsBy stride cs n s at base d)) ≡ take m (drop b d)
+unfolding listsBy fieldFrom
+lists-keep stride [] n s at e base d q b m h = refl
+lists-keep stride (c ∷ cs) n s at e base d q b m h =
     let f = head c cs n s at e q in
     let xs = itemsIn c (bytesOf s (nextWord s at)) in
     rw (f .says)
-    (lists-keep cs (countAfter c (f .value) n) s (nextWord s at .end) e (baseAfter c base) (sets d base xs) (f .rest) b m (omega (arith, base-grows (isList c) base)) ∙ sets-keep d base xs b m h)
+    (lists-keep stride cs (countAfter c (f .value) n) s (nextWord s at .end) e (baseBy stride c base) (sets d base xs) (f .rest) b m (omega (arith, base-grows (isList c) stride base)) ∙ sets-keep d base xs b m h)
 
-pub lists-length : (cs : List Kind) (n : ℕ) (s : List ℕ) (at e base : ℕ) (d : List ℕ) → columnsFrom cs n s at ≡ Next e → length (listsFrom cs n s at base d) ≡ length d
-unfolding listsFrom fieldFrom
-lists-length [] n s at e base d q = refl
-lists-length (c ∷ cs) n s at e base d q =
+pub lists-length : (stride : ℕ) (cs : List Kind) (n : ℕ) (s : List ℕ) (at e base : ℕ) (d : List ℕ) → columnsFrom cs n s at ≡ Next e → length (listsBy stride cs n s at base d) ≡ length d
+unfolding listsBy fieldFrom
+lists-length stride [] n s at e base d q = refl
+lists-length stride (c ∷ cs) n s at e base d q =
     let f = head c cs n s at e q in
     let xs = itemsIn c (bytesOf s (nextWord s at)) in
-    rw (f .says) (lists-length cs (countAfter c (f .value) n) s (nextWord s at .end) e (baseAfter c base) (sets d base xs) (f .rest) ∙ length-sets d base xs)
+    rw (f .says) (lists-length stride cs (countAfter c (f .value) n) s (nextWord s at .end) e (baseBy stride c base) (sets d base xs) (f .rest) ∙ length-sets d base xs)
 
 -- the list of column k stands at its place
-pub lists-at : (cs : List Kind) (n : ℕ) (s : List ℕ) (at e base : ℕ) (d : List ℕ) → columnsFrom cs n s at ≡ Next e → (k : ℕ) → k < length cs → isList (kindAt cs k) ≡ true → (m : ℕ)
-    → length (itemsIn (kindAt cs k) (bytesOf s (wordAt s at k))) ≡ m → m ≤ blockLimit → baseBefore cs base k + m ≤ length d
-    → take m (drop (baseBefore cs base k) (listsFrom cs n s at base d)) ≡ itemsIn (kindAt cs k) (bytesOf s (wordAt s at k))
-unfolding listsFrom fieldFrom wordAt
-lists-at [] n s at e base d q k h t m l small fits = absurd (omega arith)
-lists-at (c ∷ cs) n s at e base d q zero h t m l small fits =
+pub lists-at : (stride : ℕ) (cs : List Kind) (n : ℕ) (s : List ℕ) (at e base : ℕ) (d : List ℕ) → columnsFrom cs n s at ≡ Next e → (k : ℕ) → k < length cs → isList (kindAt cs k) ≡ true → (m : ℕ)
+    → length (itemsIn (kindAt cs k) (bytesOf s (wordAt s at k))) ≡ m → m ≤ stride → baseBefore stride cs base k + m ≤ length d
+    → take m (drop (baseBefore stride cs base k) (listsBy stride cs n s at base d)) ≡ itemsIn (kindAt cs k) (bytesOf s (wordAt s at k))
+unfolding listsBy fieldFrom wordAt
+lists-at stride [] n s at e base d q k h t m l small fits = absurd (omega arith)
+lists-at stride (c ∷ cs) n s at e base d q zero h t m l small fits =
     let f = head c cs n s at e q in
     let xs = itemsIn c (bytesOf s (nextWord s at)) in
-    let room : base + m ≤ baseAfter c base = rw t (omega arith) in
+    let room : base + m ≤ baseBy stride c base = rw t (omega arith) in
     let there : take m (drop base (sets d base xs)) ≡ xs = rw l at (sets-there d base xs (rw l fits)) in
-    rw (f .says) (lists-keep cs (countAfter c (f .value) n) s (nextWord s at .end) e (baseAfter c base) (sets d base xs) (f .rest) base m room ∙ there)
-lists-at (c ∷ cs) n s at e base d q (suc k) h t m l small fits =
+    rw (f .says) (lists-keep stride cs (countAfter c (f .value) n) s (nextWord s at .end) e (baseBy stride c base) (sets d base xs) (f .rest) base m room ∙ there)
+lists-at stride (c ∷ cs) n s at e base d q (suc k) h t m l small fits =
     let f = head c cs n s at e q in
     let xs = itemsIn c (bytesOf s (nextWord s at)) in
     let l′ : length (itemsIn (kindAt cs k) (bytesOf s (wordAt s (nextWord s at .end) k))) ≡ m = rw (word-later s at k) at l in
     rw (f .says, word-later s at k)
-    (lists-at cs (countAfter c (f .value) n) s (nextWord s at .end) e (baseAfter c base) (sets d base xs) (f .rest) k (omega arith) t m l′ small (rw length-sets fits))
+    (lists-at stride cs (countAfter c (f .value) n) s (nextWord s at .end) e (baseBy stride c base) (sets d base xs) (f .rest) k (omega arith) t m l′ small (rw length-sets fits))

@@ -7,7 +7,6 @@ use native.Mathlib.Omega.{arith}
 use native.Mathlib.Numerals.{add-one}
 use lib.ListN.{length, set, getD, take, drop, length-take, drop-of-length-le}
 use lib.Seq.{sets, drop-cons, take-all}
-use Rattle.ledger.specs.Limits.{blockLimit}
 use Rattle.ledger.specs.declared.Reason.{Reason}
 use Rattle.ledger.specs.declared.Refusal.{Refusal}
 use Rattle.text.specs.declared.Extent.{Extent}
@@ -16,21 +15,22 @@ use Rattle.text.proofs.Laws.{cut-bytes, either}
 use Rattle.numbers.specs.declared.Spelt.{Spelt}
 use Rattle.numbers.specs.declared.Spelt.the-variants.{Means, Faulty}
 use Rattle.kinds.specs.declared.Kind.{Kind}
-use Rattle.kinds.specs.Kinds.{kindOf, spelt, itemsIn, countAfter, isList, baseAfter, Spelled}
+use Rattle.kinds.specs.Kinds.{kindOf, spelt, itemsIn, countAfter, isList, baseBy, baseAfter, Spelled}
 use Rattle.columns.specs.declared.Field.{Field}
 use Rattle.columns.specs.declared.Field.the-variants.{Good, Bad}
 use Rattle.columns.specs.declared.Columns.{Columns}
 use Rattle.columns.specs.declared.Columns.the-variants.{Next, Refused}
-use Rattle.columns.specs.Columns.{columnLimit, tableOf, fieldOf, fieldFrom, columnsFrom, valuesFrom, listsFrom, FieldRead, ColumnsWalked, ColumnsRead}
+use Rattle.columns.specs.Columns.{columnLimit, tableOf, fieldOf, fieldFrom, columnsFrom, valuesFrom, listsBy, listsFrom, FieldRead, ColumnsWalked, ColumnsRead}
 
 pub pair-stored : (b b₁ b₂ : List ℕ) (i j v p : ℕ) → b₁ ≡ set b i v → b₂ ≡ set b₁ j p → b₂ ≡ set (set b i v) j p
 pair-stored b b₁ b₂ i j v p e f = rw (f, e)
 
-module _ (k : Kind) (t : Bool) (et : t ≡ isList k) (base : ℕ) where
-  pub base-list : t ≡ true → base + blockLimit ≡ baseAfter k base
+-- where the next list is stored, the lists standing so many numbers apart
+module _ (stride : ℕ) (k : Kind) (t : Bool) (et : t ≡ isList k) (base : ℕ) where
+  pub base-list : t ≡ true → base + stride ≡ baseBy stride k base
   base-list q = rw (← et, q)
 
-  pub base-other : t ≡ false → base ≡ baseAfter k base
+  pub base-other : t ≡ false → base ≡ baseBy stride k base
   base-other q = rw (← et, q)
 
 pub spell-cut : (k : Kind) (n : ℕ) (s : List ℕ) (w : Extent) (a e base : ℕ) (d d′ : List ℕ) (r : Spelt) → e ≡ min (w .end) (length s) → a ≡ min (w .start) e
@@ -79,7 +79,7 @@ module _ (table s : List ℕ) (from at n k : ℕ) where
 
   pub lists-done : (base : ℕ) (d₀ d : List ℕ) → listsFrom (map kindOf (drop k table)) n s at base d ≡ listsFrom (map kindOf table) 0 s from 0 d₀ → length table ≤ k
       → d ≡ listsFrom (map kindOf table) 0 s from 0 d₀
-  unfolding listsFrom
+  unfolding listsBy
   lists-done base d₀ d inv h = rw (drop-of-length-le table h) at inv
 
   module _ (h : k < length table) (kind : Kind) (ek : kind ≡ kindOf (getD table k 0)) (f : Field) (ef : f ≡ fieldFrom kind n s at) where
@@ -104,7 +104,7 @@ module _ (table s : List ℕ) (from at n k : ℕ) where
       pub lists-more : (base base′ : ℕ) (d₀ d d′ : List ℕ) → base′ ≡ baseAfter kind base → d′ ≡ sets d base (itemsIn kind (bytesOf s (nextWord s at)))
           → listsFrom (map kindOf (drop k table)) n s at base d ≡ listsFrom (map kindOf table) 0 s from 0 d₀
           → listsFrom (map kindOf (drop (k + 1) table)) n′ s (w .end) base′ d′ ≡ listsFrom (map kindOf table) 0 s from 0 d₀
-      unfolding listsFrom
+      unfolding listsBy
       lists-more base base′ d₀ d d′ eb st inv =
           let st′ : d′ ≡ sets d base (itemsIn kind (bytesOf s w)) = rw (field-word kind n s at v w (sym ef ∙ q)) st in
           rw (add-one k, en, eb, st′) (rw (drop-cons table k 0 h, ← ek, ← ef, q) at inv)
@@ -125,6 +125,9 @@ codes-length n codes e = rw length-take (omega arith)
 
 pub codes-few : (n : ℕ) (codes : List ℕ) → n ≡ min columnLimit (length codes) → length (take n codes) ≤ columnLimit
 codes-few n codes e = rw length-take (omega arith)
+
+pub walked-line : (codes s : List ℕ) (from n : ℕ) (b b′ d d′ : List ℕ) (r : Columns) → n ≡ min columnLimit (length codes) → ColumnsWalked (map kindOf (take n codes)) s from b b′ d d′ r → ColumnsWalked (tableOf codes) s from b b′ d d′ r
+walked-line codes s from n b b′ d d′ r en h = rw (codes-in n codes en) at h
 
 -- a walk that stores nothing, and the walk that stores
 module _ (codes s : List ℕ) (from n : ℕ) (en : n ≡ min columnLimit (length codes)) (o o′ l l′ : List ℕ) (x : Columns) (first : ColumnsWalked (map kindOf (take n codes)) s from o o′ l l′ x) where

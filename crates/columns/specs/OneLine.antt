@@ -13,7 +13,7 @@ use Rattle.text.specs.declared.Check.the-variants as check
 use Rattle.text.specs.Scan.{run}
 use Rattle.text.specs.Checks.{textCheck, lastLineCheck, wordsCheck}
 use Rattle.text.specs.Pieces.{linesOf, lineOf, wordsOf}
-use Rattle.text.specs.Words.{wordCount}
+use Rattle.text.specs.Words.{wordCount, lineEnd}
 use Rattle.kinds.specs.declared.Kind.{Kind}
 use Rattle.columns.specs.declared.Columns.{Columns}
 use Rattle.columns.specs.declared.Columns.the-variants.{Next, Refused}
@@ -59,3 +59,17 @@ pub record CountedRead (cs : List Kind) (s out out′ lists lists′ : List ℕ)
   pub result : r ≡ thenLast (columnsFrom cs 0 s 0) (lastLineCheck s 0)
   pub stored : out′ ≡ tableAfter r (sets out 0 (valuesFrom cs 0 s 0)) out
   pub held : lists′ ≡ tableAfter r (listsFrom cs 0 s 0 0 lists) lists
+
+-- the number of words and the columns in one walk: only an answer that is good says what the tables hold, and that it
+-- stands on the first line
+pub record WordsWalked (cs : List Kind) (s out out′ lists lists′ : List ℕ) (r : Columns) : Type 0 where
+  pub result : r ≡ thenLine (countCheck s 0 (length cs)) (columnsFrom cs 0 s 0)
+  pub stored : (e : ℕ) → r ≡ Next e → out′ ≡ sets out 0 (valuesFrom cs 0 s 0)
+  pub held : (e : ℕ) → r ≡ Next e → lists′ ≡ listsFrom cs 0 s 0 0 lists
+  pub line : (e : ℕ) → r ≡ Next e → lineEnd s e ≡ lineEnd s 0
+
+-- and the whole text
+pub record LineWalked (cs : List Kind) (s out out′ lists lists′ : List ℕ) (r : Columns) : Type 0 where
+  pub result : r ≡ lineRead cs s
+  pub stored : (e : ℕ) → r ≡ Next e → out′ ≡ sets out 0 (valuesFrom cs 0 s 0)
+  pub held : (e : ℕ) → r ≡ Next e → lists′ ≡ listsFrom cs 0 s 0 0 lists

@@ -4,7 +4,7 @@ use mathlib.Core.List.{List, [], _∷_}
 use lib.ListN.{getD}
 use Rattle.kinds.specs.declared.Kind.{Kind}
 use Rattle.kinds.specs.declared.Kind.the-variants.{Name}
-use Rattle.kinds.specs.Kinds.{countAfter, baseAfter}
+use Rattle.kinds.specs.Kinds.{countAfter, baseBy}
 
 -- the kind of column k
 abbrev pub kindAt : List Kind → ℕ → Kind
@@ -16,8 +16,8 @@ countBefore [] n vs j k = n
 countBefore (c ∷ cs) n vs j zero = n
 countBefore (c ∷ cs) n vs j (suc k) = countBefore cs (countAfter c (getD vs j 0) n) vs (suc j) k
 
--- where the list of column k is stored
-abbrev pub baseBefore : List Kind → ℕ → ℕ → ℕ
-baseBefore [] base k = base
-baseBefore (c ∷ cs) base zero = base
-baseBefore (c ∷ cs) base (suc k) = baseBefore cs (baseAfter c base) k
+-- where the list of column k is stored, the lists standing so many numbers apart
+abbrev pub baseBefore : ℕ → List Kind → ℕ → ℕ → ℕ
+baseBefore stride [] base k = base
+baseBefore stride (c ∷ cs) base zero = base
+baseBefore stride (c ∷ cs) base (suc k) = baseBefore stride cs (baseBy stride c base) k

@@ -4,18 +4,23 @@ ghost use Prim.Native.Nat.{_+_, _*_, _≤_, min};
 ghost use mathlib.Core.List.{map};
 ghost use lib.ListN.{length, set, getD};
 ghost use Rattle.ledger.specs.Limits.{nameLimit, blockLimit};
+ghost use Rattle.text.specs.declared.Class.the-variants.{Blank};
+ghost use Rattle.text.specs.Scan.{endOf};
 ghost use Rattle.text.specs.Words.{bytesOf};
 ghost use Rattle.writing.specs.Puts.{Put};
 ghost use Rattle.writing.specs.Answers.{Wrote};
-ghost use Rattle.kinds.specs.Kinds.{kindOf, spelt, itemsIn, baseAfter, Spelled};
-ghost use Rattle.columns.specs.Columns.{columnLimit, tableOf, FieldRead, ColumnsWalked, ColumnsRead};
-ghost use Rattle.columns.specs.OneLine.{countCheck, CountedRead, LineRead};
+ghost use Rattle.kinds.specs.declared.Kind.the-variants.{Number};
+ghost use Rattle.kinds.specs.Kinds.{kindOf, spelt, itemsIn, baseBy, baseAfter, Spelled};
+ghost use Rattle.columns.specs.Columns.{columnLimit, tableOf, FieldRead, FieldTaken, ColumnsWalked, ColumnsRead, fewBlocks, isLineEnd, WordTaken, QuickWalked};
+ghost use Rattle.columns.specs.OneLine.{countCheck, thenLine, CountedRead, LineRead, WordsWalked, LineWalked};
 ghost use Rattle.columns.specs.Names.{namesIn, lengthFits, allGraphic};
 ghost use Rattle.columns.specs.Lines.{gapOf, lineFrom, lineText, fedLine};
 use kinds::Kind;
+use kinds::Range;
 use ledger::Reason;
 use ledger::Refusal;
 use numbers::Spelt;
+use numbers::Taken;
 use text::Check;
 use text::Class;
 use text::Extent;
@@ -78,6 +83,50 @@ fn read_field(
             reason,
             place: w.start + off,
         }),
+    }
+}
+
+// A column taken alone: whether it is good, then its value, and where its word stands.
+pub struct Got {
+    pub good: bool,
+    pub value: u64,
+    pub start: usize,
+    pub end: usize,
+}
+
+// The word at or after a place, read as a column that is no list.
+pub fn take_field(kind: Kind, text: &[u8], at: usize) -> Got
+    ensures { λ r. ⌜ FieldTaken kind (now (text .entry)) at r ⌝ }
+{
+    let mut none = [0u64; 0];
+    match read_field(kind, 0, text, at, 0, &mut none) {
+        Field::Good(v, w) => Got {
+            good: true,
+            value: v,
+            start: w.start,
+            end: w.end,
+        },
+        Field::Bad(x) => Got {
+            good: false,
+            value: 0,
+            start: x.place,
+            end: x.place,
+        },
+    }
+}
+
+// The same of a number, in one pass over its digits; a number that is not good here may be one that has to be read with
+// more care.
+pub fn take_number(range: Range, text: &[u8], at: usize) -> Got
+    ensures { λ r. ⌜ FieldTaken (Number range) (now (text .entry)) at r ⌝ }
+{
+    let start = text::scan(text, at, Class::Blank);
+    let x = numbers::number_at(text, start, kinds::least_of(range), kinds::most_of(range));
+    Got {
+        good: x.good,
+        value: x.value,
+        start,
+        end: x.end,
     }
 }
 
@@ -154,6 +203,21 @@ pub fn read_columns(
         Columns::Refused(x) => Columns::Refused(x),
         Columns::Next(_) => walk_columns(text, from, &table[..n], out, lists),
     }
+}
+
+// The same in one walk, for a caller's own working room: a refusal may leave anything in both tables.
+pub fn walk_line(
+    text: &[u8],
+    from: usize,
+    table: &[u8],
+    out: &mut [u64],
+    lists: &mut [u64],
+) -> Columns
+    ensures { λ r. ⌜ ColumnsWalked (tableOf (now (table .entry))) (now (text .entry)) from (now (out .entry)) (now (out .exit))
+        (now (lists .entry)) (now (lists .exit)) r ⌝ }
+{
+    let n = least(COLUMN_LIMIT, table.len());
+    walk_columns(text, from, &table[..n], out, lists)
 }
 
 // What stands before column k: nothing before the first, then the separator.
@@ -276,6 +340,206 @@ pub fn read_line(text: &[u8], table: &[u8], out: &mut [u64], lists: &mut [u64]) 
             Check::Holds => read_counted(text, table, out, lists),
         },
     }
+}
+
+// What was found of the columns, where the number of words is good.
+fn count_first(text: &[u8], n: usize, found: Columns) -> Columns
+    ensures { λ r. ⌜ r ≡ thenLine (countCheck (now (text .entry)) 0 n) found ⌝ }
+{
+    match check_count(text, 0, n) {
+        Check::Refused(x) => Columns::Refused(x),
+        Check::Holds => found,
+    }
+}
+
+// The number of words and the columns of a text's first line in one walk, for a caller's own working room. A good walk
+// that no word follows has passed as many words as there are columns, so the words are counted in other cases only.
+pub fn walk_words(text: &[u8], table: &[u8], out: &mut [u64], lists: &mut [u64]) -> Columns
+    ensures { λ r. ⌜ WordsWalked (tableOf (now (table .entry))) (now (text .entry)) (now (out .entry)) (now (out .exit))
+        (now (lists .entry)) (now (lists .exit)) r ⌝ }
+{
+    let n = least(COLUMN_LIMIT, table.len());
+    match walk_line(text, 0, table, out, lists) {
+        Columns::Refused(x) => count_first(text, n, Columns::Refused(x)),
+        Columns::Next(e) => {
+            let w = text::next_word(text, e);
+            if w.start == w.end {
+                return Columns::Next(e);
+            }
+            count_first(text, n, Columns::Next(e))
+        }
+    }
+}
+
+// Reads a text of one line by its table in one walk, for a caller's own working room: a refusal may leave anything in
+// both tables.
+pub fn walk_text(text: &[u8], table: &[u8], out: &mut [u64], lists: &mut [u64]) -> Columns
+    ensures { λ r. ⌜ LineWalked (tableOf (now (table .entry))) (now (text .entry)) (now (out .entry)) (now (out .exit))
+        (now (lists .entry)) (now (lists .exit)) r ⌝ }
+{
+    match text::check_text(text) {
+        Check::Refused(x) => Columns::Refused(x),
+        Check::Holds => match walk_words(text, table, out, lists) {
+            Columns::Refused(x) => Columns::Refused(x),
+            Columns::Next(e) => match text::check_last_line(text, e) {
+                Check::Refused(x) => Columns::Refused(x),
+                Check::Holds => Columns::Next(e),
+            },
+        },
+    }
+}
+
+// A line's words taken in one walk. Where they are good: how many there are, where the last of them ends, and where the line does.
+pub struct Quick {
+    pub good: bool,
+    pub count: usize,
+    pub last: usize,
+    pub end: usize,
+}
+
+// A short line's lists have room for so many numbers each.
+pub const FEW: usize = 64;
+
+// The word at or after a place, read as a column of a kind.
+fn quick_word(
+    kind: Kind,
+    count: u64,
+    text: &[u8],
+    at: usize,
+    base: usize,
+    lists: &mut [u64],
+) -> Taken
+    ensures { λ r. ⌜ WordTaken kind count (now (text .entry)) (endOf Blank (now (text .entry)) at) base (now (lists .entry))
+        (now (lists .exit)) r ⌝ }
+{
+    match read_field(kind, count, text, at, base, lists) {
+        Field::Good(value, w) => Taken {
+            good: true,
+            value,
+            end: w.end,
+        },
+        Field::Bad(_) => Taken {
+            good: false,
+            value: 0,
+            end: at,
+        },
+    }
+}
+
+// The same, a number in one pass over its digits; the word begins at a place.
+fn quick_field(
+    kind: Kind,
+    count: u64,
+    text: &[u8],
+    at: usize,
+    start: usize,
+    base: usize,
+    lists: &mut [u64],
+) -> Taken
+    requires { ⌜ start ≡ endOf Blank (now text) at ⌝ }
+    ensures { λ r. ⌜ WordTaken kind count (now (text .entry)) start base (now (lists .entry)) (now (lists .exit)) r ⌝ }
+{
+    match kind {
+        Kind::Number(r) => {
+            numbers::number_at(text, start, kinds::least_of(r), kinds::most_of(r))
+        }
+        Kind::Name => quick_word(kind, count, text, at, base, lists),
+        Kind::Count => quick_word(kind, count, text, at, base, lists),
+        Kind::Items(_) => quick_word(kind, count, text, at, base, lists),
+        Kind::Stranded(_) => quick_word(kind, count, text, at, base, lists),
+        Kind::Word(_) => quick_word(kind, count, text, at, base, lists),
+        Kind::Colour => quick_word(kind, count, text, at, base, lists),
+    }
+}
+
+// Whether a line ends at a place: there is a line feed, or the text's end.
+fn is_line_end(text: &[u8], at: usize) -> bool
+    ensures { λ r. ⌜ r ≡ isLineEnd (now (text .entry)) at ⌝ }
+{
+    if text.len() <= at {
+        return true;
+    }
+    text[at] == b'\n'
+}
+
+// Where the next list of a short line is stored.
+fn few_after(kind: Kind, base: usize) -> usize
+    requires { ⌜ base ≤ columnLimit * fewBlocks ⌝ }
+    ensures { λ r. ⌜ (r ≡ baseBy fewBlocks kind base) × (r ≤ base + fewBlocks) ⌝ }
+{
+    if kinds::is_list(kind) {
+        base + FEW
+    } else {
+        base
+    }
+}
+
+// The words of a line by the first of so many columns, as many as there are, storing values and lists as it goes.
+fn quick_columns(
+    text: &[u8],
+    from: usize,
+    table: &[u8],
+    out: &mut [u64],
+    lists: &mut [u64],
+) -> Quick
+    requires { ⌜ length (now table) ≤ columnLimit ⌝ }
+    ensures { λ r. ⌜ QuickWalked (map kindOf (now (table .entry))) (now (text .entry)) from (now (out .entry)) (now (out .exit))
+        (now (lists .entry)) (now (lists .exit)) r ⌝ }
+{
+    let mut at = from;
+    let mut count = 0;
+    let mut base = 0;
+    let mut k = 0;
+    while k < table.len() {
+        let start = text::scan(text, at, Class::Blank);
+        if is_line_end(text, start) {
+            return Quick {
+                good: true,
+                count: k,
+                last: at,
+                end: start,
+            };
+        }
+        let kind = kinds::kind_of(table[k]);
+        let x = quick_field(kind, count, text, at, start, base, lists);
+        if !x.good {
+            return Quick {
+                good: false,
+                count: k,
+                last: at,
+                end: start,
+            };
+        }
+        let v = x.value;
+        store_pair(out, k, v, start as u64);
+        count = kinds::count_after(kind, v, count);
+        base = few_after(kind, base);
+        at = x.end;
+        k += 1;
+    }
+    let end = text::scan(text, at, Class::Blank);
+    Quick {
+        good: is_line_end(text, end),
+        count: k,
+        last: at,
+        end,
+    }
+}
+
+// THE QUICK WAY through a line by a table of columns, of which the last may be left out: it may say yes, and then all of its words
+// are good. For a caller's own working room, lists of few numbers.
+pub fn quick_words(
+    text: &[u8],
+    from: usize,
+    table: &[u8],
+    out: &mut [u64],
+    lists: &mut [u64],
+) -> Quick
+    ensures { λ r. ⌜ QuickWalked (tableOf (now (table .entry))) (now (text .entry)) from (now (out .entry)) (now (out .exit))
+        (now (lists .entry)) (now (lists .exit)) r ⌝ }
+{
+    let n = least(COLUMN_LIMIT, table.len());
+    quick_columns(text, from, &table[..n], out, lists)
 }
 
 // Room for two names.

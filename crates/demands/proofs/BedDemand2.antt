@@ -4,33 +4,29 @@ use mathlib.Core.Bool.{true}
 use mathlib.Core.List.{List, []}
 use Prim.Native.Nat.{ℕ, _≤_}
 use native.Mathlib.Omega.{arith}
-use lib.ListN.{length, take, getD, List·getD-eq-default}
+use lib.ListN.{length, getD, List·getD-eq-default}
 use Rattle.ledger.specs.declared.Row.{Row}
 use Rattle.ledger.specs.Limits.{textLimit}
 use Rattle.text.specs.declared.Check.the-variants.{Holds}
 use Rattle.text.specs.declared.Class.the-variants.{Graphic}
-use Rattle.text.specs.Scan.{run}
 use Rattle.text.specs.Words.{wordCount}
 use Rattle.text.proofs.Laws.{either}
-use Rattle.columns.specs.Columns.{valuesFrom}
-use Rattle.columns.specs.Spells.{firsts}
 use Rattle.text.specs.Pieces.{lineOf, wordsOf}
 use Rattle.text.specs.Parts.{partIn, partBytes}
-use Rattle.text.proofs.TextLaws.{All, both}
+use Rattle.text.proofs.TextLaws.{All}
 use Rattle.writing.specs.Answers.{roomAnswer}
-use Rattle.blocks.specs.Blocks.{countFits, rowsOf, rowNumbersFit}
 use Rattle.blocks.specs.Blocks.{shifted, sumsFrom}
 use Rattle.blocks.specs.Rows.{tableOf, targetsOf, queriesOf, sizesOf}
 use Rattle.bed.specs.declared.Bed.{Bed}
 use Rattle.bed.specs.declared.BedAnswer.the-variants.{Accepted}
-use Rattle.bed.specs.Records.{bedTargets, bedQueries, bedSizes, bedStarts, bedRows}
+use Rattle.bed.specs.Records.{bedTargets, bedQueries, bedSizes, bedRows}
 use Rattle.bed.specs.Read.{bedRead, bedCheck}
-use Rattle.bed.specs.Table.{bedColumns}
 use Rattle.bed.specs.Rules.{BedLine, BedRules, named, placed}
-use Rattle.bed.specs.Tests.{namesFit, strandFits, fieldsFit, spansFit, rowsFit, bedValid}
+use Rattle.bed.specs.Tests.{strandFits, fieldsFit, spansFit, rowsFit, bedValid}
 use Rattle.bed.specs.Write.{namesShow, writeCheck, bedText, bedWrite, recordCheck}
 use Rattle.bed.proofs.LineLaws.{line-sizes, line-starts, line-of, line-is}
 use Rattle.bed.proofs.RuleLaws.{rules-of, rules-is}
+use Rattle.bed.proofs.StandardLaws.{valid-writes, chrom-shows, name-shows}
 use Rattle.bed.proofs.BackLaws.{back-chrom, back-name}
 use Rattle.demands.specs.Formats.{Names}
 use Rattle.demands.specs.Demand2.{Demand2}
@@ -39,13 +35,11 @@ use Rattle.rows.proofs.ReaderLaws.{read-of}
 use Rattle.table_bed.proofs.RowLaws.{bed-reads}
 use Rattle.table_bed.specs.Rows.{RowsRead, rowsFilled}
 use Rattle.table_bed.proofs.TableLaws.{left-valid, back-rows}
-use Rattle.columns.proofs.Meant.{listsIn}
-use Rattle.demands.proofs.NameLaws.{part-shows, name-word, name-handed, handed-in}
+use Rattle.columns.proofs.PartLaws.{name-word, name-handed, handed-in}
 use Rattle.demands.proofs.RowLaws.{holds-if}
 use Rattle.demands.proofs.FormatLaws.{Shown, demand2-of}
 use Rattle.demands.proofs.FormatLaws as demands
 use Rattle.demands.proofs.LengthLaws.{bed-short}
-use Rattle.columns.proofs.WordLaws.{graphic-all}
 
 -- the test of a record sees only the lengths of its names
 valid-named : (r : Bed) (ns : Names) (ts qs zs : List ℕ) → length (ns .first) ≡ r .chrom .length → length (ns .second) ≡ r .name .length → bedValid r ts qs zs ≡ true → bedValid (named r (ns .first) (ns .second)) ts qs zs ≡ true
@@ -54,35 +48,13 @@ valid-named r ns ts qs zs e f h = rw (e, f) h
 
 -- a valid record passes the writer's checks
 passes : (r : Bed) (ns : Names) (ts qs zs : List ℕ) → BedRules (named r (ns .first) (ns .second)) ts qs zs → All Graphic (ns .first) → All Graphic (ns .second) → writeCheck r (ns .first) (ns .second) ts qs zs ≡ Holds
-unfolding writeCheck namesShow bedValid strandFits fieldsFit spansFit rowsFit
-passes r ns ts qs zs k c d =
-    let n = r .blockCount in
-    let v = rules-is (named r (ns .first) (ns .second)) ts qs zs k in
-    let count = both (countFits n (rowsOf ts qs zs)) _ v in
-    let names = both (namesFit (r .words) (length (ns .first)) (length (ns .second))) _ (count .1) in
-    let strand = both (strandFits (named r (ns .first) (ns .second))) _ (names .1) in
-    let fields = both (fieldsFit (named r (ns .first) (ns .second))) _ (strand .1) in
-    let numbers = both (rowNumbersFit (take n ts) (take n qs) (take n zs)) _ (fields .1) in
-    let spans = both (spansFit (named r (ns .first) (ns .second))) (rowsFit (named r (ns .first) (ns .second)) (take n ts) (take n qs) (take n zs)) (numbers .1) in
-    rw (count .0, names .0, graphic-all (ns .first) c, graphic-all (ns .second) d, strand .0, fields .0, numbers .0, spans .0, spans .1)
+unfolding writeCheck namesShow strandFits fieldsFit spansFit rowsFit
+passes r ns ts qs zs k c d = let q = named r (ns .first) (ns .second) in valid-writes q (ns .first) (ns .second) ts qs zs (rules-is q ts qs zs k) refl refl c d
 
 -- ---- an accepted line: its names, and its rows
 module _ (s : List ℕ) (r : Bed) (ok : bedCheck s ≡ Accepted r) where
-  said : BedLine s (firsts (valuesFrom (take (wordCount s 0) bedColumns) 0 s 0)) (listsIn (take (wordCount s 0) bedColumns) (wordsOf (lineOf s))) r (bedStarts s r) (bedSizes s r)
-  said = line-of s r ok
-
-  chrom-shows : (All Graphic (partBytes s (r .chrom))) × (length (partBytes s (r .chrom)) ≡ r .chrom .length)
-  chrom-shows = rw (said .chrom) (part-shows s (said .allowed) 0)
-
-  none-shows : (All Graphic (partBytes s (record { start = length s; length = 0 }))) × (length (partBytes s (record { start = length s; length = 0 })) ≡ 0)
-  unfolding partBytes run
-  none-shows = (refl, refl)
-
-  name-shows : (All Graphic (partBytes s (r .name))) × (length (partBytes s (r .name)) ≡ r .name .length)
-  name-shows = either (r .words) 3 _ (λ h. rw (said .noName h) none-shows) (λ h. rw (said .name h) (part-shows s (said .allowed) 3))
-
   names-valid : (ts qs zs : List ℕ) → bedValid r ts qs zs ≡ true → bedValid (named r (bedNames s r .first) (bedNames s r .second)) ts qs zs ≡ true
-  names-valid ts qs zs v = valid-named r (bedNames s r) ts qs zs (chrom-shows .1) (name-shows .1) v
+  names-valid ts qs zs v = valid-named r (bedNames s r) ts qs zs (chrom-shows s r ok .1) (name-shows s r ok .1) v
 
 -- and the table that it left
 left : (s : List ℕ) (before after : List Row) (r : Bed) → RowsRead s before after (Accepted r) → BedValid r (bedNames s r) after

@@ -36,7 +36,7 @@ use Rattle.rows.proofs.ReaderLaws.{read-of}
 use Rattle.table_chain.proofs.RowLaws.{chain-reads}
 use Rattle.table_chain.specs.Rows.{RowsRead, rowsFilled}
 use Rattle.table_chain.proofs.TableLaws.{left-valid, back-rows}
-use Rattle.demands.proofs.NameLaws.{part-shows, name-word, name-handed}
+use Rattle.columns.proofs.PartLaws.{part-shows, name-word, name-handed}
 use Rattle.demands.proofs.RowLaws.{holds-if}
 use Rattle.demands.proofs.FormatLaws.{Shown, demand2-of}
 use Rattle.demands.proofs.FormatLaws as demands

@@ -1,7 +1,6 @@
 pub mod RowLaws
 pub mod LengthLaws
 pub mod PlaceLaws
-pub mod NameLaws
 pub mod TextPlaceLaws
 pub mod FormatLaws
 pub mod BedDemand2

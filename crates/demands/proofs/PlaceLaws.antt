@@ -7,7 +7,6 @@ use native.Mathlib.Omega.{arith}
 use native.Mathlib.Nat.{le-refl}
 use lib.ListN.{length, drop, getD, length-take, length-drop}
 use lib.Dec.{leb, eqb}
-use borrow.Author.Tests.{lt-ltb, le-ltb}
 use Rattle.ledger.specs.declared.Reason.{Reason}
 use Rattle.ledger.specs.declared.Reason.the-variants.{TextTooLong, WrongCount, ByteNotAllowed, NumberMisspelt, NumberOutOfRange, BadWord, ListLength}
 use Rattle.ledger.specs.Limits.{textLimit, nameLimit, colourLimit}
@@ -21,8 +20,7 @@ use Rattle.text.specs.Scan.{isIn, endOf}
 use Rattle.text.specs.Pieces.{pickPieces, onto, piecesOf, nonEmpty, wordsOf}
 use Rattle.text.specs.Words.{lineEnd, nextLine, nextWord, wordAt, bytesOf}
 use Rattle.text.specs.Checks.{require, textCheck, wordsCheck, lastLineCheck}
-use Rattle.text.proofs.CheckLaws.{run-most}
-use Rattle.text.proofs.Laws.{either}
+use Rattle.text.proofs.ShowLaws.{scan-in, next-in, word-in, line-in}
 use Rattle.numbers.specs.declared.Spelt.{Spelt}
 use Rattle.numbers.specs.declared.Spelt.the-variants.{Means, Faulty}
 use Rattle.numbers.specs.Spelling.{faultIn}
@@ -39,27 +37,6 @@ use Rattle.columns.specs.declared.Columns.the-variants as columns
 use Rattle.columns.specs.Columns.{fieldOf, fieldFrom, thenColumns, columnsFrom, thenNumbers, valuesFrom}
 use Rattle.columns.specs.OneLine.{countCheck, thenLine, thenLast, lineRead}
 use Rattle.demands.proofs.LengthLaws.{spread}
-
--- ---- the words of a text stand in it
-module _ (s : List ℕ) where
-  scan-in : (c : Class) (i : ℕ) → i ≤ length s → endOf c s i ≤ length s
-  unfolding endOf
-  scan-in c i h = omega (arith, run-most c (drop i s), length-drop i s)
-
-  pub next-in : (i : ℕ) → i ≤ length s → (nextWord s i .start ≤ length s) × (nextWord s i .end ≤ length s)
-  unfolding nextWord
-  next-in i h = (scan-in Blank i h, scan-in Word (endOf Blank s i) (scan-in Blank i h))
-
-  pub word-in : (line k : ℕ) → line ≤ length s → (wordAt s line k .start ≤ length s) × (wordAt s line k .end ≤ length s)
-  unfolding wordAt
-  word-in line zero h = next-in line h
-  word-in line (suc k) h = next-in (wordAt s line k .end) (word-in line k h .1)
-
-  pub line-in : (line : ℕ) → line ≤ length s → nextLine s line ≤ length s
-  unfolding nextLine lineEnd
-  line-in line h = either (length s) (endOf Line s line) _
-      (λ k. rw (le-ltb (endOf Line s line) (length s) k) (scan-in Line line h))
-      (λ k. rw (lt-ltb (endOf Line s line) (length s) k) (omega arith))
 
 -- ---- where a check is refused
 abbrev pub placeOf : Check → ℕ

@@ -39,7 +39,7 @@ use Rattle.table_psl.proofs.RowLaws.{psl-reads}
 use Rattle.table_psl.specs.Rows.{RowsRead, rowsFilled}
 use Rattle.table_psl.proofs.TableLaws.{left-valid, back-rows}
 use Rattle.columns.proofs.Meant.{listsIn}
-use Rattle.demands.proofs.NameLaws.{part-shows, name-word, name-handed}
+use Rattle.columns.proofs.PartLaws.{part-shows, name-word, name-handed}
 use Rattle.demands.proofs.RowLaws.{holds-if}
 use Rattle.demands.proofs.FormatLaws.{Shown, demand2-of}
 use Rattle.demands.proofs.FormatLaws as demands

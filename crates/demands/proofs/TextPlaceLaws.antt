@@ -52,7 +52,8 @@ use Rattle.chain.specs.declared.Lines.the-variants as lines
 use Rattle.chain.specs.Table.{chainColumns, blockColumns}
 use Rattle.chain.specs.Records.{chainRecord}
 use Rattle.chain.specs.Read as chain
-use Rattle.demands.proofs.PlaceLaws.{next-in, line-in, placeOf, required, text-place, words-place, last-place, columnsPlace, columns-place, values-place, line-place}
+use Rattle.text.proofs.ShowLaws.{next-in, line-in}
+use Rattle.demands.proofs.PlaceLaws.{placeOf, required, text-place, words-place, last-place, columnsPlace, columns-place, values-place, line-place}
 
 -- ---- BED
 abbrev pub bedPlace : BedAnswer → ℕ

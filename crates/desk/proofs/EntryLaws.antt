@@ -83,6 +83,10 @@ module _ (s : List ℕ) (x : PslAnswer) (r : ℕ) where
   unfolding checkedPsl
   check-psl-accepted a f e q = rw (sym f ∙ e) q
 
+pub parse-psl-refused : (s b : List ℕ) (x : PslAnswer) (y : Refusal) (r : ℕ) → x ≡ pslCheck s → x ≡ psl.Refused y → r ≡ refusalCode y → Answered (parsedPsl s (length b)) b b r
+unfolding parsedPsl
+parse-psl-refused s b x y r f e q = rw (sym f ∙ e) (refused-is y b r q)
+
 module _ (s ts qs zs b : List ℕ) (x : PslAnswer) (f : PslStaged s ts qs zs x) where
   pub psl-refused : (rest : Psl → Outcome) (y : Refusal) (r : ℕ) → x ≡ psl.Refused y → r ≡ refusalCode y → Answered (ofPsl (pslCheck s) rest) b b r
   psl-refused rest y r e q = rw (sym (f .is) ∙ e) (refused-is y b r q)
@@ -110,6 +114,10 @@ module _ (s : List ℕ) (x : ChainAnswer) (r : ℕ) where
   pub check-chain-accepted : (a : Chain) → x ≡ chainCheck s → x ≡ chain.Accepted a → r ≡ told (a .blockCount) → r ≡ checkedChain s .answer
   unfolding checkedChain
   check-chain-accepted a f e q = rw (sym f ∙ e) q
+
+pub parse-chain-refused : (s b : List ℕ) (x : ChainAnswer) (y : Refusal) (r : ℕ) → x ≡ chainCheck s → x ≡ chain.Refused y → r ≡ refusalCode y → Answered (parsedChain s (length b)) b b r
+unfolding parsedChain
+parse-chain-refused s b x y r f e q = rw (sym f ∙ e) (refused-is y b r q)
 
 module _ (s ts qs zs b : List ℕ) (x : ChainAnswer) (f : ChainStaged s ts qs zs x) where
   pub chain-refused : (rest : Chain → Outcome) (y : Refusal) (r : ℕ) → x ≡ chain.Refused y → r ≡ refusalCode y → Answered (ofChain (chainCheck s) rest) b b r

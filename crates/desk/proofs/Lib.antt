@@ -8,3 +8,4 @@ pub mod TallyLaws
 pub mod TurnLaws
 pub mod Vectors
 pub mod QuietLaws
+pub mod QuickLaws

@@ -1,10 +1,10 @@
--- Lifts, the tally and the turn of a chain's text. Assumes nothing.
-use mathlib.Core.Path.{_≡_, sym, ap, _∙_}
+-- Lifts through a chain's text. Assumes nothing.
+use mathlib.Core.Path.{_≡_, refl, sym, ap, _∙_}
 use mathlib.Core.Bool.{Bool, true, false}
 use mathlib.Core.List.{List, [], _∷_}
 use Prim.Native.Nat.{ℕ, zero, suc, _+_, _-_, _^_, _≤_, _<_}
 use native.Mathlib.Omega.{arith}
-use lib.ListN.{length, take}
+use lib.ListN.{length}
 use lib.Dec.{ltb}
 use lib.IntN.{ℤ, pos, _-ℤ_}
 use borrow.Author.Tests.{lt-ltb, le-ltb}
@@ -12,10 +12,11 @@ use Rattle.ledger.specs.declared.Row.{Row}
 use Rattle.ledger.specs.declared.Refusal.{Refusal}
 use Rattle.ledger.specs.declared.Reason.the-variants.{BlockRules, OutsideTarget}
 use Rattle.ledger.specs.Limits.{largestNumber}
-use Rattle.blocks.specs.Rows.{tableOf}
 use Rattle.chain.specs.declared.Chain.{Chain}
 use Rattle.chain.specs.declared.ChainAnswer.{ChainAnswer}
 use Rattle.chain.specs.declared.ChainAnswer.the-variants as chain
+use Rattle.chain.specs.Records.{chainRows}
+use Rattle.chain.specs.Read.{chainCheck}
 use Rattle.lift.specs.declared.Partner.{Partner}
 use Rattle.lift.specs.declared.Partner.the-variants.{Base, Alone}
 use Rattle.lift.specs.declared.PositionAnswer.{PositionAnswer}
@@ -23,15 +24,14 @@ use Rattle.lift.specs.declared.PositionAnswer.the-variants as position
 use Rattle.lift.specs.Accepted.{accepted}
 use Rattle.lift.specs.Pairs.{pairs, partnerOf}
 use Rattle.lift.specs.Positions.{ifLifted, atPartner, liftPosition}
+use Rattle.lift.specs.Texts.{ofChecked, textPosition}
 use Rattle.region.specs.declared.Region.{Region}
 use Rattle.region.specs.declared.RegionAnswer.{RegionAnswer}
 use Rattle.region.specs.declared.RegionAnswer.the-variants as region
-use Rattle.region.specs.Regions.{liftRegion}
-use Rattle.answers.specs.Answers.{refusalCode, Answered, numbered}
-use Rattle.desk.specs.Records.{ChainStaged}
-use Rattle.desk.specs.Entries.{inWord, ofPosition, positionLifted, ofRegion, regionLifted}
+use Rattle.region.specs.Regions.{liftRegion, textLifted}
+use Rattle.answers.specs.Answers.{refusalCode, Outcome, Answered, refuses, numbered}
+use Rattle.desk.specs.Entries.{inWord, ofChain, ofPosition, positionLifted, ofRegion, regionLifted}
 use Rattle.answers.proofs.AnswerLaws.{refused-is}
-use Rattle.desk.proofs.EntryLaws.{chain-accepted}
 
 -- partner minus position in a word
 pub drift-below : (p q : ℕ) → q < p → p < 2 ^ 64 → largestNumber - (p - q) + 1 ≡ inWord (pos q -ℤ pos p)
@@ -56,33 +56,44 @@ drift-of c rows p q d e = go (accepted c rows) (ltb p (c .tSize)) (partnerOf p (
         let y : pos b -ℤ pos p ≡ d = cc in
         sym y ∙ ap (λ (n : ℕ). pos n -ℤ pos p) z
 
-module _ (end : ℕ) (b : List ℕ) where
-  pub position-refused : (l x : PositionAnswer) (y : Refusal) (r : ℕ) → x ≡ l → x ≡ position.Refused y → r ≡ refusalCode y → Answered (ofPosition l end (length b)) b b r
-  position-refused l x y r f e q = rw (sym f ∙ e) (refused-is y b r q)
+text-drift : (s : List ℕ) (p q : ℕ) (d : ℤ) → textPosition s p ≡ position.Lifted q d → d ≡ pos q -ℤ pos p
+unfolding textPosition
+text-drift s p q d e = go (chainCheck s) e
+  where
+    go : (x : ChainAnswer) → ofChecked position.Refused (λ c. liftPosition c (chainRows s c) p) x ≡ position.Lifted q d → d ≡ pos q -ℤ pos p
+    go (chain.Accepted c) h = drift-of c (chainRows s c) p q d h
+    go (chain.Refused x) h = absurd (let z : _≡_ {A = ℕ} 0 1 = cc in omega arith)
 
-  pub position-lifted : (c : Chain) (rows : List Row) (p : ℕ) (x : PositionAnswer) (q : ℕ) (d : ℤ) (w : ℕ) (b′ : List ℕ) (r : ℕ) → x ≡ liftPosition c rows p → x ≡ position.Lifted q d
-      → w ≡ inWord (pos q -ℤ pos p) → Answered (numbered end (length b) (q ∷ w ∷ [])) b b′ r → Answered (ofPosition (liftPosition c rows p) end (length b)) b b′ r
-  position-lifted c rows p x q d w b′ r f e k g =
-      let h : liftPosition c rows p ≡ position.Lifted q d = sym f ∙ e in
-      let m : w ≡ inWord d = k ∙ ap inWord (sym (drift-of c rows p q d h)) in
-      rw (h, ← m) g
+-- what is answered to a chain's text, where a refusal of the text is answered as one of the lift
+checked-told : {A : Type 0} (of : A → Outcome) (refused : Refusal → A) (rest : Chain → A) → ((y : Refusal) → of (refused y) ≡ refuses y) → (x : ChainAnswer)
+    → ofChain x (λ c. of (rest c)) ≡ of (ofChecked refused rest x)
+checked-told of refused rest h (chain.Accepted c) = refl
+checked-told of refused rest h (chain.Refused x) = sym (h x)
 
-  pub region-refused : (l x : RegionAnswer) (y : Refusal) (r : ℕ) → x ≡ l → x ≡ region.Refused y → r ≡ refusalCode y → Answered (ofRegion l end (length b)) b b r
-  region-refused l x y r f e q = rw (sym f ∙ e) (refused-is y b r q)
+-- a position through a chain's text
+position-told : (s : List ℕ) (p room : ℕ) → positionLifted s p room ≡ ofPosition (textPosition s p) (length s) room
+unfolding positionLifted textPosition
+position-told s p room = checked-told (λ l. ofPosition l (length s) room) position.Refused (λ c. liftPosition c (chainRows s c) p) (λ y. refl) (chainCheck s)
 
-  pub region-lifted : (l x : RegionAnswer) (y : Region) (b′ : List ℕ) (r : ℕ) → x ≡ l → x ≡ region.Lifted y
-      → Answered (numbered end (length b) (y .kept ∷ y .dropped ∷ y .start ∷ y .end ∷ [])) b b′ r → Answered (ofRegion l end (length b)) b b′ r
-  region-lifted l x y b′ r f e g = rw (sym f ∙ e) g
+module _ (s b : List ℕ) (p : ℕ) (x : PositionAnswer) (f : x ≡ textPosition s p) where
+  pub position-refused : (y : Refusal) (r : ℕ) → x ≡ position.Refused y → r ≡ refusalCode y → Answered (positionLifted s p (length b)) b b r
+  position-refused y r e q = rw (position-told s p (length b), sym f ∙ e) (refused-is y b r q)
 
--- from a chain's text
-module _ (s ts qs zs b : List ℕ) (x : ChainAnswer) (f : ChainStaged s ts qs zs x) (a : Chain) (e : x ≡ chain.Accepted a) (b′ : List ℕ) (r : ℕ) where
-  abbrev rows : List Row
-  rows = tableOf (take (a .blockCount) ts) (take (a .blockCount) qs) (take (a .blockCount) zs)
+  pub position-lifted : (q : ℕ) (d : ℤ) (w : ℕ) (b′ : List ℕ) (r : ℕ) → x ≡ position.Lifted q d → w ≡ inWord (pos q -ℤ pos p)
+      → Answered (numbered (length s) (length b) (q ∷ w ∷ [])) b b′ r → Answered (positionLifted s p (length b)) b b′ r
+  position-lifted q d w b′ r e k g =
+      let h : textPosition s p ≡ position.Lifted q d = sym f ∙ e in
+      let m : w ≡ inWord d = k ∙ ap inWord (sym (text-drift s p q d h)) in
+      rw (position-told s p (length b), h, ← m) g
 
-  pub position-answered : (p : ℕ) → Answered (ofPosition (liftPosition a rows p) (length s) (length b)) b b′ r → Answered (positionLifted s p (length b)) b b′ r
-  unfolding positionLifted
-  position-answered p g = chain-accepted s ts qs zs b x f (λ c l. ofPosition (liftPosition c l p) (length s) (length b)) a b′ r e g
+-- a region through a chain's text
+region-told : (s : List ℕ) (start end room : ℕ) → regionLifted s start end room ≡ ofRegion (textLifted s start end) (length s) room
+unfolding regionLifted textLifted
+region-told s start end room = checked-told (λ l. ofRegion l (length s) room) region.Refused (λ c. liftRegion c (chainRows s c) start end) (λ y. refl) (chainCheck s)
 
-  pub region-answered : (start end : ℕ) → Answered (ofRegion (liftRegion a rows start end) (length s) (length b)) b b′ r → Answered (regionLifted s start end (length b)) b b′ r
-  unfolding regionLifted
-  region-answered start end g = chain-accepted s ts qs zs b x f (λ c l. ofRegion (liftRegion c l start end) (length s) (length b)) a b′ r e g
+module _ (s b : List ℕ) (start end : ℕ) (x : RegionAnswer) (f : x ≡ textLifted s start end) where
+  pub region-refused : (y : Refusal) (r : ℕ) → x ≡ region.Refused y → r ≡ refusalCode y → Answered (regionLifted s start end (length b)) b b r
+  region-refused y r e q = rw (region-told s start end (length b), sym f ∙ e) (refused-is y b r q)
+
+  pub region-lifted : (y : Region) (b′ : List ℕ) (r : ℕ) → x ≡ region.Lifted y → Answered (numbered (length s) (length b) (y .kept ∷ y .dropped ∷ y .start ∷ y .end ∷ [])) b b′ r → Answered (regionLifted s start end (length b)) b b′ r
+  region-lifted y b′ r e g = rw (region-told s start end (length b), sym f ∙ e) g

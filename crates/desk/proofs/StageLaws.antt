@@ -1,10 +1,10 @@
 -- Reading into room for any record's blocks: the reader is then its text checker, and the rows stand at the front. Assumes nothing.
 use mathlib.Core.Path.{_≡_, sym, ap, _∙_}
 use mathlib.Core.List.{List, _++_}
-use Prim.Native.Nat.{ℕ, _+_, _≤_}
+use Prim.Native.Nat.{ℕ, _+_, _*_, _≤_}
 use native.Mathlib.Omega.{arith}
-use lib.ListN.{length, take, drop}
-use lib.Seq.{sets, sets-eq, length-sets, take-append-seam}
+use lib.ListN.{length, take, drop, length-take, length-drop}
+use lib.Seq.{sets, sets-eq, length-sets, take-append-seam, take-take}
 use Rattle.ledger.specs.Limits.{blockLimit}
 use Rattle.ledger.specs.declared.Refusal.{Refusal}
 use Rattle.blocks.specs.Blocks.{rowsOf}
@@ -27,7 +27,7 @@ use Rattle.table_chain.proofs.RowLaws.{chain-reads}
 use Rattle.desk.specs.Records.{Staging, Held, BedStaged, PslStaged, ChainStaged}
 
 -- what was stored at the front stands there
-front : (n : ℕ) (xs b : List ℕ) → length xs ≡ n → n ≤ length b → take n (sets b 0 xs) ≡ xs
+pub front : (n : ℕ) (xs b : List ℕ) → length xs ≡ n → n ≤ length b → take n (sets b 0 xs) ≡ xs
 front n xs b e h =
     let s : sets b 0 xs ≡ xs ++ drop (0 + length xs) b = sets-eq xs b 0 (omega arith) in
     rw (s, ← e) (take-append-seam xs (drop (0 + length xs) b))
@@ -97,3 +97,40 @@ module _ (s b₁ ts b₂ qs b₃ zs : List ℕ) (st : Staging b₁ b₂ b₃) wh
         (f .queries ∙ ap (λ (y : ChainAnswer). chain-read.rowsAfter y (chainQueries s) b₂) e)
         (f .sizes ∙ ap (λ (y : ChainAnswer). chain-read.rowsAfter y (chainSizes s) b₃) e);
   }
+
+-- the working rooms of two readers as three parts
+part-length : (l : List ℕ) (at : ℕ) → length l ≡ 3 * blockLimit → at ≤ 2 * blockLimit → length (take blockLimit (drop at l)) ≡ blockLimit
+part-length l at e h = rw (length-take, length-drop) (omega arith)
+
+pub room-front : (l : List ℕ) → length l ≡ 3 * blockLimit → length (take blockLimit l) ≡ blockLimit
+room-front l e = rw length-take (omega arith)
+
+pub chain-parts : (s rows rows′ : List ℕ) (x : ChainAnswer) → chain-read.InRoom s rows rows′ x → length rows ≡ 3 * blockLimit
+    → ChainStaged s (take blockLimit rows′) (take blockLimit (drop blockLimit rows′)) (take blockLimit (drop (2 * blockLimit) rows′)) x
+chain-parts s rows rows′ x f l = record {
+  is = f .is;
+  held = λ r e.
+      let h = f .held l r e in
+      record {
+        few = h .few;
+        stage = record { targets = room-front rows′ (h .long); queries = part-length rows′ blockLimit (h .long) (omega arith); sizes = part-length rows′ (2 * blockLimit) (h .long) (omega arith) };
+        targets = take-take (r .blockCount) blockLimit rows′ (h .few) ∙ h .targets;
+        queries = take-take (r .blockCount) blockLimit (drop blockLimit rows′) (h .few) ∙ h .queries;
+        sizes = take-take (r .blockCount) blockLimit (drop (2 * blockLimit) rows′) (h .few) ∙ h .sizes;
+      };
+}
+
+pub psl-parts : (s lists lists′ : List ℕ) (x : PslAnswer) → psl-read.InRoom s lists lists′ x → length lists ≡ 3 * blockLimit
+    → PslStaged s (take blockLimit (drop (2 * blockLimit) lists′)) (take blockLimit (drop blockLimit lists′)) (take blockLimit lists′) x
+psl-parts s lists lists′ x f l = record {
+  is = f .is;
+  held = λ r e.
+      let h = f .held l r e in
+      record {
+        few = h .few;
+        stage = record { targets = part-length lists′ (2 * blockLimit) (h .long) (omega arith); queries = part-length lists′ blockLimit (h .long) (omega arith); sizes = room-front lists′ (h .long) };
+        targets = take-take (r .blockCount) blockLimit (drop (2 * blockLimit) lists′) (h .few) ∙ h .targets;
+        queries = take-take (r .blockCount) blockLimit (drop blockLimit lists′) (h .few) ∙ h .queries;
+        sizes = take-take (r .blockCount) blockLimit lists′ (h .few) ∙ h .sizes;
+      };
+}

@@ -1,19 +1,23 @@
 -- A writer's answer as an entry's: the text stands at the front of what was lent, or nothing was changed. Assumes nothing.
 use mathlib.Core.Path.{_≡_, refl, sym, _∙_}
-use mathlib.Core.List.{List}
+use mathlib.Core.List.{List, [], _∷_, _++_}
 use Prim.Native.Nat.{ℕ}
 use native.Mathlib.Omega.{arith}
-use lib.ListN.{length}
+use lib.ListN.{length, take, length-take}
 use borrow.Author.Tests.{eq-eqb, ne-eqb}
 use Rattle.ledger.specs.declared.Reason.the-variants.{NoRoom}
 use Rattle.ledger.specs.declared.Refusal.{Refusal}
 use Rattle.ledger.specs.Reasons.{reasonNumber}
+use Rattle.text.specs.declared.Class.the-variants.{Line}
+use Rattle.text.specs.Scan.{run, endOf}
+use Rattle.text.specs.Words.{lineEnd, LineEnd}
+use Rattle.text.specs.Pieces.{lineOf}
 use Rattle.text.specs.declared.Check.{Check}
 use Rattle.text.specs.declared.Check.the-variants.{Holds}
 use Rattle.text.specs.declared.Check.the-variants as check
 use Rattle.writing.specs.declared.Writing.{Writing}
 use Rattle.writing.specs.declared.Writing.the-variants as writing
-use Rattle.writing.specs.Answers.{roomAnswer, leftAfter}
+use Rattle.writing.specs.Answers.{roomAnswer, leftAfter, Wrote}
 use Rattle.writing.proofs.PutLaws.{room-granted}
 use Rattle.bed.specs.declared.Bed.{Bed}
 use Rattle.columns.specs.Lines.{thenWrite}
@@ -23,7 +27,7 @@ use Rattle.psl.specs.Write as psl-write
 use Rattle.chain.specs.declared.Chain.{Chain}
 use Rattle.chain.specs.Write as chain-write
 use Rattle.answers.specs.Answers.{told, refusalCode, Answered}
-use Rattle.desk.specs.Entries.{atEnd, written, nameBytes, bedWritten, pslWritten, chainWritten}
+use Rattle.desk.specs.Entries.{atEnd, written, copied, nameBytes, bedWritten, pslWritten, chainWritten}
 
 -- the place of a writer's refusal
 module _ (end : ℕ) (x : Refusal) (r m n : ℕ) (is : m ≡ reasonNumber (x .reason)) (room : n ≡ reasonNumber NoRoom) where
@@ -50,6 +54,18 @@ module _ (thenWrite : Check → Writing → Writing) (goes : (w : Writing) → t
       → r ≡ written end w bytes .answer → Answered (written end w bytes) b b′ r
   writes k end bytes b b′ (writing.Written n) r e l q = let f : length bytes ≡ n = full-length k (length bytes) (length b) n (sym e) in record { is = q; left = rw f l }
   writes k end bytes b b′ (writing.Refused x) r e l q = record { is = q; left = l }
+
+-- a text's line as it stands, and a feed
+pub line-part : (s : List ℕ) (e : ℕ) → LineEnd s 0 e → e ≡ length (take e s)
+line-part s e h = rw length-take (omega (arith, h .high))
+
+pub line-copied : (s b b′ : List ℕ) (e : ℕ) (w : Writing) (code : ℕ) → LineEnd s 0 e → Wrote (take e s ++ (10 ∷ [])) b b′ w → ((bytes : List ℕ) → code ≡ written (length s) w bytes .answer) → Answered (copied s (length b)) b b′ code
+unfolding copied lineOf lineEnd endOf
+line-copied s b b′ e w code h g is =
+    let q : e ≡ run Line s = omega (arith, h .is) in
+    let g′ : Wrote (take (run Line s) s ++ (10 ∷ [])) b b′ w = rw q at g in
+    let t = take (run Line s) s ++ (10 ∷ []) in
+    rw (← g′ .is) (writes thenWrite (λ v. refl) (λ x v. refl) Holds (length s) t b b′ w code (g′ .is) (g′ .left) (is t))
 
 module _ (s ts qs zs b b′ : List ℕ) (w : Writing) (code : ℕ) (is : (bytes : List ℕ) → code ≡ written (length s) w bytes .answer) where
   pub bed-written : (r : Bed) (chrom name : List ℕ) → chrom ≡ nameBytes s (r .chrom) → name ≡ nameBytes s (r .name) → bed-write.BedWrote r chrom name ts qs zs b b′ w

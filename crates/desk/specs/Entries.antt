@@ -2,7 +2,7 @@
 use Prim.Native.Nat.{ℕ, suc, _-_, _*_, _%_, _≤_}
 use mathlib.Core.Path.{_≡_}
 use mathlib.Core.Bool.{Bool, true, false}
-use mathlib.Core.List.{List, [], _∷_}
+use mathlib.Core.List.{List, [], _∷_, _++_}
 use lib.Dec.{leb, eqb}
 use lib.ListN.{length}
 use lib.IntN.{ℤ, pos, negsuc}
@@ -14,8 +14,10 @@ use Rattle.ledger.specs.Limits.{blockLimit, largestNumber}
 use Rattle.ledger.specs.Reasons.{reasonNumber}
 use Rattle.blocks.specs.Rows.{targetsOf, queriesOf, sizesOf}
 use Rattle.text.specs.Parts.{partIn, partBytes}
+use Rattle.text.specs.Pieces.{lineOf}
 use Rattle.writing.specs.declared.Writing.{Writing}
 use Rattle.writing.specs.declared.Writing.the-variants as writing
+use Rattle.writing.specs.Answers.{roomAnswer}
 use Rattle.bed.specs.declared.Bed.{Bed}
 use Rattle.bed.specs.declared.BedAnswer.{BedAnswer}
 use Rattle.bed.specs.declared.BedAnswer.the-variants as bed
@@ -128,6 +130,10 @@ atEnd end x = record { reason = x .reason; place = pickPlace (eqb (reasonNumber 
 abbrev pub written : ℕ → Writing → List ℕ → Outcome
 written end (writing.Written n) bytes = gives n bytes
 written end (writing.Refused x) bytes = refuses (atEnd end x)
+
+-- a text's line as it stands, and a feed
+unfoldable pub copied : List ℕ → ℕ → Outcome
+copied s room = written (length s) (roomAnswer (length (lineOf s ++ (10 ∷ []))) room) (lineOf s ++ (10 ∷ []))
 
 -- a name's bytes
 abbrev pub nameBytes : List ℕ → Part → List ℕ

@@ -3,17 +3,16 @@ ghost use mathlib.Core.Path.{_≡_};
 ghost use mathlib.Core.List.{List, _++_};
 ghost use Prim.Native.Nat.{ℕ, _+_, _*_, _≤_};
 ghost use lib.IntN.{pos, _-ℤ_};
-ghost use lib.ListN.{length, take};
+ghost use lib.ListN.{length, take, drop};
 ghost use Rattle.ledger.specs.Limits.{blockLimit};
 ghost use Rattle.blocks.specs.Rows.{tableOf};
+ghost use Rattle.columns.specs.Columns.{fewBlocks};
 ghost use Rattle.lift.specs.Accepted.{Wide};
-ghost use Rattle.lift.specs.Positions.{liftPosition};
-ghost use Rattle.region.specs.Regions.{liftRegion};
 ghost use Rattle.region.specs.Tallies.{tallyStep};
 ghost use Rattle.writing.specs.Puts.{Put};
-ghost use Rattle.answers.specs.Answers.{refusalCode, Answered};
+ghost use Rattle.answers.specs.Answers.{refusalCode, Answered, recorded};
 ghost use Rattle.desk.specs.Records.{bedNumbers, pslNumbers, chainNumbers, Staging, BedStaged, PslStaged, ChainStaged, TurnStaged};
-ghost use Rattle.desk.specs.Entries.{checkedBed, checkedPsl, checkedChain, checked, parsedBed, parsedPsl, parsedChain, parsed, convertedNumbers, atEnd, written, bedWritten, pslWritten, chainWritten, formattedBed, formattedPsl, formattedChain, formatted, inWord, ofPosition, positionLifted, ofRegion, regionLifted, tallyIn, tallyBytes, ofTallied, tallyOutcome, TallyRoom, tallied, turnWritten, turnedText, numbersGiven};
+ghost use Rattle.desk.specs.Entries.{checkedBed, checkedPsl, checkedChain, checked, parsedBed, parsedPsl, parsedChain, parsed, convertedNumbers, atEnd, written, copied, bedWritten, pslWritten, chainWritten, formattedBed, formattedPsl, formattedChain, formatted, inWord, positionLifted, regionLifted, tallyIn, tallyBytes, ofTallied, tallyOutcome, TallyRoom, tallied, turnWritten, turnedText, numbersGiven};
 use bed::Bed;
 use bed::BedAnswer;
 use chain::Chain;
@@ -37,6 +36,12 @@ fn row_room() -> [u64; ROWS]
     ensures { λ r. ⌜ length r ≡ blockLimit ⌝ }
 {
     [0; ROWS]
+}
+
+fn few_rows() -> [u64; columns::FEW]
+    ensures { λ r. ⌜ length r ≡ fewBlocks ⌝ }
+{
+    [0; columns::FEW]
 }
 
 // The readers into room for any record's blocks.
@@ -209,8 +214,34 @@ pub extern "C" fn tenderchock_convert(start: u64, end: u64, size: u64, out: &mut
     }
 }
 
-// The record of a text of a kind and its rows, as numbers.
-fn parse_bed(text: &[u8], out: &mut [u8]) -> u64
+// A record's numbers and its rows, from the working room of a chain's reader, and from that of PSL's, whose lists stand
+// the other way round.
+fn answer_rows(end: usize, fields: &[u64], rows: &[u64], n: usize, out: &mut [u8]) -> u64
+    requires { ⌜ length (now rows) ≡ 3 * blockLimit ⌝ }
+    ensures { λ r. ⌜ Answered (recorded end (length (now (out .entry))) (now (fields .entry)) (take n (tableOf (take blockLimit
+        (now (rows .entry))) (take blockLimit (drop blockLimit (now (rows .entry)))) (take blockLimit (drop (2 * blockLimit)
+        (now (rows .entry))))))) (now (out .entry)) (now (out .exit)) r ⌝ }
+{
+    let b = ROWS;
+    let d = 2 * ROWS;
+    let e = 3 * ROWS;
+    answers::answer_record(end, fields, &rows[..b], &rows[b..d], &rows[d..e], n, out)
+}
+
+fn answer_lists(end: usize, fields: &[u64], lists: &[u64], n: usize, out: &mut [u8]) -> u64
+    requires { ⌜ length (now lists) ≡ 3 * blockLimit ⌝ }
+    ensures { λ r. ⌜ Answered (recorded end (length (now (out .entry))) (now (fields .entry)) (take n (tableOf (take blockLimit
+        (drop (2 * blockLimit) (now (lists .entry)))) (take blockLimit (drop blockLimit (now (lists .entry)))) (take blockLimit
+        (now (lists .entry)))))) (now (out .entry)) (now (out .exit)) r ⌝ }
+{
+    let b = ROWS;
+    let d = 2 * ROWS;
+    let e = 3 * ROWS;
+    answers::answer_record(end, fields, &lists[d..e], &lists[b..d], &lists[..b], n, out)
+}
+
+// The record of a BED text and its rows, as numbers, by way of room for any record's blocks.
+fn parse_long_bed(text: &[u8], out: &mut [u8]) -> u64
     ensures { λ r. ⌜ Answered (parsedBed (now (text .entry)) (length (now (out .entry))))
         (now (out .entry)) (now (out .exit)) r ⌝ }
 {
@@ -227,19 +258,46 @@ fn parse_bed(text: &[u8], out: &mut [u8]) -> u64
     }
 }
 
+// The same by way of room for few blocks: a text that does not fit there, or is refused, goes the long way.
+fn parse_short_bed(text: &[u8], out: &mut [u8]) -> u64
+    ensures { λ r. ⌜ Answered (parsedBed (now (text .entry)) (length (now (out .entry))))
+        (now (out .entry)) (now (out .exit)) r ⌝ }
+{
+    let mut targets = few_rows();
+    let mut queries = few_rows();
+    let mut sizes = few_rows();
+    match bed::read_bed(text, &mut targets, &mut queries, &mut sizes) {
+        BedAnswer::Refused(_) => parse_long_bed(text, out),
+        BedAnswer::Accepted(r) => {
+            let fields = bed_fields(r);
+            let n = r.blockCount as usize;
+            answers::answer_record(text.len(), &fields, &targets, &queries, &sizes, n, out)
+        }
+    }
+}
+
+// The record of a text of a kind and its rows, as numbers.
+fn parse_bed(text: &[u8], out: &mut [u8]) -> u64
+    ensures { λ r. ⌜ Answered (parsedBed (now (text .entry)) (length (now (out .entry))))
+        (now (out .entry)) (now (out .exit)) r ⌝ }
+{
+    if bed::LONG < text.len() {
+        return parse_long_bed(text, out);
+    }
+    parse_short_bed(text, out)
+}
+
 fn parse_psl(text: &[u8], out: &mut [u8]) -> u64
     ensures { λ r. ⌜ Answered (parsedPsl (now (text .entry)) (length (now (out .entry))))
         (now (out .entry)) (now (out .exit)) r ⌝ }
 {
-    let mut targets = row_room();
-    let mut queries = row_room();
-    let mut sizes = row_room();
-    match stage_psl(text, &mut targets, &mut queries, &mut sizes) {
+    let mut lists = blocks::working_room();
+    match psl::read_lists(text, &mut lists) {
         PslAnswer::Refused(x) => answers::refusal_code(x),
         PslAnswer::Accepted(r) => {
             let fields = psl_fields(r);
             let n = r.blockCount as usize;
-            answers::answer_record(text.len(), &fields, &targets, &queries, &sizes, n, out)
+            answer_lists(text.len(), &fields, &lists, n, out)
         }
     }
 }
@@ -248,15 +306,13 @@ fn parse_chain(text: &[u8], out: &mut [u8]) -> u64
     ensures { λ r. ⌜ Answered (parsedChain (now (text .entry)) (length (now (out .entry))))
         (now (out .entry)) (now (out .exit)) r ⌝ }
 {
-    let mut targets = row_room();
-    let mut queries = row_room();
-    let mut sizes = row_room();
-    match stage_chain(text, &mut targets, &mut queries, &mut sizes) {
+    let mut rows = blocks::working_room();
+    match chain::read_rows(text, &mut rows) {
         ChainAnswer::Refused(x) => answers::refusal_code(x),
         ChainAnswer::Accepted(r) => {
             let fields = chain_fields(r);
             let n = r.blockCount as usize;
-            answers::answer_record(text.len(), &fields, &targets, &queries, &sizes, n, out)
+            answer_rows(text.len(), &fields, &rows, n, out)
         }
     }
 }
@@ -326,8 +382,8 @@ fn write_bed(
     written_code(text.len(), answer)
 }
 
-// The standard text of a text of a kind.
-fn format_bed(text: &[u8], out: &mut [u8]) -> u64
+// The standard text of a BED text, from its record and rows.
+fn format_long_bed(text: &[u8], out: &mut [u8]) -> u64
     ensures { λ r. ⌜ Answered (formattedBed (now (text .entry)) (length (now (out .entry))))
         (now (out .entry)) (now (out .exit)) r ⌝ }
 {
@@ -338,6 +394,27 @@ fn format_bed(text: &[u8], out: &mut [u8]) -> u64
         BedAnswer::Refused(x) => answers::refusal_code(x),
         BedAnswer::Accepted(r) => write_bed(text, r, &targets, &queries, &sizes, out),
     }
+}
+
+// A text's line as it stands, and a feed.
+fn copy_line(text: &[u8], out: &mut [u8]) -> u64
+    ensures { λ r. ⌜ Answered (copied (now (text .entry)) (length (now (out .entry))))
+        (now (out .entry)) (now (out .exit)) r ⌝ }
+{
+    let e = text::line_end(text, 0);
+    let answer = writing::write_fed(out, &text[..e]);
+    written_code(text.len(), answer)
+}
+
+// The standard text of a text of a kind.
+fn format_bed(text: &[u8], out: &mut [u8]) -> u64
+    ensures { λ r. ⌜ Answered (formattedBed (now (text .entry)) (length (now (out .entry))))
+        (now (out .entry)) (now (out .exit)) r ⌝ }
+{
+    if bed::is_standard(text) {
+        return copy_line(text, out);
+    }
+    format_long_bed(text, out)
 }
 
 fn write_psl(
@@ -446,70 +523,17 @@ fn drift_word(position: u64, partner: u64) -> u64
     partner - position
 }
 
-// The lift through the first blockCount rows.
-fn answer_position(
-    end: usize,
-    c: Chain,
-    targets: &[u64],
-    queries: &[u64],
-    sizes: &[u64],
-    position: u64,
-    out: &mut [u8],
-) -> u64
-    requires { ⌜ Wide (c .blockCount) (now targets) (now queries) (now sizes) ⌝ }
-    ensures { λ r. ⌜ Answered (ofPosition (liftPosition c (tableOf (take (c .blockCount) (now (targets .entry))) (take (c .blockCount)
-        (now (queries .entry))) (take (c .blockCount) (now (sizes .entry)))) position) end (length (now (out .entry))))
-        (now (out .entry)) (now (out .exit)) r ⌝ }
-{
-    let n = c.blockCount as usize;
-    match lift::lift_position(c, &targets[..n], &queries[..n], &sizes[..n], position) {
-        PositionAnswer::Refused(x) => answers::refusal_code(x),
-        PositionAnswer::Lifted(partner, _) => {
-            let numbers = [partner, drift_word(position, partner)];
-            answers::answer_numbers(end, &numbers, out)
-        }
-    }
-}
-
 // The partner and the drift of a position.
 #[no_mangle]
 pub extern "C" fn tenderchock_lift_position(text: &[u8], position: u64, out: &mut [u8]) -> u64
     ensures { λ r. ⌜ Answered (positionLifted (now (text .entry)) position (length (now (out .entry))))
         (now (out .entry)) (now (out .exit)) r ⌝ }
 {
-    let mut targets = row_room();
-    let mut queries = row_room();
-    let mut sizes = row_room();
-    match stage_chain(text, &mut targets, &mut queries, &mut sizes) {
-        ChainAnswer::Refused(x) => answers::refusal_code(x),
-        ChainAnswer::Accepted(c) => {
-            answer_position(text.len(), c, &targets, &queries, &sizes, position, out)
-        }
-    }
-}
-
-// The same of a region; want of room stands at a place.
-fn answer_region(
-    place: usize,
-    c: Chain,
-    targets: &[u64],
-    queries: &[u64],
-    sizes: &[u64],
-    start: u64,
-    end: u64,
-    out: &mut [u8],
-) -> u64
-    requires { ⌜ Wide (c .blockCount) (now targets) (now queries) (now sizes) ⌝ }
-    ensures { λ r. ⌜ Answered (ofRegion (liftRegion c (tableOf (take (c .blockCount) (now (targets .entry))) (take (c .blockCount)
-        (now (queries .entry))) (take (c .blockCount) (now (sizes .entry)))) start end) place (length (now (out .entry))))
-        (now (out .entry)) (now (out .exit)) r ⌝ }
-{
-    let n = c.blockCount as usize;
-    match region::lift_region(c, &targets[..n], &queries[..n], &sizes[..n], start, end) {
-        RegionAnswer::Refused(x) => answers::refusal_code(x),
-        RegionAnswer::Lifted(x) => {
-            let numbers = [x.kept, x.dropped, x.start, x.end];
-            answers::answer_numbers(place, &numbers, out)
+    match lift::position_text(text, position) {
+        PositionAnswer::Refused(x) => answers::refusal_code(x),
+        PositionAnswer::Lifted(partner, _) => {
+            let numbers = [partner, drift_word(position, partner)];
+            answers::answer_numbers(text.len(), &numbers, out)
         }
     }
 }
@@ -520,13 +544,11 @@ pub extern "C" fn tenderchock_lift_region(text: &[u8], start: u64, end: u64, out
     ensures { λ r. ⌜ Answered (regionLifted (now (text .entry)) start end (length (now (out .entry))))
         (now (out .entry)) (now (out .exit)) r ⌝ }
 {
-    let mut targets = row_room();
-    let mut queries = row_room();
-    let mut sizes = row_room();
-    match stage_chain(text, &mut targets, &mut queries, &mut sizes) {
-        ChainAnswer::Refused(x) => answers::refusal_code(x),
-        ChainAnswer::Accepted(c) => {
-            answer_region(text.len(), c, &targets, &queries, &sizes, start, end, out)
+    match region::lift_text(text, start, end) {
+        RegionAnswer::Refused(x) => answers::refusal_code(x),
+        RegionAnswer::Lifted(x) => {
+            let numbers = [x.kept, x.dropped, x.start, x.end];
+            answers::answer_numbers(text.len(), &numbers, out)
         }
     }
 }

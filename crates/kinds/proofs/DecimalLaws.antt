@@ -147,7 +147,7 @@ parted-items v [] = only (digits v) (some-digits v) (digits-items v)
     only (x ∷ xs) h k = pieces-last Item x xs k
 parted-items v (u ∷ us) = items-join (digits v) (parted (u ∷ us)) (digits-items v) ∙ ap (λ (k : List (List ℕ)). digits v ∷ k) (parted-items u us)
 
-parted-closed : (v : ℕ) (us : List ℕ) → parted (v ∷ us) ++ (44 ∷ []) ≡ listText (v ∷ us)
+pub parted-closed : (v : ℕ) (us : List ℕ) → parted (v ∷ us) ++ (44 ∷ []) ≡ listText (v ∷ us)
 unfolding joined listText
 parted-closed v [] = refl
 parted-closed v (u ∷ us) = append-assoc (digits v) (44 ∷ parted (u ∷ us)) (44 ∷ []) ∙ ap (λ (k : List ℕ). digits v ++ (44 ∷ k)) (parted-closed u us)

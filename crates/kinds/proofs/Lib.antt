@@ -4,3 +4,4 @@ pub mod BackLaws
 pub mod RangeLaws
 pub mod DecimalLaws
 pub mod SpeltAsLaws
+pub mod TidyLaws

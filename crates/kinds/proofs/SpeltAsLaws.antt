@@ -80,12 +80,12 @@ unfolding strandOf
 as-strand dot v w e l = rw (e, as-letter dot v l)
 
 -- ---- a colour: its last byte is no comma
-last-append : (d : ℕ) (xs : List ℕ) (y : ℕ) (ys : List ℕ) → lastByte d (xs ++ (y ∷ ys)) ≡ lastByte y ys
+pub last-append : (d : ℕ) (xs : List ℕ) (y : ℕ) (ys : List ℕ) → lastByte d (xs ++ (y ∷ ys)) ≡ lastByte y ys
 unfolding lastByte
 last-append d [] y ys = refl
 last-append d (x ∷ xs) y ys = last-append x xs y ys
 
-last-item : (d : ℕ) (xs : List ℕ) → 0 < length xs → All Item xs → isIn Item (lastByte d xs) ≡ true
+pub last-item : (d : ℕ) (xs : List ℕ) → 0 < length xs → All Item xs → isIn Item (lastByte d xs) ≡ true
 unfolding lastByte run
 last-item d [] h a = absurd (omega arith)
 last-item d (x ∷ []) h a = more-ones (isIn Item x) 0 0 a .0

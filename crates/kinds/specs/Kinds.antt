@@ -140,13 +140,17 @@ isList (Stranded dot) = false
 isList (Word f) = false
 isList Colour = false
 
--- where the next list is stored: room for a record's blocks each
-abbrev pub pickBase : Bool → ℕ → ℕ
-pickBase true base = base + blockLimit
-pickBase false base = base
+-- where the next list is stored: room for so many numbers each
+abbrev pub pickBase : Bool → ℕ → ℕ → ℕ
+pickBase true stride base = base + stride
+pickBase false stride base = base
 
+abbrev pub baseBy : ℕ → Kind → ℕ → ℕ
+baseBy stride k base = pickBase (isList k) stride base
+
+-- and room for a record's blocks each
 abbrev pub baseAfter : Kind → ℕ → ℕ
-baseAfter k base = pickBase (isList k) base
+baseAfter k base = baseBy blockLimit k base
 
 -- what reading one word promises: what it spells, and that a fault lies in it, which follows
 pub record WordRead (x : Spelt) (w : List ℕ) (r : Spelt) : Type 0 where

@@ -3,6 +3,7 @@ pub mod PairLaws
 pub mod AcceptLaws
 pub mod FindLaws
 pub mod PositionLaws
+pub mod TextLaws
 pub mod ConversionLaws
 pub mod Vectors
 pub mod CutLaws

@@ -8,7 +8,7 @@ use native.Mathlib.Omega.{arith}
 use lib.IntN.{ℤ, pos, _-ℤ_}
 use lib.Signed.{mag}
 use lib.Dec.{ltb}
-use borrow.Author.Tests.{lt-ltb, le-ltb, not-true, not-false}
+use borrow.Author.Tests.{lt-ltb, le-ltb, not-true}
 use mir.Syntax.{w64}
 use mir.Val.{SFits, toZ, ofZ}
 use mir.Facts.{toZ-pos, toZ-ofZ}
@@ -16,18 +16,19 @@ use Rattle.ledger.specs.declared.Strand.{Strand}
 use Rattle.ledger.specs.declared.Strand.the-variants.{Plus, Minus, Dot}
 use Rattle.ledger.specs.declared.Row.{Row}
 use Rattle.ledger.specs.declared.Reason.the-variants.{BlockRules, NoPair, OutsideTarget}
-use Rattle.blocks.specs.Rows.{targetEnd, queryEnd}
+use Rattle.ledger.specs.Limits.{largestPosition}
+use Rattle.blocks.specs.Rows.{targetEnd, queryEnd, tableOf}
 use Rattle.chain.specs.declared.Chain.{Chain}
 use Rattle.lift.specs.declared.Partner.{Partner}
 use Rattle.lift.specs.declared.Partner.the-variants.{Base, Alone}
 use Rattle.lift.specs.declared.PositionAnswer.{PositionAnswer}
 use Rattle.lift.specs.declared.PositionAnswer.the-variants.{Lifted}
-use Rattle.lift.specs.Accepted.{accepted, used}
+use Rattle.lift.specs.Accepted.{accepted, used, Ready}
 use Rattle.lift.specs.Pairs.{Pair, pair, forwardOn, forward, blockPairs, pairsOf, pairs, partnerOf}
 use Rattle.lift.specs.Positions.{notLifted, ifLifted, atPartner, liftPosition}
 use Rattle.lift.proofs.RunLaws.{either, Run, run-below}
 use Rattle.lift.proofs.PairLaws.{in-block, found-mem, mem-found}
-use Rattle.lift.proofs.AcceptLaws.{accepted-rules, accepted-true}
+use Rattle.lift.proofs.AcceptLaws.{accepted-rules}
 
 -- ---- the drift of two coordinates, as a signed word of the machine holds it
 mag-less : (b a m : ℕ) → b ≤ m → a ≤ m → mag (pos b -ℤ pos a) ≤ m
@@ -125,34 +126,35 @@ module _ (c : Chain) (rows : List Row) (ok : accepted c rows ≡ true) where
       go Alone k = rw k
       go (Base b) k = absurd (f b (found-mem p b (pairs c rows) k))
 
--- ---- the ways out of `lift_position`
-module _ (c : Chain) (rows : List Row) (p : ℕ) (u : Bool) (e : u ≡ accepted c rows) (r : PositionAnswer) where
-  pub not-accepted : not u ≡ true → r ≡ notLifted BlockRules → r ≡ liftPosition c rows p
-  unfolding liftPosition
-  not-accepted h k = rw (← e, not-true u h) k
+-- ---- the ways out of `lift_position`: the test fails, or the rows are ready
+pub not-accepted : (c : Chain) (rows : List Row) (p : ℕ) (u : Bool) (r : PositionAnswer) → u ≡ accepted c rows → not u ≡ true → r ≡ notLifted BlockRules → r ≡ liftPosition c rows p
+unfolding liftPosition
+not-accepted c rows p u r e h k = rw (← e, not-true u h) k
 
-  module _ (h : not u ≡ false) where
-    pub past-target : c .tSize ≤ p → r ≡ notLifted OutsideTarget → r ≡ liftPosition c rows p
+module _ (c : Chain) (ts qs zs : List ℕ) (is : Ready c ts qs zs) (p : ℕ) where
+  module _ (r : PositionAnswer) where
+    pub past-target : c .tSize ≤ p → r ≡ notLifted OutsideTarget → r ≡ liftPosition c (tableOf ts qs zs) p
     unfolding liftPosition
-    past-target l k = rw (← e, not-false u h, le-ltb _ _ l) k
+    past-target l k = rw (is .ok, le-ltb _ _ l) k
 
-    pub by-partner : p < c .tSize → r ≡ atPartner p (partnerOf p (pairs c rows)) → r ≡ liftPosition c rows p
+    pub by-partner : p < c .tSize → r ≡ atPartner p (partnerOf p (pairs c (tableOf ts qs zs))) → r ≡ liftPosition c (tableOf ts qs zs) p
     unfolding liftPosition
-    by-partner l k = rw (← e, not-false u h, lt-ltb _ _ l) k
+    by-partner l k = rw (is .ok, lt-ltb _ _ l) k
 
-module _ (c : Chain) (rows : List Row) (p : ℕ) (x : Partner) (e : x ≡ partnerOf p (pairs c rows)) where
-  pub small-bases : (u : Bool) (b : ℕ) → u ≡ accepted c rows → not u ≡ false → x ≡ Base b → (p ≤ 2147483647) × (b ≤ 2147483647)
-  small-bases u b k h l =
-      let ok = accepted-true c rows u k h in
-      let m = pair-inside c rows ok p b (found-mem p b (pairs c rows) (sym e ∙ l)) in
-      let r = accepted-rules c rows ok in (omega arith, omega arith)
+  module _ (x : Partner) (e : x ≡ partnerOf p (pairs c (tableOf ts qs zs))) where
+    -- both bases are coordinates
+    partnered : (b : ℕ) → x ≡ Base b → (p < c .tSize) × (b < c .qSize)
+    partnered b l = pair-inside c (tableOf ts qs zs) (is .ok) p b (found-mem p b (pairs c (tableOf ts qs zs)) (sym e ∙ l))
 
-  -- the drift, as the answer holds it
-  pub lift-at : (u : Bool) (b : ℕ) (d : ℤ) → u ≡ accepted c rows → not u ≡ false → x ≡ Base b → d ≡ pos b -ℤ pos p
-      → Lifted b (toZ w64 (ofZ w64 d)) ≡ atPartner p (partnerOf p (pairs c rows))
-  lift-at u b d f l k h =
-      let m = small-bases u b f l k in
-      rw (h, toZ-ofZ (less-fits p b (m .0) (m .1)), ← e, k)
+    pub small-target : (b : ℕ) → x ≡ Base b → p ≤ largestPosition
+    small-target b l = omega (arith, is .tMost, partnered b l .0)
 
-  pub lift-none : (r : PositionAnswer) → x ≡ Alone → r ≡ notLifted NoPair → r ≡ atPartner p (partnerOf p (pairs c rows))
-  lift-none r k h = rw (← e, k) h
+    pub small-query : (b : ℕ) → x ≡ Base b → b ≤ largestPosition
+    small-query b l = omega (arith, is .qMost, partnered b l .1)
+
+    -- the drift, as the answer holds it
+    pub lift-at : (b : ℕ) (d : ℤ) → x ≡ Base b → d ≡ pos b -ℤ pos p → Lifted b (toZ w64 (ofZ w64 d)) ≡ atPartner p (partnerOf p (pairs c (tableOf ts qs zs)))
+    lift-at b d k h = rw (h, toZ-ofZ (less-fits p b (small-target b k) (small-query b k)), ← e, k)
+
+    pub lift-none : (r : PositionAnswer) → x ≡ Alone → r ≡ notLifted NoPair → r ≡ atPartner p (partnerOf p (pairs c (tableOf ts qs zs)))
+    lift-none r k h = rw (← e, k) h

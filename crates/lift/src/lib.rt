@@ -4,11 +4,14 @@ ghost use Prim.Native.Nat.{_+_, _-_, _≤_, _<_};
 ghost use lib.IntN.{pos, _-ℤ_};
 ghost use Rattle.ledger.specs.Limits.{largestPosition};
 ghost use Rattle.blocks.specs.Rows.{tableOf};
+ghost use Rattle.chain.specs.Records.{chainRows};
 ghost use Rattle.lift.specs.Accepted.{accepted, Ready};
 ghost use Rattle.lift.specs.Conversion.{notConverted, otherStrand, converted};
 ghost use Rattle.lift.specs.Pairs.{forwardOn, pairs, partnerOf, InBlock};
 ghost use Rattle.lift.specs.Positions.{notLifted, liftPosition};
+ghost use Rattle.lift.specs.Texts.{textPosition, ChainHeld};
 use chain::Chain;
+use chain::ChainAnswer;
 use ledger::Position;
 use ledger::Reason;
 use ledger::Refusal;
@@ -131,6 +134,26 @@ fn not_lifted(reason: Reason) -> PositionAnswer
     PositionAnswer::Refused(Refusal { reason, place: 0 })
 }
 
+// The lift of a position through rows of an accepted chain.
+fn position_ready(
+    c: Chain,
+    targets: &[u64],
+    queries: &[u64],
+    sizes: &[u64],
+    p: u64,
+) -> PositionAnswer
+    requires { ⌜ Ready c (now targets) (now queries) (now sizes) ⌝ }
+    ensures { λ r. ⌜ r ≡ liftPosition c (tableOf (now (targets .entry)) (now (queries .entry)) (now (sizes .entry))) p ⌝ }
+{
+    if c.tSize <= p {
+        return not_lifted(Reason::OutsideTarget);
+    }
+    match find_partner(c, targets, queries, sizes, p) {
+        Partner::Base(q) => PositionAnswer::Lifted(q, drift_of(p, q)),
+        Partner::Alone => not_lifted(Reason::NoPair),
+    }
+}
+
 // THE LIFT OF A POSITION through a chain: record and rows are tested again, as they may be anything.
 pub fn lift_position(
     c: Chain,
@@ -144,11 +167,30 @@ pub fn lift_position(
     if !is_accepted(c, targets, queries, sizes) {
         return not_lifted(Reason::BlockRules);
     }
-    if c.tSize <= p {
-        return not_lifted(Reason::OutsideTarget);
-    }
-    match find_partner(c, targets, queries, sizes, p) {
-        Partner::Base(q) => PositionAnswer::Lifted(q, drift_of(p, q)),
-        Partner::Alone => not_lifted(Reason::NoPair),
+    position_ready(c, targets, queries, sizes, p)
+}
+
+// The same through the rows that reading a chain's text left in its working room.
+fn position_rows(text: &[u8], c: Chain, rows: &[u64], p: u64) -> PositionAnswer
+    requires { ⌜ ChainHeld (now text) c (now rows) ⌝ }
+    ensures { λ r. ⌜ r ≡ liftPosition c (chainRows (now (text .entry)) c) p ⌝ }
+{
+    let n = c.blockCount as usize;
+    let b = ledger::BLOCK_LIMIT as usize;
+    let d = 2 * b;
+    let e = b + n;
+    let f = d + n;
+    position_ready(c, &rows[..n], &rows[b..e], &rows[d..f], p)
+}
+
+// THE LIFT OF A POSITION through a chain's text: what a text that is read says is an accepted chain, so it is not tested
+// again.
+pub fn position_text(text: &[u8], p: u64) -> PositionAnswer
+    ensures { λ r. ⌜ r ≡ textPosition (now (text .entry)) p ⌝ }
+{
+    let mut rows = blocks::working_room();
+    match chain::read_rows(text, &mut rows) {
+        ChainAnswer::Refused(x) => PositionAnswer::Refused(x),
+        ChainAnswer::Accepted(c) => position_rows(text, c, &rows, p),
     }
 }

@@ -184,18 +184,47 @@ fn hand_over(end: usize, vs: &[u64], out: &mut [u8]) -> NumbersAnswer
     })
 }
 
-// Working room of the quick way.
-const ROOM: usize = 4096;
-
-// The numbers of a text to the front of the lent bytes, 8 bytes each, the lowest first; too little room is 11 at the text's end, last.
-pub fn read_numbers(text: &[u8], out: &mut [u8]) -> NumbersAnswer
+// The numbers of a text by way of working room: the quick way if they fit there, else with more care.
+fn read_by(text: &[u8], room: &mut [u64], out: &mut [u8]) -> NumbersAnswer
     ensures { λ r. ⌜ NumbersStored (now (text .entry)) (now (out .entry)) (now (out .exit)) r ⌝ }
 {
-    let mut room = [0u64; ROOM];
-    let q = quick_text(text, &mut room);
+    let q = quick_text(text, room);
     if q.good {
         let n = q.count;
         return hand_over(text.len(), &room[..n], out);
     }
     read_tested(text, out)
+}
+
+// A text of at most so many bytes has at most half as many numbers.
+const SHORT: usize = 512;
+
+const FEW: usize = SHORT / 2;
+
+fn read_short(text: &[u8], out: &mut [u8]) -> NumbersAnswer
+    ensures { λ r. ⌜ NumbersStored (now (text .entry)) (now (out .entry)) (now (out .exit)) r ⌝ }
+{
+    let mut room = [0u64; FEW];
+    read_by(text, &mut room, out)
+}
+
+// The quick way has room for so many numbers of a longer text. It is filled with ones, since that is done by stores of two
+// numbers each; zeros are left to the C library, which stores as fast but is counted by the byte (docs/BENCHMARKS.md).
+const ROOM: usize = 4096;
+
+fn read_long(text: &[u8], out: &mut [u8]) -> NumbersAnswer
+    ensures { λ r. ⌜ NumbersStored (now (text .entry)) (now (out .entry)) (now (out .exit)) r ⌝ }
+{
+    let mut room = [1u64; ROOM];
+    read_by(text, &mut room, out)
+}
+
+// The numbers of a text to the front of the lent bytes, 8 bytes each, the lowest first; too little room is 11 at the text's end, last.
+pub fn read_numbers(text: &[u8], out: &mut [u8]) -> NumbersAnswer
+    ensures { λ r. ⌜ NumbersStored (now (text .entry)) (now (out .entry)) (now (out .exit)) r ⌝ }
+{
+    if SHORT < text.len() {
+        return read_long(text, out);
+    }
+    read_short(text, out)
 }

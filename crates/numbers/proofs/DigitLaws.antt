@@ -146,6 +146,11 @@ module _ (s : List ℕ) (from most : ℕ) where
     unfolding endOf
     digits-left h l r = record { is = omega (arith, r .is, run-most Digit (drop from s), length-drop from s); means = r .means; low = r .low; high = r .high }
 
+-- nineteen, or as many as are left
+pub digits-short : (s : List ℕ) (from m : ℕ) (d : Digits) → m ≡ min shortLimit (length s - from) → from < length s → DigitsRead s from m d → DigitsRead s from shortLimit d
+unfolding endOf
+digits-short s from m d em h r = record { is = omega (arith, r .is, run-most Digit (drop from s), length-drop from s); means = r .means; low = r .low; high = r .high }
+
 pub digit-low : (b : ℕ) (t : Bool) → t ≡ isIn Digit b → not t ≡ false → 48 ≤ b
 digit-low b t e h = digit-range b (sym e ∙ not-false t h) .0
 

@@ -1,15 +1,16 @@
 -- A number: digits only, no leading zero but in `0` itself, within a least and a greatest value.
-use Prim.Native.Nat.{ℕ, _+_, _-_, _*_, _≤_, min, max}
+use Prim.Native.Nat.{ℕ, _+_, _-_, _*_, _≤_, _<_, min, max}
 use mathlib.Core.Path.{_≡_}
-use mathlib.Core.Bool.{Bool, not, _&&_, _||_}
+use mathlib.Core.Bool.{Bool, true, not, _&&_, _||_}
 use mathlib.Core.List.{List, [], _∷_}
 use lib.ListN.{length, getD, take, drop}
 use lib.Dec.{leb, eqb}
 use Rattle.ledger.specs.declared.Reason.the-variants.{NumberMisspelt, NumberOutOfRange}
-use Rattle.text.specs.declared.Class.the-variants.{Digit}
-use Rattle.text.specs.Scan.{endOf}
+use Rattle.text.specs.declared.Class.the-variants.{Digit, Word}
+use Rattle.text.specs.Scan.{isIn, endOf}
 use Rattle.numbers.specs.declared.Digits.{Digits}
 use Rattle.numbers.specs.declared.Spelt.{Spelt}
+use Rattle.numbers.specs.declared.Taken.{Taken}
 use Rattle.numbers.specs.declared.Spelt.the-variants.{Means}
 use Rattle.numbers.specs.Spelling.{require, faultIn}
 
@@ -56,3 +57,16 @@ pub record Judged (n first v least most : ℕ) (r : Spelt) : Type 0 where
 pub record NumberRead (least most : ℕ) (w : List ℕ) (r : Spelt) : Type 0 where
   pub is : r ≡ numberOf least most w
   pub near : faultIn r ≡ 0
+
+-- whether a word ends at a place: by a byte of no word, or with the text
+abbrev pub isWordEnd : List ℕ → ℕ → Bool
+isWordEnd s i = leb (length s) i || not (isIn Word (getD s i 0))
+
+-- what taking the number at a place promises: where it is good, it is what the word there spells, and ends with the
+-- word
+pub record NumberTaken (least most : ℕ) (s : List ℕ) (i : ℕ) (r : Taken) : Type 0 where
+  pub means : r .good ≡ true → numberOf least most (take (endOf Word s i - i) (drop i s)) ≡ Means (r .value)
+  pub ends : r .good ≡ true → r .end ≡ endOf Word s i
+  pub some : r .good ≡ true → i < r .end
+  pub inside : r .good ≡ true → r .end ≤ length s
+  pub small : r .good ≡ true → r .value ≤ most

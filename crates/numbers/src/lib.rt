@@ -4,7 +4,7 @@ ghost use Prim.Native.Nat.{_+_, _-_, _*_, _≤_, min};
 ghost use lib.ListN.{length, set, getD};
 ghost use Rattle.text.specs.declared.Class.the-variants.{Digit};
 ghost use Rattle.text.specs.Scan.{isIn};
-ghost use Rattle.numbers.specs.Numbers.{shortLimit, wellSpelt, isLed, NumberRead, Judged, DigitsRead};
+ghost use Rattle.numbers.specs.Numbers.{shortLimit, wellSpelt, isLed, isWordEnd, NumberRead, NumberTaken, Judged, DigitsRead};
 ghost use Rattle.numbers.specs.Lists.{isItemEnd, lastByte, openEnd, PieceRead, ItemsStored, ListEnded, ListRead};
 use ledger::Reason;
 use text::Class;
@@ -219,6 +219,49 @@ fn read_item(word: &[u8], from: usize, least: u64, most: u64) -> Piece
     }
     let spelt = judge(end - from, byte_at(word, from), d.value, least, most);
     Piece { spelt, end }
+}
+
+// A number taken from a text. Where it is not good, a word that is no number may stand there, or one that has to be
+// read with more care.
+pub struct Taken {
+    pub good: bool,
+    pub value: u64,
+    pub end: usize,
+}
+
+// Whether a word ends at a place: there is a byte of no word, or the text's end.
+fn is_word_end(text: &[u8], i: usize) -> bool
+    ensures { λ r. ⌜ r ≡ isWordEnd (now (text .entry)) i ⌝ }
+{
+    (text.len() <= i) | !text::is_in(Class::Word, byte_at(text, i))
+}
+
+// The digits from a place on, at most nineteen. The number of bytes that are looked at is not a fixed one, which keeps the loop
+// short: it then stands in each place that takes a number, where the processor guesses its end better than in one shared place.
+fn short_digits(text: &[u8], from: usize) -> Digits
+    ensures { λ r. ⌜ DigitsRead (now (text .entry)) from shortLimit r ⌝ }
+{
+    if text.len() <= from {
+        return Digits {
+            value: 0,
+            end: from,
+        };
+    }
+    digits_in(text, from, lesser(SHORT, text.len() - from))
+}
+
+// The number that the word at a place spells, and the word's end, in one pass over its digits.
+pub fn number_at(text: &[u8], from: usize, least: u64, most: u64) -> Taken
+    ensures { λ r. ⌜ NumberTaken least most (now (text .entry)) from r ⌝ }
+{
+    let d = short_digits(text, from);
+    let end = d.end;
+    let value = d.value;
+    let fits = (least <= value) & (value <= most);
+    let led = leads(end - from, byte_at(text, from));
+    let ended = is_word_end(text, end);
+    let good = ended & (led & fits);
+    Taken { good, value, end }
 }
 
 // Stores a number at a place of a table, where the table has that place.

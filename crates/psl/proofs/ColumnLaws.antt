@@ -29,7 +29,7 @@ use Rattle.columns.specs.Columns.{tableOf, columnsFrom, valuesFrom, listsFrom}
 use Rattle.columns.specs.Spells.{firsts}
 use Rattle.columns.proofs.Meant.{Meant}
 use Rattle.columns.specs.Places.{kindAt, countBefore}
-use Rattle.columns.specs.OneLine.{lineRead, LineRead}
+use Rattle.columns.specs.OneLine.{lineRead, LineWalked}
 use Rattle.columns.proofs.SpellsLaws.{columns-mean}
 use Rattle.columns.proofs.PlaceLaws.{spelt-at, value-first, values-length, lists-length, lists-at}
 use Rattle.columns.proofs.OneLineLaws.{line-found}
@@ -120,25 +120,25 @@ module _ (s : List ℕ) (e : ℕ) (found : lineRead pslColumns s ≡ Next e) whe
     unfolding pslColumns pslSizes
     sizes-held =
         let z = list-is 18 Size (spelt-at spells 18 (omega arith)) in
-        lists-at pslColumns 0 s 0 e 0 d read 18 (omega arith) refl (getD vs 34 0) (z .1) block-count (omega (arith, block-count)) ∙ z .0
+        lists-at blockLimit pslColumns 0 s 0 e 0 d read 18 (omega arith) refl (getD vs 34 0) (z .1) block-count (omega (arith, block-count)) ∙ z .0
 
     queries-held : take (getD vs 34 0) (drop blockLimit held) ≡ pslQueries s
     unfolding pslColumns pslQueries
     queries-held =
         let z = list-is 19 Coordinate (spelt-at spells 19 (omega arith)) in
-        lists-at pslColumns 0 s 0 e 0 d read 19 (omega arith) refl (getD vs 34 0) (z .1) block-count (omega (arith, block-count)) ∙ z .0
+        lists-at blockLimit pslColumns 0 s 0 e 0 d read 19 (omega arith) refl (getD vs 34 0) (z .1) block-count (omega (arith, block-count)) ∙ z .0
 
     targets-held : take (getD vs 34 0) (drop (2 * blockLimit) held) ≡ pslTargets s
     unfolding pslColumns pslTargets
     targets-held =
         let z = list-is 20 Coordinate (spelt-at spells 20 (omega arith)) in
-        lists-at pslColumns 0 s 0 e 0 d read 20 (omega arith) refl (getD vs 34 0) (z .1) block-count (omega (arith, block-count)) ∙ z .0
+        lists-at blockLimit pslColumns 0 s 0 e 0 d read 20 (omega arith) refl (getD vs 34 0) (z .1) block-count (omega (arith, block-count)) ∙ z .0
 
     pub line-ready : Ready s (pslRecord vs) held
     unfolding pslRecord
     line-ready = record {
       held = record {
-        long = lists-length pslColumns 0 s 0 e 0 d read ∙ long;
+        long = lists-length blockLimit pslColumns 0 s 0 e 0 d read ∙ long;
         few = block-count;
         sizes = sizes-held;
         queries = queries-held;
@@ -159,7 +159,7 @@ module _ (s : List ℕ) (e : ℕ) (found : lineRead pslColumns s ≡ Next e) whe
       x ∙ rw (y, append-nil)
 
 -- the line read, and on
-module _ (s b′ d d′ : List ℕ) (long : length d ≡ 3 * blockLimit) (x : Columns) (read : LineRead (tableOf pslCodes) s (replicate 42 0) b′ d d′ x) where
+module _ (s b′ d d′ : List ℕ) (long : length d ≡ 3 * blockLimit) (x : Columns) (read : LineWalked (tableOf pslCodes) s (replicate 42 0) b′ d d′ x) where
   read-is : x ≡ lineRead pslColumns s
   read-is = rw table-is at (read .result)
 
@@ -169,11 +169,11 @@ module _ (s b′ d d′ : List ℕ) (long : length d ≡ 3 * blockLimit) (x : Co
 
     values-are : b′ ≡ valuesFrom pslColumns 0 s 0
     values-are =
-        let st : b′ ≡ sets (replicate 42 0) 0 (valuesFrom pslColumns 0 s 0) = rw (q, table-is) at (read .stored) in
+        let st : b′ ≡ sets (replicate 42 0) 0 (valuesFrom pslColumns 0 s 0) = rw table-is at (read .stored e q) in
         st ∙ values-all s e next (replicate 42 0) refl
 
     lists-are : d′ ≡ listsFrom pslColumns 0 s 0 0 d
-    lists-are = rw (q, table-is) at (read .held)
+    lists-are = rw table-is at (read .held e q)
 
     pub stage-ready : Ready s (pslRecord b′) d′
     stage-ready = rw (values-are, lists-are) (line-ready s e next d long)

@@ -18,10 +18,11 @@ use Rattle.blocks.proofs.GapLaws.{capped-eq}
 use Rattle.blocks.proofs.TakeLaws.{part-all}
 use Rattle.psl.specs.declared.Counts.{Counts}
 use Rattle.psl.specs.declared.Psl.{Psl}
+use Rattle.psl.specs.declared.PslAnswer.{PslAnswer}
 use Rattle.psl.specs.declared.PslAnswer.the-variants.{Accepted, Refused}
 use Rattle.psl.specs.Records.{pslRecord, pslSizes, pslQueries, pslTargets}
 use Rattle.psl.specs.Rows.{rowsFit, countsFit}
-use Rattle.psl.specs.Read.{spanCheck, rowCheck, afterLine, CountsRange, Ready}
+use Rattle.psl.specs.Read.{spanCheck, rowCheck, afterLine, CountsRange, Ready, pslCheck, InRoom}
 
 -- the counts, by sums that are capped
 module _ (c : Counts) (range : CountsRange c) (ts qs zs : List ℕ) (sum qGaps qBases tGaps tBases : ℕ) (es : sum ≡ capped (sumOf zs)) (eq : qGaps ≡ gapCount qs zs) (eqb′ : qBases ≡ capped (gapBases qs zs))
@@ -81,3 +82,7 @@ module _ (s vs : List ℕ) (r : Psl) (er : r ≡ pslRecord vs) (c : Check) (ec :
 
 pub ready-as : (s : List ℕ) (r b : Psl) (l : List ℕ) → r ≡ b → Ready s b l → Ready s r l
 ready-as s r b l e h = rw e h
+
+-- the reader into working room
+pub room-other : (s lists : List ℕ) (x : PslAnswer) → (length lists ≡ 3 * blockLimit → ⊥) → x ≡ pslCheck s → InRoom s lists lists x
+room-other s lists x n h = record { is = h; held = λ l. absurd (n l) }

@@ -104,6 +104,12 @@ pub record Ready (s : List ℕ) (r : Psl) (lists : List ℕ) : Type 0 where
   pub held : Listed s r lists
   pub range : CountsRange (r .counts)
 
+-- what the reader into working room promises: the text checker's answer, and the lists of an accepted line where the
+-- room is that of three lists
+pub record InRoom (s lists lists′ : List ℕ) (r : PslAnswer) : Type 0 where
+  pub is : r ≡ pslCheck s
+  pub held : length lists ≡ 3 * blockLimit → (b : Psl) → r ≡ Accepted b → Listed s b lists′
+
 -- what storing the rows of an accepted line promises
 pub record RowsStored (s : List ℕ) (r : Psl) (ts ts′ qs qs′ zs zs′ : List ℕ) (x : PslAnswer) : Type 0 where
   pub is : x ≡ thenCheck (roomCheck s r (rowsOf ts qs zs)) (Accepted r)

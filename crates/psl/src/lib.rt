@@ -8,7 +8,7 @@ ghost use Rattle.psl.specs.Records.{countsOf, sideOf, pslRecord};
 ghost use Rattle.psl.specs.Rows.{firstOn, lastOn, rowsFit, countsFit};
 ghost use Rattle.psl.specs.Tests.{sideFits, countNumbersFit, fieldsFit, spansFit, headFits, pslValid};
 ghost use Rattle.psl.specs.Write.{wordsShow, numbersCheck, writeCheck, pslText, pslValues, RowsThere, ListsPut, Writable, PslWrote, recordCheck};
-ghost use Rattle.psl.specs.Read.{spanCheck, rowCheck, afterLine, pslCheck, CountsRange, Listed, Ready, Staged, RowsStored, PslRead};
+ghost use Rattle.psl.specs.Read.{spanCheck, rowCheck, afterLine, pslCheck, CountsRange, Listed, Ready, Staged, InRoom, RowsStored, PslRead};
 use columns::Columns;
 use ledger::Part;
 use ledger::Reason;
@@ -249,7 +249,7 @@ fn stage(text: &[u8], lists: &mut [u64]) -> PslAnswer
 {
     let table = PSL;
     let mut values = [0u64; 42];
-    match columns::read_line(text, &table, &mut values, lists) {
+    match columns::walk_text(text, &table, &mut values, lists) {
         Columns::Refused(x) => PslAnswer::Refused(x),
         Columns::Next(_) => after_line(text, &values, lists),
     }
@@ -261,6 +261,17 @@ pub fn check_psl_text(text: &[u8]) -> PslAnswer
 {
     let mut lists = blocks::working_room();
     stage(text, &mut lists)
+}
+
+// The reader into working room for any record's blocks: sizes, queries and targets, each after the room for a record's
+// blocks. In room of another length nothing is stored.
+pub fn read_lists(text: &[u8], lists: &mut [u64]) -> PslAnswer
+    ensures { λ x. ⌜ InRoom (now (text .entry)) (now (lists .entry)) (now (lists .exit)) x ⌝ }
+{
+    if lists.len() != blocks::ROOM {
+        return check_psl_text(text);
+    }
+    stage(text, lists)
 }
 
 // The room (11), then the rows into the lent slices.

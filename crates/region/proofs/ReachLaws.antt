@@ -2,9 +2,11 @@
 use mathlib.Core.Path.{_≡_, refl, sym, ap, ap₂, _∙_}
 use mathlib.Core.Bool.{Bool, true, false, _&&_}
 use mathlib.Core.List.{List, [], _∷_, _++_}
-use Prim.Native.Nat.{ℕ, zero, suc, _+_, _-_, _≤_, _<_, min, max}
+use Prim.Native.Nat.{ℕ, zero, suc, _+_, _-_, _*_, _≤_, _<_, min, max}
+use native.Mathlib.Nat.{le-refl}
 use native.Mathlib.Omega.{arith}
 use lib.ListN.{length, drop, getD}
+use lib.Seq.{drop-nil}
 use lib.Dec.{leb, ltb}
 use borrow.Author.Tests.{lt-leb, le-leb, lt-ltb, le-ltb}
 use Rattle.ledger.specs.Limits.{largestPosition}
@@ -12,7 +14,7 @@ use Rattle.ledger.specs.declared.Strand.{Strand}
 use Rattle.ledger.specs.declared.Strand.the-variants.{Plus, Minus, Dot}
 use Rattle.ledger.specs.declared.Row.{Row}
 use Rattle.ledger.specs.declared.Reason.the-variants.{NoPair}
-use Rattle.blocks.specs.Rows.{tableOf, targetEnd, queryEnd}
+use Rattle.blocks.specs.Rows.{tableOf, rowAt, targetEnd, queryEnd}
 use Rattle.blocks.proofs.TableLaws.{taken, taken-cons, taken-end}
 use Rattle.chain.specs.declared.Chain.{Chain}
 use Rattle.lift.specs.Accepted.{used, Ready}
@@ -23,7 +25,7 @@ use Rattle.region.specs.declared.Reach.{Reach}
 use Rattle.region.specs.declared.RegionAnswer.{RegionAnswer}
 use Rattle.region.specs.declared.RegionAnswer.the-variants.{Lifted}
 use Rattle.region.specs.Regions.{kept, dropped, consIf, partnersIn, least, bound, notLifted}
-use Rattle.region.specs.Reaches.{lowOf, highOf, lap, pickReach, reachBlock, reachOver, covered, Reached, answerOf}
+use Rattle.region.specs.Reaches.{lowOf, highOf, lap, pickReach, reachBlock, reachOver, covered, Reached, answerOf, NotPast, Moved, Halvable, Before}
 use Rattle.region.proofs.CountLaws.{kept-covered, kept-dropped}
 
 -- ---- the leaves
@@ -196,6 +198,59 @@ over-grown k size a e te qe u v (b ∷ bs) run h r =
     ∙ rw (partners-append a e (blockPairs (forwardOn k size) (b .target) (b .query) (b .size)) (pairsOf (forwardOn k size) bs))
     (λ i. record { kept = z i; low = sym (least-append (r .low) x y) i; high = sym (bound-append (r .high) x y) i }))
 
+-- ---- blocks that add nothing: those that end before the region, and those that start past it
+cons-none : (i : ℕ) (b : Row) (rest : List Row) → drop i [] ≡ b ∷ rest → ⊥
+cons-none i b rest d = let q : [] ≡ b ∷ rest = sym (drop-nil i) ∙ d in let z : _≡_ {A = ℕ} 0 1 = cc in omega arith
+
+starts-from : (te qe u v : ℕ) (bs : List Row) → Run te qe u v bs → (i : ℕ) (b : Row) (rest : List Row) → drop i bs ≡ b ∷ rest → u ≤ b .target
+starts-from te qe u v [] run i b rest d = absurd (cons-none i b rest d)
+starts-from te qe u v (x ∷ xs) run zero b rest d = let q : x ≡ b = cc in rw (← q) (run .1)
+starts-from te qe u v (x ∷ xs) run (suc i) b rest d = omega (arith, run .1, starts-from te qe (targetEnd x) (queryEnd x) xs (run .3) i b rest d)
+
+run-from : (te qe u v : ℕ) (bs : List Row) → Run te qe u v bs → (i : ℕ) (b : Row) (rest : List Row) → drop i bs ≡ b ∷ rest → Run te qe (b .target) (b .query) (drop i bs)
+run-from te qe u v [] run i b rest d = absurd (cons-none i b rest d)
+run-from te qe u v (x ∷ xs) run zero b rest d = let q : x ≡ b = cc in rw (← q) (run .0, le-refl (x .target), le-refl (x .query), run .3)
+run-from te qe u v (x ∷ xs) run (suc i) b rest d = run-from te qe (targetEnd x) (queryEnd x) xs (run .3) i b rest d
+
+module _ (k : Strand) (size a e : ℕ) where
+  skipped : (te qe u v : ℕ) (bs : List Row) → Run te qe u v bs → (i : ℕ) (b : Row) (rest : List Row) → drop i bs ≡ b ∷ rest → b .target ≤ a → (r : Reach) → reachOver k size a e r (drop i bs) ≡ reachOver k size a e r bs
+  unfolding reachOver
+  skipped te qe u v bs run zero b rest d h r = refl
+  skipped te qe u v [] run (suc i) b rest d h r = refl
+  skipped te qe u v (x ∷ xs) run (suc i) b rest d h r =
+      let l : targetEnd x ≤ b .target = starts-from te qe (targetEnd x) (queryEnd x) xs (run .3) i b rest d in
+      let n = reach-none k size a e r (x .target) (x .query) (x .size) (max a (x .target)) (min e (x .target + x .size)) refl refl (omega arith) in
+      rw (← n) (skipped te qe (targetEnd x) (queryEnd x) xs (run .3) i b rest d h r)
+
+  past : (te qe u v : ℕ) (bs : List Row) → Run te qe u v bs → e ≤ u → (r : Reach) → reachOver k size a e r bs ≡ r
+  unfolding reachOver
+  past te qe u v [] run h r = refl
+  past te qe u v (x ∷ xs) run h r =
+      let l : e ≤ x .target = omega (arith, run .1) in
+      let n = reach-none k size a e r (x .target) (x .query) (x .size) (max a (x .target)) (min e (x .target + x .size)) refl refl (omega arith) in
+      rw (← n) (past te qe (targetEnd x) (queryEnd x) xs (run .3) (omega arith) r)
+
+covered-drop : (a e i : ℕ) (bs : List Row) → covered a e (drop i bs) ≤ covered a e bs
+unfolding covered
+covered-drop a e zero bs = le-refl (covered a e bs)
+covered-drop a e (suc i) [] = le-refl 0
+covered-drop a e (suc i) (x ∷ xs) = omega (arith, covered-drop a e i xs)
+
+-- ---- halving
+pub mul-bit : (h x : ℕ) → x ≤ 1 → h * x ≤ h
+mul-bit h zero l = omega arith
+mul-bit h (suc zero) l = omega arith
+mul-bit h (suc (suc x)) l = absurd (omega arith)
+
+pub half-moved : (h x t p : ℕ) → NotPast t p x → Moved h t p (h * x)
+half-moved h zero t p n = record { most = omega arith; moved = λ l. absurd (omega arith) }
+half-moved h (suc zero) t p n = record { most = omega arith; moved = λ l. (omega arith, n .past (omega arith)) }
+half-moved h (suc (suc x)) t p n = absurd (omega (arith, n .most))
+
+pub halved : (ts : List ℕ) (low half p r : ℕ) → (1 ≤ low → getD ts low 0 ≤ p) → Moved half (getD ts (low + half) 0) p r → 1 ≤ low + r → getD ts (low + r) 0 ≤ p
+halved ts low half p zero h m l = let q : low + 0 ≡ low = omega arith in rw q (h (omega arith))
+halved ts low half p (suc r) h m l = let w = m .moved (omega arith) in rw (w .0) (w .1)
+
 -- ---- the loop of `region_reach`
 module _ (c : Chain) (t q s : List ℕ) (ready : Ready c t q s) (a e : ℕ) (h : a < e) where
   pub covered-fits : covered a e (used c (tableOf t q s)) ≤ e - a
@@ -205,16 +260,11 @@ module _ (c : Chain) (t q s : List ℕ) (ready : Ready c t q s) (a e : ℕ) (h :
       let l : a ≤ e = omega arith in
       omega (arith, kept-covered (forward c) _ _ _ _ (used c (tableOf t q s)) (r .placed .run) a e l, kept-dropped (pairs c (tableOf t q s)) a e)
 
-  pub reached-all : (r : Reach) (i : ℕ) → c .blockCount ≤ i
-      → reachOver (c .qStrand) (c .qSize) a e r (drop i (taken (c .blockCount) t q s)) ≡ reachOver (c .qStrand) (c .qSize) a e (record { kept = 0; low = c .qSize; high = 0 }) (taken (c .blockCount) t q s)
-      → Reached (c .qSize) a e (pairs c (tableOf t q s)) r
-  unfolding reachOver pairs
-  reached-all r i k inv =
+  reached-is : (r : Reach) → r ≡ reachOver (c .qStrand) (c .qSize) a e (record { kept = 0; low = c .qSize; high = 0 }) (taken (c .blockCount) t q s) → Reached (c .qSize) a e (pairs c (tableOf t q s)) r
+  unfolding pairs
+  reached-is r n =
       let u = accepted-rules c (tableOf t q s) (ready .ok) in
       let l : a ≤ e = omega arith in
-      let st = ready .wide in
-      let n : r ≡ reachOver (c .qStrand) (c .qSize) a e (record { kept = 0; low = c .qSize; high = 0 }) (taken (c .blockCount) t q s)
-      = rw (taken-end (c .blockCount) t q s (st .targets) (st .queries) (st .sizes) i k) at inv in
       let g = n ∙ over-grown (c .qStrand) (c .qSize) a e (c .tEnd) (c .qEnd) (c .tStart) (c .qStart) (used c (tableOf t q s)) (u .placed .run) (u .qInside) (record { kept = 0; low = c .qSize; high = 0 }) in
       let v = kept-covered (forward c) (c .tEnd) (c .qEnd) (c .tStart) (c .qStart) (used c (tableOf t q s)) (u .placed .run) a e l in
       let w = kept-dropped (pairsOf (forward c) (used c (tableOf t q s))) a e in
@@ -226,6 +276,42 @@ module _ (c : Chain) (t q s : List ℕ) (ready : Ready c t q s) (a e : ℕ) (h :
         isDropped = omega arith;
         fits = omega arith;
       }
+
+  pub halvable : e ≤ c .tSize → Halvable t (c .blockCount) a
+  halvable l = record {
+    some = ready .some;
+    wide = ready .wide .targets;
+    small = λ i k. omega (arith, ready .tBlock i k, ready .tInside, ready .tMost);
+    base = omega (arith, ready .tMost);
+  }
+
+  pub from-block : (i : ℕ) → Before t (c .blockCount) a i → (r : Reach) → reachOver (c .qStrand) (c .qSize) a e r (drop i (taken (c .blockCount) t q s)) ≡ reachOver (c .qStrand) (c .qSize) a e r (taken (c .blockCount) t q s)
+  from-block zero b r = refl
+  from-block (suc i) b r =
+      let u = accepted-rules c (tableOf t q s) (ready .ok) in
+      let st = ready .wide in
+      skipped (c .qStrand) (c .qSize) a e (c .tEnd) (c .qEnd) (c .tStart) (c .qStart) (used c (tableOf t q s)) (u .placed .run) (suc i) (rowAt t q s (suc i)) (drop (suc i + 1) (taken (c .blockCount) t q s))
+      (taken-cons (c .blockCount) t q s (st .targets) (st .queries) (st .sizes) (suc i) (b .inside)) (b .starts (omega arith)) r
+
+  pub room-from : (i : ℕ) → e ≤ c .tSize → 0 + covered a e (drop i (taken (c .blockCount) t q s)) ≤ largestPosition
+  room-from i l = omega (arith, covered-drop a e i (used c (tableOf t q s)), covered-fits, ready .tMost)
+
+  pub reached-past : (r : Reach) (i : ℕ) → i < c .blockCount → e ≤ getD t i 0
+      → reachOver (c .qStrand) (c .qSize) a e r (drop i (taken (c .blockCount) t q s)) ≡ reachOver (c .qStrand) (c .qSize) a e (record { kept = 0; low = c .qSize; high = 0 }) (taken (c .blockCount) t q s)
+      → Reached (c .qSize) a e (pairs c (tableOf t q s)) r
+  reached-past r i k l inv =
+      let u = accepted-rules c (tableOf t q s) (ready .ok) in
+      let st = ready .wide in
+      let m = run-from (c .tEnd) (c .qEnd) (c .tStart) (c .qStart) (used c (tableOf t q s)) (u .placed .run) i (rowAt t q s i) (drop (i + 1) (taken (c .blockCount) t q s)) (taken-cons (c .blockCount) t q s (st .targets) (st .queries) (st .sizes) i k) in
+      reached-is r (sym (past (c .qStrand) (c .qSize) a e (c .tEnd) (c .qEnd) (getD t i 0) (getD q i 0) (drop i (taken (c .blockCount) t q s)) m l r) ∙ inv)
+
+  pub reached-all : (r : Reach) (i : ℕ) → c .blockCount ≤ i
+      → reachOver (c .qStrand) (c .qSize) a e r (drop i (taken (c .blockCount) t q s)) ≡ reachOver (c .qStrand) (c .qSize) a e (record { kept = 0; low = c .qSize; high = 0 }) (taken (c .blockCount) t q s)
+      → Reached (c .qSize) a e (pairs c (tableOf t q s)) r
+  unfolding reachOver
+  reached-all r i k inv =
+      let st = ready .wide in
+      reached-is r (rw (taken-end (c .blockCount) t q s (st .targets) (st .queries) (st .sizes) i k) at inv)
 
 module _ (k : Strand) (size a e : ℕ) (t q s : List ℕ) (n i : ℕ) (h : i < n) (ht : n ≤ length t) (hq : n ≤ length q) (hs : n ≤ length s) (r : Reach) where
   pub room-for : r .kept + covered a e (drop i (taken n t q s)) ≤ largestPosition → r .kept + lap a e (getD t i 0) (getD s i 0) ≤ largestPosition

@@ -7,12 +7,13 @@ use Prim.Native.Nat.{ℕ, zero, suc, _+_, _-_, _≤_, _<_, min, max}
 use native.Mathlib.Omega.{arith}
 use lib.ListN.{length, length-append}
 use lib.Dec.{leb, ltb}
-use borrow.Author.Tests.{lt-leb, le-leb, lt-ltb, le-ltb, leb-true, ltb-true, not-true, not-false}
+use borrow.Author.Tests.{lt-leb, le-leb, lt-ltb, le-ltb, leb-true, ltb-true, not-true}
 use Rattle.ledger.specs.declared.Row.{Row}
 use Rattle.ledger.specs.declared.Reason.the-variants.{BlockRules, NoPair, OutsideTarget}
+use Rattle.blocks.specs.Rows.{tableOf}
 use Rattle.blocks.proofs.RuleLaws.{both}
 use Rattle.chain.specs.declared.Chain.{Chain}
-use Rattle.lift.specs.Accepted.{used, accepted}
+use Rattle.lift.specs.Accepted.{used, accepted, Ready}
 use Rattle.lift.specs.Pairs.{Pair, pair, forward, blockPairs, pairsOf, pairs}
 use Rattle.lift.proofs.AcceptLaws.{accepted-rules}
 use Rattle.lift.proofs.PositionLaws.{pair-inside}
@@ -228,22 +229,21 @@ refused-exactly c rows ok a e h k = (λ r. none (rw (ok, lt-ltb a e h, le-leb e 
         let z : kept (pairs c rows) a e < 1 = omega (arith, kept-partners c rows ok a e l) in
         rw (lt-leb 1 (kept (pairs c rows) a e) z)
 
--- ---- the ways out of `lift_region`
-module _ (c : Chain) (rows : List Row) (a e : ℕ) (u : Bool) (ok : u ≡ accepted c rows) (r : RegionAnswer) where
-  pub region-not-accepted : not u ≡ true → r ≡ notLifted BlockRules → r ≡ liftRegion c rows a e
-  unfolding liftRegion
-  region-not-accepted h k = rw (← ok, not-true u h) k
+-- ---- the ways out of `lift_region`: the test fails, or the rows are ready
+pub region-not-accepted : (c : Chain) (rows : List Row) (a e : ℕ) (u : Bool) (r : RegionAnswer) → u ≡ accepted c rows → not u ≡ true → r ≡ notLifted BlockRules → r ≡ liftRegion c rows a e
+unfolding liftRegion
+region-not-accepted c rows a e u r ok h k = rw (← ok, not-true u h) k
 
-  module _ (h : not u ≡ false) where
-    pub region-empty : e ≤ a → r ≡ notLifted OutsideTarget → r ≡ liftRegion c rows a e
-    unfolding liftRegion inside
-    region-empty l k = rw (← ok, not-false u h, le-ltb a e l) k
+module _ (c : Chain) (ts qs zs : List ℕ) (is : Ready c ts qs zs) (a e : ℕ) (r : RegionAnswer) where
+  pub region-empty : e ≤ a → r ≡ notLifted OutsideTarget → r ≡ liftRegion c (tableOf ts qs zs) a e
+  unfolding liftRegion inside
+  region-empty l k = rw (is .ok, le-ltb a e l) k
 
-    pub region-past : a < e → c .tSize < e → r ≡ notLifted OutsideTarget → r ≡ liftRegion c rows a e
-    unfolding liftRegion inside
-    region-past l m k = rw (← ok, not-false u h, lt-ltb a e l, lt-leb e (c .tSize) m) k
+  pub region-past : a < e → c .tSize < e → r ≡ notLifted OutsideTarget → r ≡ liftRegion c (tableOf ts qs zs) a e
+  unfolding liftRegion inside
+  region-past l m k = rw (is .ok, lt-ltb a e l, lt-leb e (c .tSize) m) k
 
-    pub region-carried : a < e → e ≤ c .tSize → (g : Reach) → Reached (c .qSize) a e (pairs c rows) g → r ≡ answerOf g (e - a) → r ≡ liftRegion c rows a e
-    unfolding liftRegion inside carried
-    region-carried l m g reach k =
-        rw (← ok, not-false u h, lt-ltb a e l, le-leb e (c .tSize) m, ← (reach .isKept), ← (reach .isLow), ← (reach .isHigh), ← (reach .isDropped)) k
+  pub region-carried : a < e → e ≤ c .tSize → (g : Reach) → Reached (c .qSize) a e (pairs c (tableOf ts qs zs)) g → r ≡ answerOf g (e - a) → r ≡ liftRegion c (tableOf ts qs zs) a e
+  unfolding liftRegion inside carried
+  region-carried l m g reach k =
+      rw (is .ok, lt-ltb a e l, le-leb e (c .tSize) m, ← (reach .isKept), ← (reach .isLow), ← (reach .isHigh), ← (reach .isDropped)) k

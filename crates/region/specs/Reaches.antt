@@ -1,8 +1,9 @@
 -- A region block by block, as the code goes: what a block adds to it. The laws tie this to the pairs (proofs/ReachLaws.antt).
-use Prim.Native.Nat.{ℕ, _+_, _-_, _≤_, min, max}
+use Prim.Native.Nat.{ℕ, _+_, _-_, _≤_, _<_, min, max}
 use mathlib.Core.Path.{_≡_}
 use mathlib.Core.Bool.{Bool, true, false}
 use mathlib.Core.List.{List, [], _∷_}
+use lib.ListN.{length, getD}
 use lib.Dec.{leb}
 use Rattle.ledger.specs.Limits.{largestPosition}
 use Rattle.ledger.specs.declared.Strand.{Strand}
@@ -70,3 +71,25 @@ pub record Reached (size a e : ℕ) (ps : List Pair) (r : Reach) : Type 0 where
 -- the answer that a reach gives, for a region of len bases
 abbrev pub answerOf : Reach → ℕ → RegionAnswer
 answerOf r len = ifLifted (leb 1 (r .kept)) NoPair (Lifted (record { kept = r .kept; dropped = len - r .kept; start = r .low; end = r .high }))
+
+-- what comparing without a branch promises
+pub record NotPast (t p r : ℕ) : Type 0 where
+  pub most : r ≤ 1
+  pub past : 1 ≤ r → t ≤ p
+
+-- what a step of halving promises: none, or by half to a place at or before the base
+pub record Moved (half t p r : ℕ) : Type 0 where
+  pub most : r ≤ half
+  pub moved : 1 ≤ r → (r ≡ half) × (t ≤ p)
+
+-- starts that halving goes over
+pub record Halvable (ts : List ℕ) (n p : ℕ) : Type 0 where
+  pub some : 1 ≤ n
+  pub wide : n ≤ length ts
+  pub small : (i : ℕ) → i < n → getD ts i 0 ≤ largestPosition
+  pub base : p ≤ largestPosition
+
+-- what halving promises: the first place, or one whose start is at or before the base
+pub record Before (ts : List ℕ) (n p r : ℕ) : Type 0 where
+  pub inside : r < n
+  pub starts : 1 ≤ r → getD ts r 0 ≤ p

@@ -7,8 +7,11 @@ use Rattle.ledger.specs.declared.Reason.{Reason}
 use Rattle.ledger.specs.declared.Reason.the-variants.{BlockRules, NoPair, OutsideTarget}
 use Rattle.ledger.specs.declared.Row.{Row}
 use Rattle.chain.specs.declared.Chain.{Chain}
+use Rattle.chain.specs.Records.{chainRows}
+use Rattle.chain.specs.Read.{chainCheck}
 use Rattle.lift.specs.Accepted.{accepted}
 use Rattle.lift.specs.Pairs.{Pair, pairs, stands}
+use Rattle.lift.specs.Texts.{ofChecked}
 use Rattle.region.specs.declared.RegionAnswer.{RegionAnswer}
 use Rattle.region.specs.declared.RegionAnswer.the-variants.{Lifted, Refused}
 
@@ -70,3 +73,7 @@ liftRegion c rows a e =
     ifLifted (accepted c rows) BlockRules
     (ifLifted (inside c a e) OutsideTarget
     (carried (c .qSize) (pairs c rows) a e))
+
+-- through a chain's text: refused as the text is, or lifted through the chain that it says
+unfoldable pub textLifted : List ℕ → ℕ → ℕ → RegionAnswer
+textLifted s a e = ofChecked Refused (λ c. liftRegion c (chainRows s c) a e) (chainCheck s)

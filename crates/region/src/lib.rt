@@ -3,12 +3,15 @@ ghost use mathlib.Core.Path.{_≡_};
 ghost use Prim.Native.Nat.{_+_, _≤_, _<_, min, max};
 ghost use Rattle.ledger.specs.Limits.{largestPosition};
 ghost use Rattle.blocks.specs.Rows.{tableOf};
-ghost use Rattle.lift.specs.Accepted.{Ready};
+ghost use Rattle.chain.specs.Records.{chainRows};
+ghost use Rattle.lift.specs.Accepted.{accepted, Ready};
 ghost use Rattle.lift.specs.Pairs.{pairs};
-ghost use Rattle.region.specs.Regions.{notLifted, liftRegion};
-ghost use Rattle.region.specs.Reaches.{lowOf, highOf, reachBlock, Reachable, Reached, answerOf};
+ghost use Rattle.lift.specs.Texts.{ChainHeld};
+ghost use Rattle.region.specs.Regions.{notLifted, liftRegion, textLifted};
+ghost use Rattle.region.specs.Reaches.{lowOf, highOf, reachBlock, Reachable, Reached, answerOf, NotPast, Moved, Halvable, Before};
 ghost use Rattle.region.specs.Tallies.{goodTally, tallyStep};
 use chain::Chain;
+use chain::ChainAnswer;
 use ledger::Reason;
 use ledger::Refusal;
 use ledger::Strand;
@@ -112,7 +115,42 @@ fn reach_block(
     }
 }
 
-// The reach of a region inside the target of an accepted chain: one pass over the blocks.
+// 1 where a base stands at or before another, else 0. A division in place of a branch, which halving would guess wrong
+// half the time.
+fn not_past(t: u64, p: u64) -> u64
+    requires { ⌜ (t ≤ largestPosition) × (p ≤ largestPosition) ⌝ }
+    ensures { λ r. ⌜ NotPast t p r ⌝ }
+{
+    (p + (ledger::Position::LARGEST + 1) - t) / (ledger::Position::LARGEST + 1)
+}
+
+// How far halving goes on: by half where a base stands at or before another, else not at all.
+fn half_step(half: usize, t: u64, p: u64) -> usize
+    requires { ⌜ (t ≤ largestPosition) × (p ≤ largestPosition) ⌝ }
+    ensures { λ r. ⌜ Moved half t p r ⌝ }
+{
+    half * (not_past(t, p) as usize)
+}
+
+// A block to start from: the first, or one that starts at or before a base. By halving, so that few blocks before the
+// base are left.
+fn block_before(targets: &[u64], n: usize, p: u64) -> usize
+    requires { ⌜ Halvable (now targets) n p ⌝ }
+    ensures { λ r. ⌜ Before (now (targets .entry)) n p r ⌝ }
+{
+    let mut low = 0;
+    let mut len = n;
+    while 1 < len {
+        let half = len / 2;
+        let mid = low + half;
+        low += half_step(half, targets[mid], p);
+        len -= half;
+    }
+    low
+}
+
+// The reach of a region inside the target of an accepted chain: from a block found by halving to the first that starts
+// past the region.
 fn region_reach(
     c: Chain,
     targets: &[u64],
@@ -133,8 +171,11 @@ fn region_reach(
         low: size,
         high: 0,
     };
-    let mut i = 0;
+    let mut i = block_before(targets, n, start);
     while i < n {
+        if end <= targets[i] {
+            return r;
+        }
         r = reach_block(r, k, size, start, end, targets[i], queries[i], sizes[i]);
         i += 1;
     }
@@ -163,6 +204,28 @@ fn answer_of(r: Reach, len: u64) -> RegionAnswer
     })
 }
 
+// The lift of a region through rows of an accepted chain.
+fn lift_ready(
+    c: Chain,
+    targets: &[u64],
+    queries: &[u64],
+    sizes: &[u64],
+    start: u64,
+    end: u64,
+) -> RegionAnswer
+    requires { ⌜ Ready c (now targets) (now queries) (now sizes) ⌝ }
+    ensures { λ r. ⌜ r ≡ liftRegion c (tableOf (now (targets .entry)) (now (queries .entry)) (now (sizes .entry))) start end ⌝ }
+{
+    if end <= start {
+        return not_lifted(Reason::OutsideTarget);
+    }
+    if c.tSize < end {
+        return not_lifted(Reason::OutsideTarget);
+    }
+    let r = region_reach(c, targets, queries, sizes, start, end);
+    answer_of(r, end - start)
+}
+
 // THE LIFT OF A REGION, its bases start to end − 1, through a chain: record and rows are tested again, as they may be anything.
 pub fn lift_region(
     c: Chain,
@@ -177,14 +240,32 @@ pub fn lift_region(
     if !lift::is_accepted(c, targets, queries, sizes) {
         return not_lifted(Reason::BlockRules);
     }
-    if end <= start {
-        return not_lifted(Reason::OutsideTarget);
+    lift_ready(c, targets, queries, sizes, start, end)
+}
+
+// The same through the rows that reading a chain's text left in its working room.
+fn lift_rows(text: &[u8], c: Chain, rows: &[u64], start: u64, end: u64) -> RegionAnswer
+    requires { ⌜ ChainHeld (now text) c (now rows) ⌝ }
+    ensures { λ r. ⌜ r ≡ liftRegion c (chainRows (now (text .entry)) c) start end ⌝ }
+{
+    let n = c.blockCount as usize;
+    let b = ledger::BLOCK_LIMIT as usize;
+    let d = 2 * b;
+    let e = b + n;
+    let f = d + n;
+    lift_ready(c, &rows[..n], &rows[b..e], &rows[d..f], start, end)
+}
+
+// THE LIFT OF A REGION through a chain's text: what a text that is read says is an accepted chain, so it is not tested
+// again.
+pub fn lift_text(text: &[u8], start: u64, end: u64) -> RegionAnswer
+    ensures { λ r. ⌜ r ≡ textLifted (now (text .entry)) start end ⌝ }
+{
+    let mut rows = blocks::working_room();
+    match chain::read_rows(text, &mut rows) {
+        ChainAnswer::Refused(x) => RegionAnswer::Refused(x),
+        ChainAnswer::Accepted(c) => lift_rows(text, c, &rows, start, end),
     }
-    if c.tSize < end {
-        return not_lifted(Reason::OutsideTarget);
-    }
-    let r = region_reach(c, targets, queries, sizes, start, end);
-    answer_of(r, end - start)
 }
 
 // Whether a tally is one: each field to its limit, and kept and dropped make up asked, with no wrapping.
@@ -209,8 +290,9 @@ fn stay(tally: Tally, reason: Reason) -> Tallied
     Tallied { tally, answer }
 }
 
-// THE STEP OF A TALLY: one region of a batch, the tally after it and the region's answer.
-pub fn tally_step(
+// One region of a batch, the tally after it and the region's answer; record and rows were tested before.
+fn step_tested(
+    ok: bool,
     tally: Tally,
     c: Chain,
     targets: &[u64],
@@ -219,9 +301,10 @@ pub fn tally_step(
     start: u64,
     end: u64,
 ) -> Tallied
+    requires { ⌜ ok ≡ accepted c (tableOf (now targets) (now queries) (now sizes)) ⌝ }
     ensures { λ r. ⌜ r ≡ tallyStep tally c (tableOf (now (targets .entry)) (now (queries .entry)) (now (sizes .entry))) start end ⌝ }
 {
-    if !lift::is_accepted(c, targets, queries, sizes) {
+    if !ok {
         return stay(tally, Reason::BlockRules);
     }
     if end <= start {
@@ -248,4 +331,20 @@ pub fn tally_step(
         tally: grown,
         answer,
     }
+}
+
+// THE STEP OF A TALLY: one region of a batch, the tally after it and the region's answer.
+pub fn tally_step(
+    tally: Tally,
+    c: Chain,
+    targets: &[u64],
+    queries: &[u64],
+    sizes: &[u64],
+    start: u64,
+    end: u64,
+) -> Tallied
+    ensures { λ r. ⌜ r ≡ tallyStep tally c (tableOf (now (targets .entry)) (now (queries .entry)) (now (sizes .entry))) start end ⌝ }
+{
+    let ok = lift::is_accepted(c, targets, queries, sizes);
+    step_tested(ok, tally, c, targets, queries, sizes, start, end)
 }

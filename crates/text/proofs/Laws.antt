@@ -1,12 +1,12 @@
 -- Laws of the scan (one step, a stop, the end), of words and lines by their places, of the first check, and of parts. Assumes nothing.
 use mathlib.Core.Path.{_≡_, refl, sym, ap, _∙_}
-use mathlib.Core.Bool.{Bool, true, false, not, _||_}
+use mathlib.Core.Bool.{Bool, true, false, not, _&&_, _||_}
 use mathlib.Core.List.{List, [], _∷_, _++_}
 use Prim.Native.Nat.{ℕ, zero, suc, _+_, _-_, _≤_, _<_, min}
 use native.Mathlib.Nat.{add-zero, add-sub-cancel-left}
 use native.Mathlib.Numerals.{add-one}
 use native.Mathlib.Omega.{arith}
-use lib.ListN.{length, take, drop, getD, length-drop, drop-of-length-le}
+use lib.ListN.{length, take, drop, getD, take-append-drop, length-take, length-drop, drop-of-length-le}
 use lib.Seq.{drop-cons, drop-drop, take-all, take-nil}
 use borrow.Author.Tests.{not-true, not-false, eqb-true, leb-true, leb-false, le-leb, lt-leb, lt-ltb, le-ltb}
 use lib.Dec.{leb, eqb}
@@ -14,7 +14,7 @@ use Rattle.ledger.specs.declared.Part.{Part}
 use Rattle.ledger.specs.declared.Reason.the-variants.{TextTooLong, WrongCount, ByteNotAllowed}
 use Rattle.ledger.specs.Limits.{textLimit}
 use Rattle.text.specs.declared.Class.{Class}
-use Rattle.text.specs.Scan.{isIn, oneMore, run, endOf}
+use Rattle.text.specs.Scan.{isIn, oneMore, run, endOf, Scanned}
 use Rattle.text.specs.declared.Class.the-variants.{Line, Blank, Word, Allowed}
 use Rattle.text.specs.declared.Extent.{Extent}
 use Rattle.text.specs.declared.Check.the-variants.{Holds, Refused}
@@ -45,6 +45,14 @@ module _ (c : Class) (s : List ℕ) (i : ℕ) where
   pub scan-past : (from : ℕ) → endOf c s i ≡ endOf c s from → length s ≤ i → i ≡ endOf c s from
   scan-past from inv h = sym (endOf-past h) ∙ inv
 
+-- the same before a stop that lies in the text
+module _ (c : Class) (s : List ℕ) (i from stop : ℕ) (t : Bool) (inv : endOf c s i ≡ endOf c s from) (h : i < stop) (e : stop ≡ min (length s) (from + 32)) (is : t ≡ isIn c (getD s i 0)) where
+  pub near-found : not t ≡ true → i ≡ endOf c s from
+  near-found = scan-found c s i from t inv (omega arith) is
+
+  pub near-more : not t ≡ false → endOf c s (i + 1) ≡ endOf c s from
+  near-more = scan-more c s i from t inv (omega arith) is
+
 -- a run that takes all of xs goes on into what follows
 pub more-ones : (t : Bool) (n m : ℕ) → oneMore t n ≡ suc m → (t ≡ true) × (n ≡ m)
 more-ones true n m e = (refl, omega arith)
@@ -64,6 +72,29 @@ word-next s line i w w′ e e′ = rw (add-one, ← e) e′
 pub word-there : (s : List ℕ) (line i k : ℕ) (w : Extent) → w ≡ wordAt s line i → i ≤ k → k ≤ i → w ≡ wordAt s line k
 word-there s line i k w e h l = let q : k ≡ i = omega arith in rw q e
 
+-- a scan over bytes that another class has too ends on the other's way
+abbrev Within : Class → Class → List ℕ → Type 0
+Within c d s = run d s ≡ run c s + run d (drop (run c s) s)
+
+within-step : (c d : Class) (x : ℕ) (s : List ℕ) (t : Bool) → isIn c x ≡ t → (isIn c x ≡ true → isIn d x ≡ true) → Within c d s → Within c d (x ∷ s)
+unfolding run
+within-step c d x s true e f h = rw (f e, e) (omega arith)
+within-step c d x s false e f h = rw e (omega arith)
+
+run-within : (c d : Class) → ((b : ℕ) → isIn c b ≡ true → isIn d b ≡ true) → (s : List ℕ) → Within c d s
+unfolding run
+run-within c d f [] = refl
+run-within c d f (x ∷ s) = within-step c d x s (isIn c x) refl (f x) (run-within c d f s)
+
+pub class-within : (c d : Class) → ((b : ℕ) → isIn c b ≡ true → isIn d b ≡ true) → (s : List ℕ) (i : ℕ) → endOf d s (endOf c s i) ≡ endOf d s i
+unfolding endOf
+class-within c d f s i = omega (arith, run-within c d f (drop i s), ap (run d) (drop-drop (run c (drop i s)) i s))
+
+-- a scan within a line ends within it
+line-within : (c : Class) → ((b : ℕ) → isIn c b ≡ true → isIn Line b ≡ true) → (s : List ℕ) (i : ℕ) → lineEnd s (endOf c s i) ≡ lineEnd s i
+unfolding lineEnd
+line-within c f s i = class-within c Line f s i
+
 pub blank-line : (b : ℕ) → isIn Blank b ≡ true → isIn Line b ≡ true
 blank-line b h = go (eqb b 10) refl
   where
@@ -82,6 +113,27 @@ pub word-ends : (s : List ℕ) (line k : ℕ) → wordAt s line k .end ≡ endOf
 unfolding wordAt nextWord
 word-ends s line zero = refl
 word-ends s line (suc k) = refl
+
+-- every word of a line, there or not, has the line's end for its own
+pub same-line : (s : List ℕ) (line k : ℕ) → lineEnd s (wordAt s line k .start) ≡ lineEnd s line
+unfolding wordAt nextWord
+same-line s line zero = line-within Blank blank-line s line
+same-line s line (suc k) =
+    line-within Blank blank-line s (wordAt s line k .end)
+    ∙ ap (lineEnd s) (word-ends s line k) ∙ line-within Word word-line s (wordAt s line k .start) ∙ same-line s line k
+
+-- the line of a word's end is the line of the place before it
+pub word-line-end : (s : List ℕ) (i : ℕ) → lineEnd s (nextWord s i .end) ≡ lineEnd s i
+unfolding nextWord
+word-line-end s i = line-within Word word-line s (endOf Blank s i) ∙ line-within Blank blank-line s i
+
+pub next-as : (s : List ℕ) (i j : ℕ) → lineEnd s i ≡ lineEnd s j → nextLine s i ≡ nextLine s j
+unfolding nextLine
+next-as s i j e = rw e
+
+pub last-as : (s : List ℕ) (i j : ℕ) → lineEnd s i ≡ lineEnd s j → lastLineCheck s i ≡ lastLineCheck s j
+unfolding lastLineCheck
+last-as s i j e = rw (next-as s i j e)
 
 -- where a scan has ended, none of the class follows
 pub run-ended : (c : Class) (s : List ℕ) → run c (drop (run c s) s) ≡ 0
@@ -175,6 +227,55 @@ module _ (s : List ℕ) where
     pub text-good : length s ≤ bad → Holds ≡ textCheck s
     unfolding textCheck
     text-good k = rw (← is, le-leb (length s) textLimit h, le-leb (length s) bad k)
+
+-- a test of all bytes: those passed, and those from here on
+module _ (c : Class) (s : List ℕ) (i : ℕ) (good : Bool) (inv : (good && leb (length s) (endOf c s i)) ≡ leb (length s) (endOf c s 0)) where
+  pub all-more : (good′ : Bool) (t : Bool) → t ≡ isIn c (getD s i 0) → i < length s → good′ ≡ (good && t) → (good′ && leb (length s) (endOf c s (i + 1))) ≡ leb (length s) (endOf c s 0)
+  all-more good′ true is h e = rw e (go good (rw (endOf-step c s i h (sym is)) at inv))
+    where
+      go : (g : Bool) → (g && leb (length s) (endOf c s (i + 1))) ≡ leb (length s) (endOf c s 0) → ((g && true) && leb (length s) (endOf c s (i + 1))) ≡ leb (length s) (endOf c s 0)
+      go true k = k
+      go false k = k
+  all-more good′ false is h e = rw e (go good (rw (endOf-stop c s i (sym is) h, lt-leb (length s) i h) at inv))
+    where
+      go : (g : Bool) → (g && false) ≡ leb (length s) (endOf c s 0) → ((g && false) && leb (length s) (endOf c s (i + 1))) ≡ leb (length s) (endOf c s 0)
+      go true k = k
+      go false k = k
+
+  pub all-done : length s ≤ i → good ≡ leb (length s) (endOf c s 0)
+  all-done h = go good (rw (endOf-past c s i h, le-leb (length s) i h) at inv)
+    where
+      go : (g : Bool) → (g && true) ≡ leb (length s) (endOf c s 0) → g ≡ leb (length s) (endOf c s 0)
+      go true k = k
+      go false k = k
+
+-- a stride whose bytes are all of the class is passed
+run-short : (c : Class) (s : List ℕ) → run c s ≤ length s
+unfolding run
+run-short c [] = omega arith
+run-short c (b ∷ s) = go (isIn c b) (run-short c s)
+  where
+    go : (t : Bool) → run c s ≤ length s → oneMore t (run c s) ≤ suc (length s)
+    go true h = omega arith
+    go false h = omega arith
+
+module _ (c : Class) (s : List ℕ) (from i n e : ℕ) (inv : endOf c s i ≡ endOf c s from) where
+  pub stride-more : (t : Bool) → i < n → n ≡ length s → e ≡ i + 32 → 32 ≤ n - i → t ≡ leb (length (take (e - i) (drop i s))) (endOf c (take (e - i) (drop i s)) 0) → not t ≡ false → endOf c s e ≡ endOf c s from
+  unfolding endOf
+  stride-more t h en ee k is q =
+      let l : length (take (e - i) (drop i s)) ≡ e - i = rw (length-take, length-drop) (omega arith) in
+      let m : length (take (e - i) (drop i s)) ≤ 0 + run c (take (e - i) (drop i s)) = leb-true _ _ (sym is ∙ not-false t q) in
+      let a : run c (take (e - i) (drop i s)) ≡ length (take (e - i) (drop i s)) = omega (arith, run-short c (take (e - i) (drop i s))) in
+      let b = run-append c (take (e - i) (drop i s)) (drop (e - i) (drop i s)) a in
+      let d : i + (e - i) ≡ e = omega arith in
+      omega (arith, inv, l, ap (run c) (sym (take-append-drop (e - i) (drop i s))), b, ap (run c) (drop-drop (e - i) i s), ap (λ k. run c (drop k s)) d)
+
+module _ (s : List ℕ) (h : length s ≤ textLimit) (t : Bool) (et : t ≡ leb (length s) (endOf Allowed s 0)) where
+  pub text-allowed : t ≡ true → Holds ≡ textCheck s
+  text-allowed e = text-good s (endOf Allowed s 0) h refl (leb-true (length s) (endOf Allowed s 0) (sym et ∙ e))
+
+  pub text-refused : t ≡ false → (bad : ℕ) → Scanned Allowed s 0 bad → Refused (record { reason = ByteNotAllowed; place = bad }) ≡ textCheck s
+  text-refused e bad is = text-bad s bad h (is .is) (omega (arith, is .is, leb-false (length s) (endOf Allowed s 0) (sym et ∙ e)))
 
 -- the next line, where the line ends by a feed and where it doesn't
 module _ (s : List ℕ) (line e : ℕ) (is : e ≡ lineEnd s line) where

@@ -2,3 +2,5 @@ pub mod Laws
 pub mod TextLaws
 pub mod PieceLaws
 pub mod CheckLaws
+pub mod ShowLaws
+pub mod PlainLaws

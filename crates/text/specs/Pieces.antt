@@ -1,5 +1,6 @@
 -- Cutting bytes into pieces: lines at line feeds, list items at commas, words at blanks. One definition serves all three.
 use Prim.Native.Nat.{ℕ}
+use mathlib.Core.Path.{_≡_}
 use mathlib.Core.Bool.{Bool, true, false}
 use mathlib.Core.List.{List, [], _∷_, _++_}
 use lib.ListN.{take}
@@ -47,3 +48,7 @@ unfoldable pub joined : ℕ → List (List ℕ) → List ℕ
 joined sep [] = []
 joined sep (w ∷ []) = w
 joined sep (w ∷ (v ∷ ws)) = w ++ (sep ∷ joined sep (v ∷ ws))
+
+-- a line in standard form, its feed apart: its words, with a tab between each two
+pub record Plain (s : List ℕ) : Type 0 where
+  pub is : lineOf s ≡ joined 9 (wordsOf (lineOf s))

@@ -36,3 +36,9 @@ pub record Scanned (c : Class) (s : List ℕ) (from r : ℕ) : Type 0 where
   pub is : r ≡ endOf c s from
   pub low : from ≤ r
   pub high : r ≤ max from (length s)
+
+-- what a leap promises: a place on the way of the scan
+pub record Passed (c : Class) (s : List ℕ) (from r : ℕ) : Type 0 where
+  pub is : endOf c s r ≡ endOf c s from
+  pub low : from ≤ r
+  pub high : r ≤ max from (length s)

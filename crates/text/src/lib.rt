@@ -1,7 +1,12 @@
 // Bytes by class, one scan over them, and the lines, words and parts of a text by their places.
 ghost use mathlib.Core.Path.{_≡_};
-ghost use Prim.Native.Nat.{min};
-ghost use Rattle.text.specs.Scan.{isIn, Scanned};
+ghost use mathlib.Core.Bool.{true};
+ghost use Prim.Native.Nat.{_+_, min};
+ghost use lib.ListN.{length};
+ghost use lib.Dec.{leb};
+ghost use Rattle.text.specs.declared.Class.the-variants.{Allowed, Word};
+ghost use Rattle.text.specs.Scan.{isIn, endOf, Scanned, Passed};
+ghost use Rattle.text.specs.Pieces.{Plain};
 ghost use Rattle.text.specs.Words.{nextLine, nextWord, wordAt, wordCount, LineEnd, Found};
 ghost use Rattle.text.specs.Parts.{partIn, partBytes, PartIn};
 ghost use Rattle.text.specs.Checks.{require, textCheck, lastLineCheck, wordsCheck};
@@ -48,10 +53,90 @@ pub fn scan(text: &[u8], from: usize, class: Class) -> usize
     i
 }
 
+// Whether all bytes are of a class. The loop has no early way out, so that many bytes are tested at once.
+fn all_in(part: &[u8], class: Class) -> bool
+    ensures { λ r. ⌜ r ≡ leb (length (now (part .entry))) (endOf class (now (part .entry)) 0) ⌝ }
+{
+    let mut good = true;
+    let mut i = 0;
+    while i < part.len() {
+        good = good & is_in(class, part[i]);
+        i += 1;
+    }
+    good
+}
+
+// So many bytes are tested one by one before so many are tested at once.
+const STRIDE: usize = 32;
+
+fn stride_end(n: usize, from: usize) -> usize
+    ensures { λ r. ⌜ r ≡ min n (from + 32) ⌝ }
+{
+    if n < from {
+        return n;
+    }
+    if n - from < STRIDE { n } else { from + STRIDE }
+}
+
+// A place that a scan passes: after as many whole strides of the class as there are.
+fn leap(text: &[u8], from: usize, class: Class) -> usize
+    ensures { λ r. ⌜ Passed class (now (text .entry)) from r ⌝ }
+{
+    let n = text.len();
+    let mut i = from;
+    while i < n {
+        if n - i < STRIDE {
+            return i;
+        }
+        let e = i + STRIDE;
+        if !all_in(&text[i..e], class) {
+            return i;
+        }
+        i = e;
+    }
+    i
+}
+
+// The same place as a scan's, where it is likely to be far.
+fn scan_far(text: &[u8], from: usize, class: Class) -> usize
+    ensures { λ r. ⌜ Scanned class (now (text .entry)) from r ⌝ }
+{
+    let i = leap(text, from, class);
+    scan(text, i, class)
+}
+
+// The end of the word that a place is in: most words are short, and lists are long.
+fn word_end(text: &[u8], from: usize) -> usize
+    ensures { λ r. ⌜ Scanned Word (now (text .entry)) from r ⌝ }
+{
+    let stop = stride_end(text.len(), from);
+    let mut i = from;
+    while i < stop {
+        if !is_in(Class::Word, text[i]) {
+            return i;
+        }
+        i += 1;
+    }
+    scan_far(text, i, Class::Word)
+}
+
 // A check's answer.
 pub enum Check {
     Holds,
     Refused(Refusal),
+}
+
+// Whether a text may hold all its bytes. The loop has no early way out, so that many bytes are tested at once.
+fn all_allowed(text: &[u8]) -> bool
+    ensures { λ r. ⌜ r ≡ leb (length (now (text .entry))) (endOf Allowed (now (text .entry)) 0) ⌝ }
+{
+    let mut good = true;
+    let mut i = 0;
+    while i < text.len() {
+        good = good & is_in(Class::Allowed, text[i]);
+        i += 1;
+    }
+    good
 }
 
 // The length of a text (1), then its first byte that is not allowed (3).
@@ -64,14 +149,14 @@ pub fn check_text(text: &[u8]) -> Check
             place: 0,
         });
     }
-    let bad = scan(text, 0, Class::Allowed);
-    if bad < text.len() {
-        return Check::Refused(Refusal {
-            reason: Reason::ByteNotAllowed,
-            place: bad,
-        });
+    if all_allowed(text) {
+        return Check::Holds;
     }
-    Check::Holds
+    let bad = scan(text, 0, Class::Allowed);
+    Check::Refused(Refusal {
+        reason: Reason::ByteNotAllowed,
+        place: bad,
+    })
 }
 
 // A check: where the test holds, the rest; else a refusal with its reason and place.
@@ -88,7 +173,7 @@ pub fn require(test: bool, reason: Reason, place: usize, rest: Check) -> Check
 pub fn line_end(text: &[u8], line: usize) -> usize
     ensures { λ r. ⌜ LineEnd (now (text .entry)) line r ⌝ }
 {
-    scan(text, line, Class::Line)
+    scan_far(text, line, Class::Line)
 }
 
 // Where the next line would begin; there is one exactly when that is inside the text.
@@ -110,7 +195,7 @@ pub fn next_word(text: &[u8], from: usize) -> Extent
     ensures { λ r. ⌜ Found (nextWord (now (text .entry)) from) (now (text .entry)) from r ⌝ }
 {
     let a = scan(text, from, Class::Blank);
-    let e = scan(text, a, Class::Word);
+    let e = word_end(text, a);
     Extent { start: a, end: e }
 }
 
@@ -142,6 +227,27 @@ pub fn count_words(text: &[u8], line: usize) -> usize
         n += 1;
     }
     n
+}
+
+// Whether a text's line is in standard form: words that show, with a single tab between each two. A quick way that may say yes.
+pub fn is_plain(text: &[u8]) -> bool
+    ensures { λ r. ⌜ (r ≡ true → Plain (now (text .entry))) ⌝ }
+{
+    let mut at = 0;
+    while at < text.len() {
+        let e = scan(text, at, Class::Graphic);
+        if e <= at {
+            return false;
+        }
+        if text.len() <= e {
+            return true;
+        }
+        if text[e] != b'\t' {
+            return text[e] == b'\n';
+        }
+        at = e + 1;
+    }
+    false
 }
 
 // The number of words n of the line that begins at a place (2): at most so many, and a good one.

@@ -1,3 +1,4 @@
 pub mod PutLaws
 pub mod DigitLaws
 pub mod ListLaws
+pub mod StoreLaws

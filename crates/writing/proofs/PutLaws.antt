@@ -133,6 +133,19 @@ module _ (bytes before none none′ : List ℕ) (m : ℕ) (measure : Put bytes 0
   pub write-measured-put : (n r : ℕ) (after : List ℕ) → answer ≡ Written n → Put bytes 0 before after r → Wrote bytes before after (Written r)
   write-measured-put n r after q f = write-put bytes before answer told n r after q f
 
+-- bytes and a line feed
+module _ (bytes before : List ℕ) (m : ℕ) (em : m ≡ onward (length bytes) 1) (answer : Writing) (is : answer ≡ roomAnswer m (length before)) where
+  fed-told : answer ≡ roomAnswer (length (bytes ++ (10 ∷ []))) (length before)
+  fed-told =
+      let q : onward (length bytes) 1 ≡ onward 0 (length (bytes ++ (10 ∷ []))) = omega (arith, length-append bytes (10 ∷ [])) in
+      is ∙ rw (em, q) (measured (length (bytes ++ (10 ∷ []))) (length before))
+
+  pub fed-refused : (x : Refusal) → answer ≡ Refused x → Wrote (bytes ++ (10 ∷ [])) before before (Refused x)
+  fed-refused x q = write-refused (bytes ++ (10 ∷ [])) before answer fed-told x q
+
+  pub fed-put : (n p r : ℕ) (b after : List ℕ) → answer ≡ Written n → Put bytes 0 before b p → Put (10 ∷ []) p b after r → Wrote (bytes ++ (10 ∷ [])) before after (Written r)
+  fed-put n p r b after q f g = write-put (bytes ++ (10 ∷ [])) before answer fed-told n r after q (put-then f g)
+
 -- bytes one by one
 pub bytes-step : (xs : List ℕ) (i p q at : ℕ) (b b₁ b₀ : List ℕ) → Completes (drop i xs) p b xs at b₀ → i < length xs → Put (getD xs i 0 ∷ []) p b b₁ q → Completes (drop (i + 1) xs) q b₁ xs at b₀
 bytes-step xs i p q at b b₁ b₀ k h f = completes-step (drop i xs) (getD xs i 0 ∷ []) (drop (i + 1) xs) xs p q at b b₁ b₀ k (rw (add-one, drop-cons xs i 0 h)) f

@@ -1,7 +1,11 @@
 // Writing bytes, a number's digits and comma lists into a lent buffer.
 // `put_` functions store from a place on as far as the buffer reaches and answer the place after; `write_` functions test the room first.
 ghost use mathlib.Core.Path.{_≡_};
-ghost use mathlib.Core.List.{[], _∷_};
+ghost use mathlib.Core.List.{[], _∷_, _++_};
+ghost use Prim.Native.Nat.{_+_, _≤_};
+ghost use lib.Dec.{leb};
+ghost use lib.ListN.{length};
+ghost use lib.Seq.{sets};
 ghost use Rattle.writing.specs.Digits.{digits, listText};
 ghost use Rattle.writing.specs.Puts.{onward, Put};
 ghost use Rattle.writing.specs.Answers.{roomAnswer, Wrote};
@@ -36,8 +40,20 @@ pub fn put_byte(buf: &mut [u8], at: usize, b: u8) -> usize
     forward(at, 1)
 }
 
-// Stores bytes.
-pub fn put_bytes(buf: &mut [u8], at: usize, bytes: &[u8]) -> usize
+// Stores bytes that there is room for.
+fn store_bytes(buf: &mut [u8], at: usize, bytes: &[u8])
+    requires { ⌜ at + length (now bytes) ≤ length (now buf) ⌝ }
+    ensures { λ _. ⌜ now (buf .exit) ≡ sets (now (buf .entry)) at (now (bytes .entry)) ⌝ }
+{
+    let mut i = 0;
+    while i < bytes.len() {
+        buf[at + i] = bytes[i];
+        i += 1;
+    }
+}
+
+// Stores bytes one by one, as far as the buffer reaches.
+fn put_each(buf: &mut [u8], at: usize, bytes: &[u8]) -> usize
     ensures { λ r. ⌜ Put (now (bytes .entry)) at (now (buf .entry)) (now (buf .exit)) r ⌝ }
 {
     let mut p = at;
@@ -47,6 +63,27 @@ pub fn put_bytes(buf: &mut [u8], at: usize, bytes: &[u8]) -> usize
         i += 1;
     }
     p
+}
+
+// Whether so many bytes of room have room for n from a place on.
+fn has_room(room: usize, at: usize, n: usize) -> bool
+    ensures { λ r. ⌜ r ≡ leb (at + n) room ⌝ }
+{
+    if room < at {
+        return false;
+    }
+    n <= room - at
+}
+
+// Stores bytes. Where there is room for all of them none is tested by itself.
+pub fn put_bytes(buf: &mut [u8], at: usize, bytes: &[u8]) -> usize
+    ensures { λ r. ⌜ Put (now (bytes .entry)) at (now (buf .entry)) (now (buf .exit)) r ⌝ }
+{
+    if has_room(buf.len(), at, bytes.len()) {
+        store_bytes(buf, at, bytes);
+        return at + bytes.len();
+    }
+    put_each(buf, at, bytes)
 }
 
 // Stores a number's digits.
@@ -107,6 +144,19 @@ pub fn write_bytes(buf: &mut [u8], bytes: &[u8]) -> Writing
     match room_for(bytes.len(), buf.len()) {
         Writing::Refused(x) => Writing::Refused(x),
         Writing::Written(_) => Writing::Written(put_bytes(buf, 0, bytes)),
+    }
+}
+
+// Writes bytes and a line feed to the front of a buffer.
+pub fn write_fed(buf: &mut [u8], bytes: &[u8]) -> Writing
+    ensures { λ r. ⌜ Wrote (now (bytes .entry) ++ (10 ∷ [])) (now (buf .entry)) (now (buf .exit)) r ⌝ }
+{
+    match room_for(forward(bytes.len(), 1), buf.len()) {
+        Writing::Refused(x) => Writing::Refused(x),
+        Writing::Written(_) => {
+            let p = put_bytes(buf, 0, bytes);
+            Writing::Written(put_byte(buf, p, b'\n'))
+        }
     }
 }
 

@@ -1,36 +1,36 @@
 -- The table's columns are BED's first n, and what they hold gives the record and its blocks. Assumes nothing.
-use Rattle.bed.proofs.ColumnLaws.{words-few, words-length, words-listed, words-refused, words-on}
+use Rattle.bed.proofs.ColumnLaws.{words-few, words-length, words-listed, words-line, words-refused, words-on}
 use borrow.Author.Needs.{needs}
 use Rattle.bed.proofs.after_words.Statement.{statement}
 use Rattle.bed.proofs.after_words.Tie as tie
 use Rattle.bed.proofs.after_words.Reads as reads
 use Rattle.bed.proofs.after_words.Lts as lts
 use Rattle.bed.proofs.after_columns.Reads as after-columns-reads
-use Rattle.columns.proofs.read_columns.Reads as read-columns-reads
+use Rattle.columns.proofs.walk_line.Reads as walk-line-reads
 
 array-share-prefix-table : tie.Need-array-share-prefix-table
 array-share-prefix-table c = search words-few
 
-slice-aggregate-read-columns : tie.Need-slice-aggregate-read-columns
-slice-aggregate-read-columns c = search words-length
+slice-aggregate-walk-line : tie.Need-slice-aggregate-walk-line
+slice-aggregate-walk-line c = search words-length
 
-slice-aggregate-read-columns-2 : tie.Need-slice-aggregate-read-columns-2
-slice-aggregate-read-columns-2 c = search needs
+slice-aggregate-walk-line-2 : tie.Need-slice-aggregate-walk-line-2
+slice-aggregate-walk-line-2 c = search needs
 
-read-columns-requires : tie.Need-read-columns-requires
-read-columns-requires c κs = search needs
+walk-line-requires : tie.Need-walk-line-requires
+walk-line-requires c κs = search needs
 
 enum-known-x : tie.Need-enum-known-x
 enum-known-x c = search needs
 
-enum-told : tie.Need-enum-told
-enum-told c = search needs
+enum-known-e : tie.Need-enum-known-e
+enum-known-e c = search needs
 
 slice-aggregate-after-columns : tie.Need-slice-aggregate-after-columns
 slice-aggregate-after-columns c = search needs
 
 after-columns-requires : tie.Need-after-columns-requires
-after-columns-requires c κs = search words-listed
+after-columns-requires c κs = (search words-listed, search words-line)
 
 same-length : tie.Need-same-length
 same-length c = search needs
@@ -49,11 +49,11 @@ after-words-spec =
     tie.close
     (tie.spec
     array-share-prefix-table
-    slice-aggregate-read-columns
-    slice-aggregate-read-columns-2
-    read-columns-requires
+    slice-aggregate-walk-line
+    slice-aggregate-walk-line-2
+    walk-line-requires
     enum-known-x
-    enum-told
+    enum-known-e
     slice-aggregate-after-columns
     after-columns-requires
     same-length

@@ -1,37 +1,29 @@
--- The checks, then the rows. Assumes nothing.
-use Rattle.bed.proofs.StoreLaws.{read-refused, read-staged, read-stored}
+-- The quick answer where it is sure, and its rows. Assumes nothing.
+use Rattle.bed.proofs.ColumnLaws.{quick-staged}
 use borrow.Author.Needs.{needs}
 use Rattle.bed.proofs.read_bed.Statement.{statement}
 use Rattle.bed.proofs.read_bed.Tie as tie
 use Rattle.bed.proofs.read_bed.Reads as reads
 use Rattle.bed.proofs.read_bed.Lts as lts
-use Rattle.bed.proofs.stage.Reads as stage-reads
-use Rattle.bed.proofs.store_rows.Reads as store-rows-reads
-use Rattle.bed.proofs.working_room.Reads as working-room-reads
+use Rattle.bed.proofs.few_room.Reads as few-room-reads
+use Rattle.bed.proofs.hand_over.Reads as hand-over-reads
+use Rattle.bed.proofs.quick.Reads as quick-reads
+use Rattle.bed.proofs.read_long.Reads as read-long-reads
 
-working-room-requires : tie.Need-working-room-requires
-working-room-requires c κs = search needs
+few-room-requires : tie.Need-few-room-requires
+few-room-requires c κs = search needs
 
-slice-aggregate-stage : tie.Need-slice-aggregate-stage
-slice-aggregate-stage c = search needs
+slice-aggregate-quick : tie.Need-slice-aggregate-quick
+slice-aggregate-quick c = search needs
 
-stage-requires : tie.Need-stage-requires
-stage-requires c κs = search needs
+quick-requires : tie.Need-quick-requires
+quick-requires c κs = search needs
 
-enum-known-x : tie.Need-enum-known-x
-enum-known-x c = search needs
+slice-aggregate-hand-over : tie.Need-slice-aggregate-hand-over
+slice-aggregate-hand-over c = search needs
 
-enum-known-r : tie.Need-enum-known-r
-enum-known-r c = search needs
-
-slice-aggregate-store-rows : tie.Need-slice-aggregate-store-rows
-slice-aggregate-store-rows c = search needs
-
-store-rows-requires : tie.Need-store-rows-requires
-store-rows-requires c κs = search read-staged
-
-returns : tie.Need-returns
-returns c = search (read-refused, read-stored)
+hand-over-requires : tie.Need-hand-over-requires
+hand-over-requires c κs = search quick-staged
 
 same-length : tie.Need-same-length
 same-length c = search needs
@@ -42,22 +34,39 @@ same-length-2 c = search needs
 same-length-3 : tie.Need-same-length-3
 same-length-3 c = search needs
 
+returns : tie.Need-returns
+returns c = search needs
+
+read-long-requires : tie.Need-read-long-requires
+read-long-requires c κs = search needs
+
+same-length-4 : tie.Need-same-length-4
+same-length-4 c = search needs
+
+same-length-5 : tie.Need-same-length-5
+same-length-5 c = search needs
+
+same-length-6 : tie.Need-same-length-6
+same-length-6 c = search needs
+
 returns-2 : tie.Need-returns-2
-returns-2 c = search (read-refused, read-stored)
+returns-2 c = search needs
 
 pub read-bed-spec : {M : Type 1} → statement M
 read-bed-spec =
     tie.close
     (tie.spec
-    working-room-requires
-    slice-aggregate-stage
-    stage-requires
-    enum-known-x
-    enum-known-r
-    slice-aggregate-store-rows
-    store-rows-requires
-    returns
+    few-room-requires
+    slice-aggregate-quick
+    quick-requires
+    slice-aggregate-hand-over
+    hand-over-requires
     same-length
     same-length-2
     same-length-3
+    returns
+    read-long-requires
+    same-length-4
+    same-length-5
+    same-length-6
     returns-2)

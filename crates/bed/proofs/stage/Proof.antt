@@ -1,15 +1,13 @@
 -- Each check decides, and the next stage goes on. Assumes nothing.
-use Rattle.bed.proofs.ColumnLaws.{words-counted, check-refused, text-refused, text-on}
+use Rattle.bed.proofs.ColumnLaws.{check-refused, check-on}
 use borrow.Author.Needs.{needs}
 use Rattle.bed.proofs.stage.Statement.{statement}
 use Rattle.bed.proofs.stage.Tie as tie
 use Rattle.bed.proofs.stage.Reads as reads
 use Rattle.bed.proofs.stage.Lts as lts
-use Rattle.bed.proofs.after_words.Reads as after-words-reads
-use Rattle.bed.proofs.is_word_count.Reads as is-word-count-reads
+use Rattle.bed.proofs.after_long.Reads as after-long-reads
+use Rattle.bed.proofs.after_text.Reads as after-text-reads
 use Rattle.text.proofs.check_text.Reads as check-text-reads
-use Rattle.text.proofs.check_words.Reads as check-words-reads
-use Rattle.text.proofs.count_words.Reads as count-words-reads
 
 check-text-requires : tie.Need-check-text-requires
 check-text-requires c κs = search needs
@@ -20,35 +18,26 @@ enum-known-x c = search needs
 enum-told : tie.Need-enum-told
 enum-told c = search needs
 
-count-words-requires : tie.Need-count-words-requires
-count-words-requires c κs = search needs
-
-is-word-count-requires : tie.Need-is-word-count-requires
-is-word-count-requires c κs = search needs
-
-check-words-requires : tie.Need-check-words-requires
-check-words-requires c κs = search needs
-
-enum-known-x-2 : tie.Need-enum-known-x-2
-enum-known-x-2 c = search needs
-
-enum-told-2 : tie.Need-enum-told-2
-enum-told-2 c = search needs
-
-after-words-requires : tie.Need-after-words-requires
-after-words-requires c κs = search words-counted
-
-returns : tie.Need-returns
-returns c = search (check-refused, text-refused, text-on)
-
-returns-2 : tie.Need-returns-2
-returns-2 c = search (check-refused, text-refused, text-on)
+after-long-requires : tie.Need-after-long-requires
+after-long-requires c κs = search needs
 
 same-length : tie.Need-same-length
 same-length c = search needs
 
+returns : tie.Need-returns
+returns c = search (check-refused, check-on)
+
+after-text-requires : tie.Need-after-text-requires
+after-text-requires c κs = search needs
+
+returns-2 : tie.Need-returns-2
+returns-2 c = search (check-refused, check-on)
+
+same-length-2 : tie.Need-same-length-2
+same-length-2 c = search needs
+
 returns-3 : tie.Need-returns-3
-returns-3 c = search (check-refused, text-refused, text-on)
+returns-3 c = search (check-refused, check-on)
 
 pub stage-spec : {M : Type 1} → statement M
 stage-spec =
@@ -57,13 +46,10 @@ stage-spec =
     check-text-requires
     enum-known-x
     enum-told
-    count-words-requires
-    is-word-count-requires
-    check-words-requires
-    enum-known-x-2
-    enum-told-2
-    after-words-requires
-    returns
-    returns-2
+    after-long-requires
     same-length
+    returns
+    after-text-requires
+    returns-2
+    same-length-2
     returns-3)

@@ -62,7 +62,7 @@ returns-2 c =
     let t = q .before .before .before .before in
     let i = t .before .before .before in
     let o = i .before .before .before .before .before .before .before .before .before .before in
-    rows-stored _ _ _ _ _ _ (o .pre) _ (i .before .rows-of .ensures) _ _ _ (i .if1 .left) (t .put-shifted .ensures) (q .put-sums .ensures) (z .copy-numbers .ensures)
+    rows-stored _ _ _ _ _ _ _ (o .pre) _ (i .before .rows-of .ensures) _ _ _ (i .if1 .left) (t .put-shifted .ensures) (q .put-sums .ensures) (z .copy-numbers .ensures)
 
 pub store-rows-spec : {M : Type 1} → statement M
 store-rows-spec =

@@ -1,81 +1,70 @@
--- Whatever stores the rows from here on completes the whole. Assumes nothing.
+-- Room for all rows, or one by one. Assumes nothing.
 use borrow.Author.Needs.{needs}
-use Prim.Native.Nat.{_-_, _≤_}
-use mathlib.Core.Path.{_≡_, refl}
-use lib.ListN.{length, drop}
+use Prim.Native.Nat.{_+_, _*_, _≤_}
+use native.Mathlib.Omega.{arith}
+use lib.ListN.{length}
 use Rattle.ledger.specs.Limits.{largestPlace}
-use Rattle.blocks.specs.Rows.{tableOf}
-use Rattle.writing.proofs.PutLaws.{Completes, completes-all}
-use Rattle.binary.specs.Bytes.{wordsBytes, rowsNumbers}
-use Rattle.binary.proofs.ByteLaws.{rows-step, rows-done}
+use Rattle.binary.specs.Bytes.{wordSize}
+use Rattle.binary.proofs.WordLaws.{room-there, rows-put}
 use Rattle.binary.proofs.put_rows.Statement.{statement}
 use Rattle.binary.proofs.put_rows.Tie as tie
 
-abbrev Inv-loop : tie.InvT-loop
-Inv-loop buf₀ at targets queries sizes n p₀ i₀ buf p i = (i ≤ n) × (length buf ≡ length buf₀) × (length buf ≤ largestPlace) × (p ≤ largestPlace) × Completes (wordsBytes (rowsNumbers (drop i (tableOf targets queries sizes)))) p buf (wordsBytes (rowsNumbers (tableOf targets queries sizes))) at buf₀
+-- there is room for all rows
+enough : (c : tie.After-store-rows) → let o = c .before .before .before .before in let a = o .before .before .before .before .before .args in a .at + wordSize * (3 * o .rows-of .result) ≤ length (a .buf .now)
+enough c = search room-there
 
-abbrev μ-loop : tie.MeasureT-loop
-μ-loop buf₀ at targets queries sizes n p₀ i₀ buf p i = n - i
-
-rows-of-requires : tie.Need-rows-of-requires Inv-loop μ-loop
+rows-of-requires : tie.Need-rows-of-requires
 rows-of-requires c κs = search needs
 
-loop-holds : tie.Need-loop-holds Inv-loop μ-loop
-loop-holds c = (search needs, refl, search needs, search needs, completes-all _ _ _)
+mul-has-room : tie.Need-mul-has-room
+mul-has-room c = search needs
 
-mul-put-row : tie.Need-mul-put-row Inv-loop μ-loop
-mul-put-row c = search needs
+has-room-requires : tie.Need-has-room-requires
+has-room-requires c κs = search needs
 
-shared-slice-read-put-row : tie.Need-shared-slice-read-put-row Inv-loop μ-loop
-shared-slice-read-put-row c = search needs
+store-rows-requires : tie.Need-store-rows-requires
+store-rows-requires c κs = (search needs, search room-there)
 
-mul-put-row-2 : tie.Need-mul-put-row-2 Inv-loop μ-loop
-mul-put-row-2 c = search needs
+mul-result : tie.Need-mul-result
+mul-result c = search needs
 
-shared-slice-read-put-row-2 : tie.Need-shared-slice-read-put-row-2 Inv-loop μ-loop
-shared-slice-read-put-row-2 c = search needs
+mul-result-2 : tie.Need-mul-result-2
+mul-result-2 c = omega (arith, enough (c .before .before))
 
-mul-put-row-3 : tie.Need-mul-put-row-3 Inv-loop μ-loop
-mul-put-row-3 c = search needs
+add-result : tie.Need-add-result
+add-result c = omega (arith, enough (c .before .before))
 
-shared-slice-read-put-row-3 : tie.Need-shared-slice-read-put-row-3 Inv-loop μ-loop
-shared-slice-read-put-row-3 c = search needs
-
-put-row-requires : tie.Need-put-row-requires Inv-loop μ-loop
-put-row-requires c κs = search needs
-
-add-i : tie.Need-add-i Inv-loop μ-loop
-add-i c = search needs
-
-loop-less : tie.Need-loop-less Inv-loop μ-loop
-loop-less c = search needs
-
-loop-again : tie.Need-loop-again Inv-loop μ-loop
-loop-again c = (search needs, search needs, search needs, search needs, search rows-step)
-
-same-length : tie.Need-same-length Inv-loop μ-loop
+same-length : tie.Need-same-length
 same-length c = search needs
 
-returns : tie.Need-returns Inv-loop μ-loop
-returns c = search rows-done
+returns : tie.Need-returns
+returns c =
+    let o = c .before .before .before .before .before .before in
+    let l : length (o .before .before .before .before .before .args .buf .now) ≤ largestPlace = search needs in
+    rows-put _ _ _ _ _ _ _ (o .rows-of .ensures) (enough (c .before .before)) l (c .before .before .store-rows .ensures)
+
+put-each-row-requires : tie.Need-put-each-row-requires
+put-each-row-requires c κs = search needs
+
+same-length-2 : tie.Need-same-length-2
+same-length-2 c = search needs
+
+returns-2 : tie.Need-returns-2
+returns-2 c = search needs
 
 pub put-rows-spec : {M : Type 1} → statement M
 put-rows-spec =
     tie.close
     (tie.spec
-    Inv-loop
-    μ-loop
     rows-of-requires
-    loop-holds
-    mul-put-row
-    shared-slice-read-put-row
-    mul-put-row-2
-    shared-slice-read-put-row-2
-    mul-put-row-3
-    shared-slice-read-put-row-3
-    put-row-requires
-    add-i
-    loop-less
-    loop-again
+    mul-has-room
+    has-room-requires
+    store-rows-requires
+    mul-result
+    mul-result-2
+    add-result
     same-length
-    returns)
+    returns
+    put-each-row-requires
+    same-length-2
+    returns-2)

@@ -7,27 +7,36 @@ use lib.Seq.{sets}
 use Rattle.blocks.proofs.BlockLaws.{copied-more, copied-done}
 use Rattle.blocks.proofs.copy_numbers.Statement.{statement}
 use Rattle.blocks.proofs.copy_numbers.Tie as tie
+use Rattle.blocks.proofs.copy_numbers.Reads as reads
+use Rattle.blocks.proofs.copy_numbers.Lts as lts
+use Rattle.blocks.proofs.reach.Reads as reach-reads
 
 abbrev Inv-loop : tie.InvT-loop
-Inv-loop from count to₀ n i₀ to i = (i ≤ n) × (length to ≡ length to₀) × (sets to i (drop i (take count from)) ≡ sets to₀ 0 (take count from))
+Inv-loop from count to₀ n m i₀ to i = (i ≤ m) × (length to ≡ length to₀) × (sets to i (drop i (take count from)) ≡ sets to₀ 0 (take count from))
 
 abbrev μ-loop : tie.MeasureT-loop
-μ-loop from count to₀ n i₀ to i = n - i
+μ-loop from count to₀ n m i₀ to i = m - i
 
 reach-requires : tie.Need-reach-requires Inv-loop μ-loop
 reach-requires c κs = search needs
 
+reach-requires-2 : tie.Need-reach-requires-2 Inv-loop μ-loop
+reach-requires-2 c κs = search needs
+
 loop-holds : tie.Need-loop-holds Inv-loop μ-loop
 loop-holds c = (search needs, refl, refl)
 
-mul-store : tie.Need-mul-store Inv-loop μ-loop
-mul-store c = search needs
+mul-to : tie.Need-mul-to Inv-loop μ-loop
+mul-to c = search needs
 
-shared-slice-read-store : tie.Need-shared-slice-read-store Inv-loop μ-loop
-shared-slice-read-store c = search needs
+shared-slice-read-to : tie.Need-shared-slice-read-to Inv-loop μ-loop
+shared-slice-read-to c = search needs
 
-store-requires : tie.Need-store-requires Inv-loop μ-loop
-store-requires c κs = search needs
+mul-to-2 : tie.Need-mul-to-2 Inv-loop μ-loop
+mul-to-2 c = search needs
+
+slice-write-to : tie.Need-slice-write-to Inv-loop μ-loop
+slice-write-to c = search needs
 
 add-i : tie.Need-add-i Inv-loop μ-loop
 add-i c = search needs
@@ -51,10 +60,12 @@ copy-numbers-spec =
     Inv-loop
     μ-loop
     reach-requires
+    reach-requires-2
     loop-holds
-    mul-store
-    shared-slice-read-store
-    store-requires
+    mul-to
+    shared-slice-read-to
+    mul-to-2
+    slice-write-to
     add-i
     loop-less
     loop-again

@@ -6,22 +6,22 @@ use Rattle.chain.proofs.read_numbers.Tie as tie
 use Rattle.chain.proofs.read_numbers.Reads as reads
 use Rattle.chain.proofs.read_numbers.Lts as lts
 use Rattle.chain.proofs.block_of.Reads as block-of-reads
-use Rattle.columns.proofs.read_columns.Reads as read-columns-reads
+use Rattle.columns.proofs.walk_line.Reads as walk-line-reads
 
 array-share-prefix-table : tie.Need-array-share-prefix-table
 array-share-prefix-table c = search numbers-few
 
-slice-aggregate-read-columns : tie.Need-slice-aggregate-read-columns
-slice-aggregate-read-columns c = search numbers-length
+slice-aggregate-walk-line : tie.Need-slice-aggregate-walk-line
+slice-aggregate-walk-line c = search numbers-length
 
-slice-aggregate-read-columns-2 : tie.Need-slice-aggregate-read-columns-2
-slice-aggregate-read-columns-2 c = search needs
+slice-aggregate-walk-line-2 : tie.Need-slice-aggregate-walk-line-2
+slice-aggregate-walk-line-2 c = search needs
 
-slice-aggregate-read-columns-3 : tie.Need-slice-aggregate-read-columns-3
-slice-aggregate-read-columns-3 c = search needs
+slice-aggregate-walk-line-3 : tie.Need-slice-aggregate-walk-line-3
+slice-aggregate-walk-line-3 c = search needs
 
-read-columns-requires : tie.Need-read-columns-requires
-read-columns-requires c κs = search needs
+walk-line-requires : tie.Need-walk-line-requires
+walk-line-requires c κs = search needs
 
 enum-known-x : tie.Need-enum-known-x
 enum-known-x c = search needs
@@ -46,10 +46,10 @@ read-numbers-spec =
     tie.close
     (tie.spec
     array-share-prefix-table
-    slice-aggregate-read-columns
-    slice-aggregate-read-columns-2
-    slice-aggregate-read-columns-3
-    read-columns-requires
+    slice-aggregate-walk-line
+    slice-aggregate-walk-line-2
+    slice-aggregate-walk-line-3
+    walk-line-requires
     enum-known-x
     enum-told
     slice-aggregate-block-of

@@ -1,80 +1,43 @@
--- Refused, or the standard text of the record. Assumes nothing.
-use Rattle.desk.specs.Entries.{formattedBed}
-use Rattle.desk.proofs.EntryLaws.{bed-refused, bed-wide, format-bed-accepted}
+-- The text itself, or the long way. Assumes nothing.
+use Rattle.desk.proofs.QuickLaws.{format-copied}
 use borrow.Author.Needs.{needs}
 use Rattle.desk.proofs.format_bed.Statement.{statement}
 use Rattle.desk.proofs.format_bed.Tie as tie
+use Rattle.desk.proofs.format_bed.Reads as reads
+use Rattle.desk.proofs.format_bed.Lts as lts
+use Rattle.bed.proofs.is_standard.Reads as is-standard-reads
+use Rattle.desk.proofs.copy_line.Reads as copy-line-reads
+use Rattle.desk.proofs.format_long_bed.Reads as format-long-bed-reads
 
-row-room-requires : tie.Need-row-room-requires
-row-room-requires c κs = search needs
+is-standard-requires : tie.Need-is-standard-requires
+is-standard-requires c κs = search needs
 
-row-room-requires-2 : tie.Need-row-room-requires-2
-row-room-requires-2 c κs = search needs
-
-row-room-requires-3 : tie.Need-row-room-requires-3
-row-room-requires-3 c κs = search needs
-
-slice-aggregate-stage-bed : tie.Need-slice-aggregate-stage-bed
-slice-aggregate-stage-bed c = search needs
-
-slice-aggregate-stage-bed-2 : tie.Need-slice-aggregate-stage-bed-2
-slice-aggregate-stage-bed-2 c = search needs
-
-slice-aggregate-stage-bed-3 : tie.Need-slice-aggregate-stage-bed-3
-slice-aggregate-stage-bed-3 c = search needs
-
-stage-bed-requires : tie.Need-stage-bed-requires
-stage-bed-requires c κs = search needs
-
-enum-known-x : tie.Need-enum-known-x
-enum-known-x c = search needs
-
-refusal-code-requires : tie.Need-refusal-code-requires
-refusal-code-requires c κs = search needs
-
-enum-known-r : tie.Need-enum-known-r
-enum-known-r c = search needs
-
-slice-aggregate-write-bed : tie.Need-slice-aggregate-write-bed
-slice-aggregate-write-bed c = search needs
-
-slice-aggregate-write-bed-2 : tie.Need-slice-aggregate-write-bed-2
-slice-aggregate-write-bed-2 c = search needs
-
-slice-aggregate-write-bed-3 : tie.Need-slice-aggregate-write-bed-3
-slice-aggregate-write-bed-3 c = search needs
-
-write-bed-requires : tie.Need-write-bed-requires
-write-bed-requires c κs = search bed-wide
-
-returns : tie.Need-returns
-unfolding formattedBed
-returns c = search bed-refused
+copy-line-requires : tie.Need-copy-line-requires
+copy-line-requires c κs = search needs
 
 same-length : tie.Need-same-length
 same-length c = search needs
 
+returns : tie.Need-returns
+returns c = search format-copied
+
+format-long-bed-requires : tie.Need-format-long-bed-requires
+format-long-bed-requires c κs = search needs
+
+same-length-2 : tie.Need-same-length-2
+same-length-2 c = search needs
+
 returns-2 : tie.Need-returns-2
-returns-2 c = search format-bed-accepted
+returns-2 c = search needs
 
 pub format-bed-spec : {M : Type 1} → statement M
 format-bed-spec =
     tie.close
     (tie.spec
-    row-room-requires
-    row-room-requires-2
-    row-room-requires-3
-    slice-aggregate-stage-bed
-    slice-aggregate-stage-bed-2
-    slice-aggregate-stage-bed-3
-    stage-bed-requires
-    enum-known-x
-    refusal-code-requires
-    enum-known-r
-    slice-aggregate-write-bed
-    slice-aggregate-write-bed-2
-    slice-aggregate-write-bed-3
-    write-bed-requires
-    returns
+    is-standard-requires
+    copy-line-requires
     same-length
+    returns
+    format-long-bed-requires
+    same-length-2
     returns-2)

@@ -1,30 +1,25 @@
 -- Refused, or the record's numbers and its rows. Assumes nothing.
-use Rattle.desk.proofs.EntryLaws.{chain-refused, parse-chain-accepted}
-use Rattle.desk.specs.Entries.{parsedChain}
+use Rattle.desk.proofs.EntryLaws.{parse-chain-refused, parse-chain-accepted}
+use Rattle.desk.proofs.StageLaws.{chain-parts}
 use borrow.Author.Needs.{needs}
 use Rattle.desk.proofs.parse_chain.Statement.{statement}
 use Rattle.desk.proofs.parse_chain.Tie as tie
+use Rattle.desk.proofs.parse_chain.Reads as reads
+use Rattle.desk.proofs.parse_chain.Lts as lts
+use Rattle.answers.proofs.refusal_code.Reads as refusal-code-reads
+use Rattle.blocks.proofs.working_room.Reads as working-room-reads
+use Rattle.chain.proofs.read_rows.Reads as read-rows-reads
+use Rattle.desk.proofs.answer_rows.Reads as answer-rows-reads
+use Rattle.desk.proofs.chain_fields.Reads as chain-fields-reads
 
-row-room-requires : tie.Need-row-room-requires
-row-room-requires c κs = search needs
+working-room-requires : tie.Need-working-room-requires
+working-room-requires c κs = search needs
 
-row-room-requires-2 : tie.Need-row-room-requires-2
-row-room-requires-2 c κs = search needs
+slice-aggregate-read-rows : tie.Need-slice-aggregate-read-rows
+slice-aggregate-read-rows c = search needs
 
-row-room-requires-3 : tie.Need-row-room-requires-3
-row-room-requires-3 c κs = search needs
-
-slice-aggregate-stage-chain : tie.Need-slice-aggregate-stage-chain
-slice-aggregate-stage-chain c = search needs
-
-slice-aggregate-stage-chain-2 : tie.Need-slice-aggregate-stage-chain-2
-slice-aggregate-stage-chain-2 c = search needs
-
-slice-aggregate-stage-chain-3 : tie.Need-slice-aggregate-stage-chain-3
-slice-aggregate-stage-chain-3 c = search needs
-
-stage-chain-requires : tie.Need-stage-chain-requires
-stage-chain-requires c κs = search needs
+read-rows-requires : tie.Need-read-rows-requires
+read-rows-requires c κs = search needs
 
 enum-known-x : tie.Need-enum-known-x
 enum-known-x c = search needs
@@ -38,51 +33,38 @@ enum-known-r c = search needs
 chain-fields-requires : tie.Need-chain-fields-requires
 chain-fields-requires c κs = search needs
 
-slice-aggregate-answer-record : tie.Need-slice-aggregate-answer-record
-slice-aggregate-answer-record c = search needs
+slice-aggregate-answer-rows : tie.Need-slice-aggregate-answer-rows
+slice-aggregate-answer-rows c = search needs
 
-slice-aggregate-answer-record-2 : tie.Need-slice-aggregate-answer-record-2
-slice-aggregate-answer-record-2 c = search needs
+slice-aggregate-answer-rows-2 : tie.Need-slice-aggregate-answer-rows-2
+slice-aggregate-answer-rows-2 c = search needs
 
-slice-aggregate-answer-record-3 : tie.Need-slice-aggregate-answer-record-3
-slice-aggregate-answer-record-3 c = search needs
-
-slice-aggregate-answer-record-4 : tie.Need-slice-aggregate-answer-record-4
-slice-aggregate-answer-record-4 c = search needs
-
-answer-record-requires : tie.Need-answer-record-requires
-answer-record-requires c κs = search needs
+answer-rows-requires : tie.Need-answer-rows-requires
+answer-rows-requires c κs = search needs
 
 returns : tie.Need-returns
-unfolding parsedChain
-returns c = search chain-refused
+returns c = search parse-chain-refused
 
 same-length : tie.Need-same-length
 same-length c = search needs
 
 returns-2 : tie.Need-returns-2
-returns-2 c = search parse-chain-accepted
+returns-2 c = search (parse-chain-accepted, chain-parts)
 
 pub parse-chain-spec : {M : Type 1} → statement M
 parse-chain-spec =
     tie.close
     (tie.spec
-    row-room-requires
-    row-room-requires-2
-    row-room-requires-3
-    slice-aggregate-stage-chain
-    slice-aggregate-stage-chain-2
-    slice-aggregate-stage-chain-3
-    stage-chain-requires
+    working-room-requires
+    slice-aggregate-read-rows
+    read-rows-requires
     enum-known-x
     refusal-code-requires
     enum-known-r
     chain-fields-requires
-    slice-aggregate-answer-record
-    slice-aggregate-answer-record-2
-    slice-aggregate-answer-record-3
-    slice-aggregate-answer-record-4
-    answer-record-requires
+    slice-aggregate-answer-rows
+    slice-aggregate-answer-rows-2
+    answer-rows-requires
     returns
     same-length
     returns-2)

@@ -1,31 +1,17 @@
 -- A chain's text, then the lift. Assumes nothing.
-use Rattle.desk.specs.Entries.{positionLifted}
-use Rattle.desk.proofs.EntryLaws.{chain-refused, chain-wide}
-use Rattle.desk.proofs.LiftLaws.{position-answered}
+use Rattle.desk.proofs.LiftLaws.{position-refused, position-lifted}
 use borrow.Author.Needs.{needs}
 use Rattle.desk.proofs.tenderchock_lift_position.Statement.{statement}
 use Rattle.desk.proofs.tenderchock_lift_position.Tie as tie
+use Rattle.desk.proofs.tenderchock_lift_position.Reads as reads
+use Rattle.desk.proofs.tenderchock_lift_position.Lts as lts
+use Rattle.answers.proofs.answer_numbers.Reads as answer-numbers-reads
+use Rattle.answers.proofs.refusal_code.Reads as refusal-code-reads
+use Rattle.desk.proofs.drift_word.Reads as drift-word-reads
+use Rattle.lift.proofs.position_text.Reads as position-text-reads
 
-row-room-requires : tie.Need-row-room-requires
-row-room-requires c κs = search needs
-
-row-room-requires-2 : tie.Need-row-room-requires-2
-row-room-requires-2 c κs = search needs
-
-row-room-requires-3 : tie.Need-row-room-requires-3
-row-room-requires-3 c κs = search needs
-
-slice-aggregate-stage-chain : tie.Need-slice-aggregate-stage-chain
-slice-aggregate-stage-chain c = search needs
-
-slice-aggregate-stage-chain-2 : tie.Need-slice-aggregate-stage-chain-2
-slice-aggregate-stage-chain-2 c = search needs
-
-slice-aggregate-stage-chain-3 : tie.Need-slice-aggregate-stage-chain-3
-slice-aggregate-stage-chain-3 c = search needs
-
-stage-chain-requires : tie.Need-stage-chain-requires
-stage-chain-requires c κs = search needs
+position-text-requires : tie.Need-position-text-requires
+position-text-requires c κs = search needs
 
 enum-known-x : tie.Need-enum-known-x
 enum-known-x c = search needs
@@ -33,49 +19,38 @@ enum-known-x c = search needs
 refusal-code-requires : tie.Need-refusal-code-requires
 refusal-code-requires c κs = search needs
 
-enum-known-c : tie.Need-enum-known-c
-enum-known-c c = search needs
+enum-known-partner : tie.Need-enum-known-partner
+enum-known-partner c = search needs
 
-slice-aggregate-answer-position : tie.Need-slice-aggregate-answer-position
-slice-aggregate-answer-position c = search needs
+drift-word-requires : tie.Need-drift-word-requires
+drift-word-requires c κs = search needs
 
-slice-aggregate-answer-position-2 : tie.Need-slice-aggregate-answer-position-2
-slice-aggregate-answer-position-2 c = search needs
+slice-aggregate-answer-numbers : tie.Need-slice-aggregate-answer-numbers
+slice-aggregate-answer-numbers c = search needs
 
-slice-aggregate-answer-position-3 : tie.Need-slice-aggregate-answer-position-3
-slice-aggregate-answer-position-3 c = search needs
-
-answer-position-requires : tie.Need-answer-position-requires
-answer-position-requires c κs = search chain-wide
+answer-numbers-requires : tie.Need-answer-numbers-requires
+answer-numbers-requires c κs = search needs
 
 returns : tie.Need-returns
-unfolding positionLifted
-returns c = search chain-refused
+returns c = search position-refused
 
 same-length : tie.Need-same-length
 same-length c = search needs
 
 returns-2 : tie.Need-returns-2
-returns-2 c = search position-answered
+returns-2 c = search position-lifted
 
 pub tenderchock-lift-position-spec : {M : Type 1} → statement M
 tenderchock-lift-position-spec =
     tie.close
     (tie.spec
-    row-room-requires
-    row-room-requires-2
-    row-room-requires-3
-    slice-aggregate-stage-chain
-    slice-aggregate-stage-chain-2
-    slice-aggregate-stage-chain-3
-    stage-chain-requires
+    position-text-requires
     enum-known-x
     refusal-code-requires
-    enum-known-c
-    slice-aggregate-answer-position
-    slice-aggregate-answer-position-2
-    slice-aggregate-answer-position-3
-    answer-position-requires
+    enum-known-partner
+    drift-word-requires
+    slice-aggregate-answer-numbers
+    answer-numbers-requires
     returns
     same-length
     returns-2)

@@ -1,31 +1,16 @@
 -- A chain's text, then the lift. Assumes nothing.
-use Rattle.desk.specs.Entries.{regionLifted}
-use Rattle.desk.proofs.EntryLaws.{chain-refused, chain-wide}
-use Rattle.desk.proofs.LiftLaws.{region-answered}
+use Rattle.desk.proofs.LiftLaws.{region-refused, region-lifted}
 use borrow.Author.Needs.{needs}
 use Rattle.desk.proofs.tenderchock_lift_region.Statement.{statement}
 use Rattle.desk.proofs.tenderchock_lift_region.Tie as tie
+use Rattle.desk.proofs.tenderchock_lift_region.Reads as reads
+use Rattle.desk.proofs.tenderchock_lift_region.Lts as lts
+use Rattle.answers.proofs.answer_numbers.Reads as answer-numbers-reads
+use Rattle.answers.proofs.refusal_code.Reads as refusal-code-reads
+use Rattle.region.proofs.lift_text.Reads as lift-text-reads
 
-row-room-requires : tie.Need-row-room-requires
-row-room-requires c κs = search needs
-
-row-room-requires-2 : tie.Need-row-room-requires-2
-row-room-requires-2 c κs = search needs
-
-row-room-requires-3 : tie.Need-row-room-requires-3
-row-room-requires-3 c κs = search needs
-
-slice-aggregate-stage-chain : tie.Need-slice-aggregate-stage-chain
-slice-aggregate-stage-chain c = search needs
-
-slice-aggregate-stage-chain-2 : tie.Need-slice-aggregate-stage-chain-2
-slice-aggregate-stage-chain-2 c = search needs
-
-slice-aggregate-stage-chain-3 : tie.Need-slice-aggregate-stage-chain-3
-slice-aggregate-stage-chain-3 c = search needs
-
-stage-chain-requires : tie.Need-stage-chain-requires
-stage-chain-requires c κs = search needs
+lift-text-requires : tie.Need-lift-text-requires
+lift-text-requires c κs = search needs
 
 enum-known-x : tie.Need-enum-known-x
 enum-known-x c = search needs
@@ -33,49 +18,34 @@ enum-known-x c = search needs
 refusal-code-requires : tie.Need-refusal-code-requires
 refusal-code-requires c κs = search needs
 
-enum-known-c : tie.Need-enum-known-c
-enum-known-c c = search needs
+enum-known-x-2 : tie.Need-enum-known-x-2
+enum-known-x-2 c = search needs
 
-slice-aggregate-answer-region : tie.Need-slice-aggregate-answer-region
-slice-aggregate-answer-region c = search needs
+slice-aggregate-answer-numbers : tie.Need-slice-aggregate-answer-numbers
+slice-aggregate-answer-numbers c = search needs
 
-slice-aggregate-answer-region-2 : tie.Need-slice-aggregate-answer-region-2
-slice-aggregate-answer-region-2 c = search needs
-
-slice-aggregate-answer-region-3 : tie.Need-slice-aggregate-answer-region-3
-slice-aggregate-answer-region-3 c = search needs
-
-answer-region-requires : tie.Need-answer-region-requires
-answer-region-requires c κs = search chain-wide
+answer-numbers-requires : tie.Need-answer-numbers-requires
+answer-numbers-requires c κs = search needs
 
 returns : tie.Need-returns
-unfolding regionLifted
-returns c = search chain-refused
+returns c = search region-refused
 
 same-length : tie.Need-same-length
 same-length c = search needs
 
 returns-2 : tie.Need-returns-2
-returns-2 c = search region-answered
+returns-2 c = search region-lifted
 
 pub tenderchock-lift-region-spec : {M : Type 1} → statement M
 tenderchock-lift-region-spec =
     tie.close
     (tie.spec
-    row-room-requires
-    row-room-requires-2
-    row-room-requires-3
-    slice-aggregate-stage-chain
-    slice-aggregate-stage-chain-2
-    slice-aggregate-stage-chain-3
-    stage-chain-requires
+    lift-text-requires
     enum-known-x
     refusal-code-requires
-    enum-known-c
-    slice-aggregate-answer-region
-    slice-aggregate-answer-region-2
-    slice-aggregate-answer-region-3
-    answer-region-requires
+    enum-known-x-2
+    slice-aggregate-answer-numbers
+    answer-numbers-requires
     returns
     same-length
     returns-2)

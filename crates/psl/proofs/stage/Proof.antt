@@ -5,17 +5,17 @@ use Rattle.psl.proofs.stage.Statement.{statement}
 use Rattle.psl.proofs.stage.Tie as tie
 use Rattle.psl.proofs.stage.Reads as reads
 use Rattle.psl.proofs.stage.Lts as lts
-use Rattle.columns.proofs.read_line.Reads as read-line-reads
+use Rattle.columns.proofs.walk_text.Reads as walk-text-reads
 use Rattle.psl.proofs.after_line.Reads as after-line-reads
 
-slice-aggregate-read-line : tie.Need-slice-aggregate-read-line
-slice-aggregate-read-line c = search needs
+slice-aggregate-walk-text : tie.Need-slice-aggregate-walk-text
+slice-aggregate-walk-text c = search needs
 
-slice-aggregate-read-line-2 : tie.Need-slice-aggregate-read-line-2
-slice-aggregate-read-line-2 c = search needs
+slice-aggregate-walk-text-2 : tie.Need-slice-aggregate-walk-text-2
+slice-aggregate-walk-text-2 c = search needs
 
-read-line-requires : tie.Need-read-line-requires
-read-line-requires c κs = search needs
+walk-text-requires : tie.Need-walk-text-requires
+walk-text-requires c κs = search needs
 
 enum-known-x : tie.Need-enum-known-x
 enum-known-x c = search needs
@@ -45,9 +45,9 @@ pub stage-spec : {M : Type 1} → statement M
 stage-spec =
     tie.close
     (tie.spec
-    slice-aggregate-read-line
-    slice-aggregate-read-line-2
-    read-line-requires
+    slice-aggregate-walk-text
+    slice-aggregate-walk-text-2
+    walk-text-requires
     enum-known-x
     enum-told
     slice-aggregate-after-line

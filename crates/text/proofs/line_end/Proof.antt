@@ -4,12 +4,12 @@ use Rattle.text.specs.Words.{lineEnd}
 use Rattle.text.proofs.line_end.Statement.{statement}
 use Rattle.text.proofs.line_end.Tie as tie
 
-scan-requires : tie.Need-scan-requires
-scan-requires c κs = search needs
+scan-far-requires : tie.Need-scan-far-requires
+scan-far-requires c κs = search needs
 
 returns : tie.Need-returns
 unfolding lineEnd
-returns c = record { is = c .scan .ensures .is; low = search needs; high = search needs }
+returns c = record { is = c .scan-far .ensures .is; low = search needs; high = search needs }
 
 pub line-end-spec : {M : Type 1} → statement M
-line-end-spec = tie.close (tie.spec scan-requires returns)
+line-end-spec = tie.close (tie.spec scan-far-requires returns)

@@ -1,57 +1,52 @@
--- Whatever stores the bytes from here on completes the whole. Assumes nothing.
+-- Room for all bytes, or one by one. Assumes nothing.
 use borrow.Author.Needs.{needs}
-use Prim.Native.Nat.{_-_, _≤_}
-use mathlib.Core.Path.{_≡_, refl}
-use lib.ListN.{length, drop}
+use Prim.Native.Nat.{_+_, _≤_}
+use native.Mathlib.Omega.{arith}
+use lib.ListN.{length}
 use Rattle.ledger.specs.Limits.{largestPlace}
-use Rattle.writing.proofs.PutLaws.{Completes, completes-all, bytes-step, bytes-done}
+use Rattle.writing.proofs.StoreLaws.{room-there, bytes-put}
 use Rattle.writing.proofs.put_bytes.Statement.{statement}
 use Rattle.writing.proofs.put_bytes.Tie as tie
-use Rattle.writing.proofs.put_bytes.Reads as reads
-use Rattle.writing.proofs.put_bytes.Lts as lts
-use Rattle.writing.proofs.put_byte.Reads as put-byte-reads
 
-abbrev Inv-loop : tie.InvT-loop
-Inv-loop buf₀ at bytes p₀ i₀ buf p i = (i ≤ length bytes) × (length buf ≡ length buf₀) × (length buf ≤ largestPlace) × (p ≤ largestPlace) × Completes (drop i bytes) p buf bytes at buf₀
+-- there is room for all bytes
+enough : (c : tie.After-store-bytes) → let a = c .before .before .before .before .before .before .args in a .at + length (a .bytes .now) ≤ length (a .buf .now)
+enough c = search room-there
 
-abbrev μ-loop : tie.MeasureT-loop
-μ-loop buf₀ at bytes p₀ i₀ buf p i = length bytes - i
+has-room-requires : tie.Need-has-room-requires
+has-room-requires c κs = search needs
 
-loop-holds : tie.Need-loop-holds Inv-loop μ-loop
-loop-holds c = (search needs, refl, search needs, search needs, completes-all _ _ _)
+store-bytes-requires : tie.Need-store-bytes-requires
+store-bytes-requires c κs = search room-there
 
-shared-slice-read-put-byte : tie.Need-shared-slice-read-put-byte Inv-loop μ-loop
-shared-slice-read-put-byte c = search needs
+add-result : tie.Need-add-result
+add-result c = omega (arith, enough (c .before .before))
 
-put-byte-requires : tie.Need-put-byte-requires Inv-loop μ-loop
-put-byte-requires c κs = search needs
-
-add-i : tie.Need-add-i Inv-loop μ-loop
-add-i c = search needs
-
-loop-less : tie.Need-loop-less Inv-loop μ-loop
-loop-less c = search needs
-
-loop-again : tie.Need-loop-again Inv-loop μ-loop
-loop-again c = (search needs, search needs, search needs, search needs, search bytes-step)
-
-same-length : tie.Need-same-length Inv-loop μ-loop
+same-length : tie.Need-same-length
 same-length c = search needs
 
-returns : tie.Need-returns Inv-loop μ-loop
-returns c = search bytes-done
+returns : tie.Need-returns
+returns c =
+    let l : length (c .before .before .before .before .before .before .before .before .args .buf .now) ≤ largestPlace = search needs in
+    bytes-put _ _ _ _ (enough (c .before .before)) l (c .before .before .store-bytes .ensures)
+
+put-each-requires : tie.Need-put-each-requires
+put-each-requires c κs = search needs
+
+same-length-2 : tie.Need-same-length-2
+same-length-2 c = search needs
+
+returns-2 : tie.Need-returns-2
+returns-2 c = search needs
 
 pub put-bytes-spec : {M : Type 1} → statement M
 put-bytes-spec =
     tie.close
     (tie.spec
-    Inv-loop
-    μ-loop
-    loop-holds
-    shared-slice-read-put-byte
-    put-byte-requires
-    add-i
-    loop-less
-    loop-again
+    has-room-requires
+    store-bytes-requires
+    add-result
     same-length
-    returns)
+    returns
+    put-each-requires
+    same-length-2
+    returns-2)

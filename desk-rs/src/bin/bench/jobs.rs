@@ -3,7 +3,8 @@
 
 use std::hint::black_box;
 
-use crate::fast::{self, Answer, Row, Rows, BLOCK_LIMIT};
+use crate::fast::{self, Answer, Bed, Chain, Numbers, Psl, Record, Refused, Room, Row};
+use crate::texts::{self, damage, NUMBERS};
 use tenderchock::{sys, Kind};
 
 /// Who does the work.
@@ -16,8 +17,10 @@ pub enum Side {
 /// What is done with each text.
 #[derive(Clone, Copy)]
 enum Work {
-    Check(Kind),
-    Parse(Kind),
+    Check,
+    Parse,
+    /// The standard text, into lent bytes.
+    Format,
     /// The numbers of the text, into lent bytes.
     Numbers,
     /// Each region goes through the text, a chain.
@@ -25,9 +28,10 @@ enum Work {
 }
 
 pub struct Job {
-    pub name: &'static str,
-    pub about: &'static str,
+    pub name: String,
+    pub about: String,
     work: Work,
+    kind: Kind,
     texts: Vec<Vec<u8>>,
     regions: Vec<(u64, u64)>,
     /// What one time is divided by, and what that is.
@@ -37,57 +41,81 @@ pub struct Job {
 
 /// What lent bytes hold before they are compared.
 const MARK: u8 = 0xA5;
-const BLOCKS: u64 = 512;
-const NUMBERS: u64 = 3_000;
+const BLOCKS: u64 = fast::BLOCK_LIMIT as u64;
 const REGIONS: u64 = 10_000;
 
 /// The jobs; `small` has fewer regions, for counting instructions.
 pub fn all(small: bool) -> Vec<Job> {
     let regions = if small { REGIONS / 100 } else { REGIONS };
-    let bed = job(
-        "bed",
-        "a BED line of 12 words with 512 blocks, parsed",
-        Kind::Bed,
-        bed(),
-    );
-    let psl = job(
-        "psl",
-        "a PSL line with 512 blocks, parsed",
-        Kind::Psl,
-        psl(),
-    );
-    let chain = job(
-        "chain",
-        "a chain of 512 blocks, parsed",
-        Kind::Chain,
-        chain(),
-    );
-    let numbers = Job {
-        work: Work::Numbers,
-        units: NUMBERS,
-        unit: "number",
-        ..job("numbers", ABOUT_NUMBERS, Kind::Bed, self::numbers())
-    };
-    let scores = Job {
-        work: Work::Check(Kind::Chain),
-        texts: self::scores(),
-        units: NUMBERS,
-        ..job("scores", SCORES, Kind::Chain, Vec::new())
-    };
-    let list = Job {
-        work: Work::Check(Kind::Bed),
-        units: NUMBERS,
-        unit: "number",
-        ..job("list", LIST, Kind::Bed, long_list())
-    };
-    let lift = Job {
-        work: Work::Lift,
-        regions: (0..regions).map(region).collect(),
-        units: regions,
-        unit: "region",
-        ..job("lift", LIFT, Kind::Chain, chain.texts[0].clone())
-    };
-    vec![numbers, scores, list, bed, psl, chain, lift]
+    let long = |kind| vec![texts::text(kind, BLOCKS)];
+    let mut jobs = vec![
+        job(
+            "numbers",
+            ABOUT_NUMBERS,
+            Work::Numbers,
+            Kind::Bed,
+            vec![texts::numbers()],
+        )
+        .per(NUMBERS, "number"),
+        job("scores", SCORES, Work::Check, Kind::Chain, texts::scores()),
+        job(
+            "list",
+            LIST,
+            Work::Check,
+            Kind::Bed,
+            vec![texts::long_list()],
+        )
+        .per(NUMBERS, "number"),
+    ];
+    for (does, done, work) in [
+        ("check", "checked", Work::Check),
+        ("format", "written as standard text", Work::Format),
+    ] {
+        for words in [3, 6, 12] {
+            let (name, lines) = (format!("bed{words}-{does}"), texts::exons(words));
+            let about = format!("{} BED lines of {words} words, each {done}", lines.len());
+            jobs.push(job(&name, &about, work, Kind::Bed, lines));
+        }
+    }
+    for (name, about, kind) in [
+        ("bed", "a BED line of 12 words with 512 blocks", Kind::Bed),
+        ("psl", "a PSL line with 512 blocks", Kind::Psl),
+        ("chain", "a chain of 512 blocks", Kind::Chain),
+    ] {
+        let about = format!("{about}, parsed");
+        jobs.push(job(name, &about, Work::Parse, kind, long(kind)));
+    }
+    jobs.push(Job {
+        regions: texts::regions(regions, BLOCKS),
+        ..job("lift", LIFT, Work::Lift, Kind::Chain, long(Kind::Chain)).per(regions, "region")
+    });
+    jobs
+}
+
+/// The numbers of blocks at which growth is shown.
+pub const GROWTH: [u64; 4] = [1, 8, 64, BLOCKS];
+
+/// For each kind of text and each entry, a job at each number of blocks.
+pub fn growth() -> Vec<[Job; GROWTH.len()]> {
+    let mut rows = Vec::new();
+    for (text, kind) in [
+        ("bed", Kind::Bed),
+        ("psl", Kind::Psl),
+        ("chain", Kind::Chain),
+    ] {
+        for (does, work) in [
+            ("check", Work::Check),
+            ("parse", Work::Parse),
+            ("format", Work::Format),
+        ] {
+            let about = format!("{text}, {does}");
+            rows.push(GROWTH.map(|blocks| {
+                let (name, text) = (format!("{text}-{does}-{blocks}"), texts::text(kind, blocks));
+                job(&name, &about, work, kind, vec![text]).per(blocks, "block")
+            }));
+        }
+    }
+    rows
 }
 
 const ABOUT_NUMBERS: &str = "3,000 numbers of 1 to 18 digits in one text, read into lent bytes";
@@ -98,55 +126,80 @@ const LIST: &str = "3,000 numbers of 1 to 10 digits in one list of a BED line, \
 const LIFT: &str =
     "10,000 regions lifted one by one through that chain, whose text is handed in each time";
 
-/// One text parsed.
-fn job(name: &'static str, about: &'static str, kind: Kind, text: Vec<u8>) -> Job {
+/// Work on each of these texts.
+fn job(name: &str, about: &str, work: Work, kind: Kind, texts: Vec<Vec<u8>>) -> Job {
     Job {
-        name,
-        about,
-        work: Work::Parse(kind),
-        texts: vec![text],
-        regions: Vec::new(),
-        units: 1,
+        name: name.into(),
+        about: about.into(),
+        work,
+        kind,
+        units: texts.len() as u64,
         unit: if kind == Kind::Chain { "chain" } else { "line" },
+        texts,
+        regions: Vec::new(),
     }
 }
 
 impl Job {
-    /// Does all of it once.
-    pub fn run(&self, side: Side, lent: &mut Lent) {
-        for text in &self.texts {
-            self.run_text(side, black_box(text), lent);
+    /// The same, with another unit.
+    fn per(self, units: u64, unit: &'static str) -> Job {
+        Job {
+            units,
+            unit,
+            ..self
         }
     }
 
-    fn run_text(&self, side: Side, text: &[u8], lent: &mut Lent) {
-        match (self.work, side) {
-            (Work::Check(kind), Side::Library) => {
-                black_box(sys::check(kind.number(), text));
-            }
-            (Work::Parse(kind), Side::Library) => {
-                black_box(sys::parse(kind.number(), text, &mut lent.bytes));
-                black_box(&lent.bytes);
-            }
-            (Work::Check(kind) | Work::Parse(kind), Side::Rust) => {
-                let _ = black_box(lent.read(kind, text));
-                black_box(&lent.rows);
-            }
-            (Work::Numbers, Side::Library) => {
-                black_box(sys::numbers(text, &mut lent.bytes));
-                black_box(&lent.bytes);
-            }
-            (Work::Numbers, Side::Rust) => {
-                let (room, bytes) = (&mut lent.numbers, &mut lent.bytes);
-                let _ = black_box(fast::numbers::read(text, room, bytes));
-                black_box(&lent.bytes);
-            }
-            (Work::Lift, Side::Library) => self.regions.iter().for_each(|(start, end)| {
-                black_box(sys::lift_region(text, *start, *end, &mut lent.bytes));
+    /// Does all of it once.
+    pub fn run(&self, side: Side, lent: &mut Lent) {
+        match (side, self.kind) {
+            (Side::Library, _) => self.run_library(lent),
+            (Side::Rust, Kind::Bed) => self.run_rust::<Bed>(lent),
+            (Side::Rust, Kind::Psl) => self.run_rust::<Psl>(lent),
+            (Side::Rust, Kind::Chain) => self.run_rust::<Chain>(lent),
+        }
+    }
+
+    fn run_library(&self, lent: &mut Lent) {
+        let kind = self.kind.number();
+        match self.work {
+            Work::Check => self.each(lent, |text, _| sys::check(kind, text)),
+            Work::Parse => self.each(lent, |text, lent| sys::parse(kind, text, &mut lent.bytes)),
+            Work::Format => self.each(lent, |text, lent| sys::format(kind, text, &mut lent.bytes)),
+            Work::Numbers => self.each(lent, |text, lent| sys::numbers(text, &mut lent.bytes)),
+            Work::Lift => self.each_region(lent, |text, start, end, lent| {
+                sys::lift_region(text, start, end, &mut lent.bytes)
             }),
-            (Work::Lift, Side::Rust) => self.regions.iter().for_each(|(start, end)| {
-                let _ = black_box(fast::chain::lift_region(text, *start, *end, &mut lent.room));
+        }
+    }
+
+    fn run_rust<R: Record>(&self, lent: &mut Lent) {
+        match self.work {
+            Work::Check => self.each(lent, |text, lent| fast::check::<R>(text, &mut lent.room)),
+            Work::Parse => self.each(lent, |text, lent| {
+                fast::parse::<R>(text, &mut lent.room, &mut lent.rows)
             }),
+            Work::Format => self.each(lent, |text, lent| {
+                fast::format::<R>(text, &mut lent.room, &mut lent.bytes)
+            }),
+            Work::Numbers => self.each(lent, |text, lent| {
+                fast::numbers(text, &mut lent.numbers, &mut lent.bytes)
+            }),
+            Work::Lift => self.each_region(lent, |text, start, end, lent| {
+                fast::lift_region(text, start, end, &mut lent.room)
+            }),
+        }
+    }
+
+    fn each<T>(&self, lent: &mut Lent, work: impl Fn(&[u8], &mut Lent) -> T) {
+        for text in &self.texts {
+            black_box(work(black_box(text), black_box(lent)));
+        }
+    }
+
+    fn each_region<T>(&self, lent: &mut Lent, work: impl Fn(&[u8], u64, u64, &mut Lent) -> T) {
+        for (start, end) in &self.regions {
+            self.each(lent, |text, lent| work(text, *start, *end, lent));
         }
     }
 
@@ -161,24 +214,66 @@ impl Job {
     }
 
     fn agree_on(&self, text: &[u8], lent: &mut Lent) -> bool {
+        match self.kind {
+            Kind::Bed => self.agree_as::<Bed>(text, lent),
+            Kind::Psl => self.agree_as::<Psl>(text, lent),
+            Kind::Chain => self.agree_as::<Chain>(text, lent),
+        }
+    }
+
+    fn agree_as<R: Record>(&self, text: &[u8], lent: &mut Lent) -> bool {
+        let kind = self.kind.number();
         match self.work {
-            Work::Check(kind) | Work::Parse(kind) => {
-                let count = sys::parse(kind.number(), text, &mut lent.bytes);
-                let library = lent.parsed(count);
-                library == lent.read_numbers(kind, text)
+            Work::Check | Work::Parse => {
+                let count = sys::parse(kind, text, &mut lent.bytes);
+                let checked = code(fast::check::<R>(text, &mut lent.room));
+                lent.parsed(count) == lent.read_numbers::<R>(text)
+                    && sys::check(kind, text) == checked
+            }
+            Work::Format => {
+                let written = fast::format::<R>(text, &mut lent.room, &mut lent.bytes);
+                let exact = written.unwrap_or(0);
+                [exact + 9, exact, exact.saturating_sub(1), 0]
+                    .into_iter()
+                    .all(|room| {
+                        let library = |out: &mut [u8]| sys::format(kind, text, out);
+                        agree_in(room, library, |out| {
+                            fast::format::<R>(text, &mut lent.room, out)
+                        })
+                    })
             }
             Work::Numbers => {
                 let exact = 8 * NUMBERS as usize;
                 [exact, exact - 1, 0]
-                    .iter()
-                    .all(|room| lent.numbers_agree(text, *room))
+                    .into_iter()
+                    .all(|room| lent.numbers_agree(text, room))
             }
             Work::Lift => self.regions.iter().take(3).all(|(start, end)| {
                 let count = sys::lift_region(text, *start, *end, &mut lent.bytes);
-                let rust = fast::chain::lift_region(text, *start, *end, &mut lent.room);
+                let rust = fast::lift_region(text, *start, *end, &mut lent.room);
                 lent.parsed(count) == rust.map(|numbers| numbers.to_vec())
             }),
         }
+    }
+}
+
+/// Whether both sides give the same answer and leave the same bytes in so much room.
+fn agree_in(
+    room: usize,
+    library: impl FnOnce(&mut [u8]) -> u64,
+    rust: impl FnOnce(&mut [u8]) -> Answer<usize>,
+) -> bool {
+    let (mut given, mut wanted) = (vec![MARK; room], vec![MARK; room]);
+    let (answer, code) = (library(&mut given), code(rust(&mut wanted)));
+    let kept = code % 16 == 0 || wanted.iter().all(|byte| *byte == MARK);
+    answer == code && given == wanted && kept
+}
+
+/// An answer as the library codes it.
+fn code(answer: Answer<usize>) -> u64 {
+    match answer {
+        Ok(count) => count as u64 * 16,
+        Err(refused) => refused.place as u64 * 16 + u64::from(refused.number),
     }
 }
 
@@ -186,56 +281,36 @@ impl Job {
 pub struct Lent {
     bytes: Vec<u8>,
     rows: Vec<Row>,
-    room: Box<Rows>,
-    numbers: Box<fast::numbers::Numbers>,
+    room: Box<Room>,
+    numbers: Box<Numbers>,
 }
 
 impl Lent {
     pub fn new() -> Lent {
         Lent {
             bytes: vec![0; 8 * NUMBERS.max(20 + 3 * BLOCKS) as usize],
-            rows: vec![Row::default(); BLOCK_LIMIT],
-            room: Box::new([Row::default(); BLOCK_LIMIT]),
-            numbers: fast::numbers::room(),
+            rows: vec![Row::default(); fast::BLOCK_LIMIT],
+            room: Box::new(Room::new()),
+            numbers: fast::numbers_room(),
         }
     }
 
-    /// Reads a text in plain Rust; answers its number of blocks.
-    fn read(&mut self, kind: Kind, text: &[u8]) -> Answer<usize> {
-        let (room, rows) = (&mut *self.room, &mut self.rows);
-        Ok(match kind {
-            Kind::Bed => fast::bed::read(text, room, rows)?.block_count,
-            Kind::Psl => fast::psl::read(text, room, rows)?.block_count,
-            Kind::Chain => fast::chain::read(text, room, rows)?.block_count,
-        })
-    }
-
     /// The record and rows that plain Rust reads, as the library's parse gives them.
-    fn read_numbers(&mut self, kind: Kind, text: &[u8]) -> Answer<Vec<u64>> {
-        let count = self.read(kind, text)?;
-        let (room, rows) = (&mut *self.room, &mut self.rows);
-        let mut numbers = match kind {
-            Kind::Bed => fast::bed::read(text, room, rows)?.numbers(),
-            Kind::Psl => fast::psl::read(text, room, rows)?.numbers(),
-            Kind::Chain => fast::chain::read(text, room, rows)?.numbers(),
-        };
-        for row in &self.rows[..count] {
+    fn read_numbers<R: Record>(&mut self, text: &[u8]) -> Answer<Vec<u64>> {
+        let record = fast::parse::<R>(text, &mut self.room, &mut self.rows)?;
+        let mut numbers = record.numbers();
+        for row in &self.rows[..record.block_count()] {
             numbers.extend([row.target, row.query, row.size]);
         }
         Ok(numbers)
     }
 
-    /// Whether both sides give the same answer for a text of numbers, and leave the
-    /// same bytes in so much room.
+    /// Whether both sides agree on a text of numbers, given so much room.
     fn numbers_agree(&mut self, text: &[u8], room: usize) -> bool {
-        let (mut library, mut rust) = (vec![MARK; room], vec![MARK; room]);
-        let answer = sys::numbers(text, &mut library);
-        let wanted = match fast::numbers::read(text, &mut self.numbers, &mut rust) {
-            Ok(count) => count as u64 * 16,
-            Err(refused) => refused.place as u64 * 16 + u64::from(refused.number),
-        };
-        let kept = wanted % 16 == 0 || rust.iter().all(|byte| *byte == MARK);
-        answer == wanted && library == rust && kept
+        let library = |out: &mut [u8]| sys::numbers(text, out);
+        agree_in(room, library, |out| {
+            fast::numbers(text, &mut self.numbers, out)
+        })
     }
 
     /// The library's answer taken apart.
@@ -248,185 +323,53 @@ impl Lent {
                     .map(|bytes| bytes.iter().rev().fold(0, |n, b| n << 8 | u64::from(*b)))
                     .collect())
             }
-            _ => Err(fast::Refused::new(number, value)),
+            _ => Err(Refused::new(number, value)),
         }
     }
 }
 
-/// A number that depends on `seed` alone (splitmix64).
-fn mixed(seed: u64) -> u64 {
-    let mut mixed = seed.wrapping_add(1).wrapping_mul(0x9E37_79B9_7F4A_7C15);
-    mixed = (mixed ^ (mixed >> 30)).wrapping_mul(0xBF58_476D_1CE4_E5B9);
-    mixed = (mixed ^ (mixed >> 27)).wrapping_mul(0x94D0_49BB_1331_11EB);
-    mixed ^ (mixed >> 31)
-}
-
-/// A number of so many digits.
-fn of_digits(seed: u64, digits: u64) -> u64 {
-    let least = 10u64.pow(digits as u32 - 1);
-    least + mixed(seed) % (9 * least)
-}
-
-fn numbers() -> Vec<u8> {
-    let words: Vec<String> = (0..NUMBERS)
-        .map(|at| of_digits(at, mixed(at + 8_000) % 18 + 1).to_string())
-        .collect();
-    format!("{}\n", words.join(" ")).into_bytes()
-}
-
-fn scores() -> Vec<Vec<u8>> {
-    (0..NUMBERS)
-        .map(|at| {
-            let score = of_digits(at, at % 18 + 1);
-            format!("chain {score} t 1 + 0 1 q 1 + 0 1 0\n1").into_bytes()
-        })
-        .collect()
-}
-
-fn long_list() -> Vec<u8> {
-    let items: Vec<String> = (0..NUMBERS)
-        .map(|at| of_digits(at, at % 10 + 1).min(fast::LIMIT).to_string())
-        .collect();
-    format!("c 0 9 n 0 . 0 9 0 1 {} 0", items.join(",")).into_bytes()
-}
-
-/// Size, dt and dq of a block; the last has no gaps.
-fn block(at: u64) -> (u64, u64, u64) {
-    let size = 1 + mixed(at) % 5_000;
-    match at + 1 == BLOCKS {
-        true => (size, 0, 0),
-        false => (size, mixed(at + 1_000) % 900, mixed(at + 2_000) % 3 * 70),
-    }
-}
-
-const FIRST_TARGET: u64 = 1_000_000;
-const FIRST_QUERY: u64 = 2_000_000;
-
-/// Sizes, target starts and query starts of all blocks, and both ends.
-struct Blocks {
-    sizes: Vec<u64>,
-    targets: Vec<u64>,
-    queries: Vec<u64>,
-    t_end: u64,
-    q_end: u64,
-}
-
-fn blocks() -> Blocks {
-    let (mut target, mut query) = (FIRST_TARGET, FIRST_QUERY);
-    let mut blocks = Blocks {
-        sizes: vec![],
-        targets: vec![],
-        queries: vec![],
-        t_end: 0,
-        q_end: 0,
-    };
-    for (size, dt, dq) in (0..BLOCKS).map(block) {
-        blocks.sizes.push(size);
-        blocks.targets.push(target);
-        blocks.queries.push(query);
-        target += size + dt;
-        query += size + dq;
-    }
-    (blocks.t_end, blocks.q_end) = (target, query);
-    blocks
-}
-
-fn listed(numbers: impl Iterator<Item = u64>) -> String {
-    numbers.map(|number| format!("{number},")).collect()
-}
-
-fn bed() -> Vec<u8> {
-    let Blocks {
-        sizes,
-        targets,
-        t_end,
-        ..
-    } = blocks();
-    let starts = listed(targets.iter().map(|start| start - FIRST_TARGET));
-    let sizes = listed(sizes.into_iter());
-    format!("chr7\t{FIRST_TARGET}\t{t_end}\tpanel\t960\t-\t{FIRST_TARGET}\t{t_end}\t0,128,255\t{BLOCKS}\t{sizes}\t{starts}\n")
-        .into_bytes()
-}
-
-fn psl() -> Vec<u8> {
-    let Blocks {
-        sizes,
-        targets,
-        queries,
-        t_end,
-        q_end,
-    } = blocks();
-    let bases: u64 = sizes.iter().sum();
-    let gaps = |gap: fn((u64, u64, u64)) -> u64| {
-        let gaps: Vec<u64> = (0..BLOCKS).map(|at| gap(block(at))).collect();
-        format!(
-            "{}\t{}",
-            gaps.iter().filter(|gap| **gap > 0).count(),
-            gaps.iter().sum::<u64>()
-        )
-    };
-    let (q_gaps, t_gaps) = (gaps(|block| block.2), gaps(|block| block.1));
-    let (q_size, t_size) = (q_end + 500, t_end + 500);
-    let (q_from, q_to) = (q_size - q_end, q_size - FIRST_QUERY);
-    let (sizes, queries, targets) = (
-        listed(sizes.into_iter()),
-        listed(queries.into_iter()),
-        listed(targets.into_iter()),
-    );
-    format!("{bases}\t0\t0\t0\t{q_gaps}\t{t_gaps}\t-\tclone\t{q_size}\t{q_from}\t{q_to}\tchr7\t{t_size}\t{FIRST_TARGET}\t{t_end}\t{BLOCKS}\t{sizes}\t{queries}\t{targets}\n")
-        .into_bytes()
-}
-
-fn chain() -> Vec<u8> {
-    let Blocks { t_end, q_end, .. } = blocks();
-    let (t_size, q_size) = (t_end + 500, q_end + 500);
-    let mut text = format!("chain 4900 chr7 {t_size} + {FIRST_TARGET} {t_end} clone {q_size} - {FIRST_QUERY} {q_end} 1\n");
-    for at in 0..BLOCKS {
-        let (size, dt, dq) = block(at);
-        text += &match at + 1 == BLOCKS {
-            true => format!("{size}\n"),
-            false => format!("{size} {dt} {dq}\n"),
-        };
-    }
-    text.into_bytes()
-}
-
-/// A region of up to 2,000 bases somewhere in the chain's target.
-fn region(at: u64) -> (u64, u64) {
-    let start = FIRST_TARGET + mixed(at + 3_000) % (blocks_end() - FIRST_TARGET - 2_000);
-    (start, start + 1 + mixed(at + 4_000) % 2_000)
-}
-
-fn blocks_end() -> u64 {
-    FIRST_TARGET
-        + (0..BLOCKS)
-            .map(block)
-            .map(|(size, dt, _)| size + dt)
-            .sum::<u64>()
-}
-
-/// A text with one byte changed, dropped or doubled.
-fn damage(text: &[u8], seed: u64) -> Vec<u8> {
-    let mut text = text.to_vec();
-    let at = mixed(seed + 5_000) as usize % text.len();
-    let bytes = b"0123456789,+-. \t\n\rx";
-    match mixed(seed + 6_000) % 4 {
-        0 => drop(text.remove(at)),
-        1 => text.insert(at, text[at]),
-        2 => text.truncate(at),
-        _ => text[at] = bytes[mixed(seed + 7_000) as usize % bytes.len()],
-    }
-    text
-}
-
 #[cfg(test)]
 mod tests {
-    use super::Lent;
+    use super::{job, texts, Kind, Lent, Work};
 
     #[test]
     fn both_sides_answer_the_same() {
         for job in super::all(true) {
             assert!(job.sides_agree(1_000), "{}", job.name);
+        }
+        for job in super::growth().iter().flatten() {
+            assert!(job.sides_agree(100), "{}", job.name);
+        }
+    }
+
+    /// Lines of the other numbers of words, and texts that aren't standard.
+    #[test]
+    fn both_sides_write_odd_texts_the_same() {
+        let odd = [
+            (Kind::Bed, " c\t0  9 "),
+            (Kind::Bed, "c 0 9 n 0 . 0 9 0,0,0\n"),
+            (Kind::Bed, "c 0 9 n 7 . 0 9 0,0,9\n"),
+            (Kind::Bed, "c 0 9 n 10 . 0 9 100,20,0 2 1,8 0,1\n"),
+            (
+                Kind::Psl,
+                "3 0 0 0 0 0 1 2 + q  9 1 4 t 9 0 5 2 1,2 1,2, 0,3",
+            ),
+            (
+                Kind::Chain,
+                " chain 100 t 9 + 1 9 q\t9 - 0 9 4294967295 \n 1 0\t1\n7",
+            ),
+        ];
+        for (kind, text) in odd {
+            let texts = vec![text.as_bytes().to_vec()];
+            let good = tenderchock::check(kind, text.as_bytes()).is_ok();
+            assert!(
+                good && job("odd", "", Work::Format, kind, texts).sides_agree(1_000),
+                "{text}"
+            );
+        }
+        for words in [4, 5, 7, 8, 9] {
+            let job = job("odd", "", Work::Format, Kind::Bed, texts::exons(words));
+            assert!(job.sides_agree(1_000), "{words} words");
         }
     }
 

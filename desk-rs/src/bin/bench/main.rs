@@ -5,6 +5,7 @@
 
 mod fast;
 mod jobs;
+mod texts;
 
 use std::env;
 use std::process::{Command, ExitCode};
@@ -17,8 +18,10 @@ bench: times the jobs of docs/BENCHMARKS.md, through the library and in plain Ru
 
   bench [JOB..]                  times: warm-up, then the median of many short samples of each side in turn
   bench --instructions [JOB..]   instructions, counted by valgrind --tool=callgrind
+  bench --growth                 instructions a block of check, parse and format, on texts of 1, 8, 64 and 512 blocks
 
-Without a JOB, all: numbers, scores, list, bed, psl, chain, lift.
+Without a JOB, all: numbers, scores, list, bed3-check, bed6-check, bed12-check,
+bed3-format, bed6-format, bed12-format, bed, psl, chain, lift.
 ";
 
 /// Samples of each side, the two in turn; their median counts. A short sample is
@@ -41,6 +44,7 @@ fn main() -> ExitCode {
             print!("{HELP}");
             Ok(())
         }
+        ["--growth"] => growth(),
         ["--instructions", names @ ..] => chosen(names, true).and_then(instructions),
         names => chosen(names, false).and_then(times),
     };
@@ -58,21 +62,27 @@ fn chosen(names: &[&str], small: bool) -> Result<Vec<Job>, String> {
     let mut jobs = jobs::all(small);
     if names
         .iter()
-        .any(|name| jobs.iter().all(|job| job.name != *name))
+        .any(|name| jobs.iter().all(|job| job.name != **name))
     {
         return Err(HELP.to_string());
     }
-    jobs.retain(|job| names.is_empty() || names.contains(&job.name));
+    jobs.retain(|job| names.is_empty() || names.contains(&job.name.as_str()));
     Ok(jobs)
+}
+
+/// Refuses a job on which the two sides answer differently.
+fn agreed(job: &Job) -> Result<(), String> {
+    match job.sides_agree(DAMAGED) {
+        true => Ok(()),
+        false => Err(format!("{}: the two sides answer differently", job.name)),
+    }
 }
 
 /// Times these jobs on both sides.
 fn times(jobs: Vec<Job>) -> Result<(), String> {
     println!("| Job | Library | Rust | Library : Rust | least : least |\n|---|---|---|---|---|");
     for job in jobs {
-        if !job.sides_agree(DAMAGED) {
-            return Err(format!("{}: the two sides answer differently", job.name));
-        }
+        agreed(&job)?;
         let [library, rust] = timed(&job);
         let unit = |time: f64| format!("{} per {}", shown(time / job.units as f64), job.unit);
         println!(
@@ -141,9 +151,8 @@ fn shown(nanoseconds: f64) -> String {
 fn instructions(jobs: Vec<Job>) -> Result<(), String> {
     println!("| Job | Library | Rust | Library : Rust |\n|---|---|---|---|");
     for job in jobs {
-        let library = counted(&job, "library")?;
-        let rust = counted(&job, "rust")?;
-        let unit = |count: f64| format!("{:.1} per {}", count / job.units as f64, job.unit);
+        let [library, rust] = counted(&job)?;
+        let unit = |count: f64| format!("{count:.1} per {}", job.unit);
         let ratio = library / rust;
         println!(
             "| {} | {} | {} | {ratio:.2} |",
@@ -155,8 +164,34 @@ fn instructions(jobs: Vec<Job>) -> Result<(), String> {
     Ok(())
 }
 
+/// Counts the instructions a block on texts of more and more blocks, so that a cost
+/// of the whole text is seen apart from one that each block has.
+fn growth() -> Result<(), String> {
+    print!("| Instructions a block |");
+    for blocks in jobs::GROWTH {
+        print!(" library, of {blocks} | Rust |");
+    }
+    println!("\n|---|{}", "---|---|".repeat(jobs::GROWTH.len()));
+    for row in jobs::growth() {
+        print!("| {} |", row[0].about);
+        for job in &row {
+            let [library, rust] = counted(job)?;
+            print!(" {library:.1} | {rust:.1} |");
+        }
+        println!();
+    }
+    Ok(())
+}
+
+/// Instructions a unit, the library's and plain Rust's.
+fn counted(job: &Job) -> Result<[f64; 2], String> {
+    agreed(job)?;
+    let units = job.units as f64;
+    Ok([round(job, "library")? / units, round(job, "rust")? / units])
+}
+
 /// Instructions of one round: those of three rounds less those of one, halved.
-fn counted(job: &Job, side: &str) -> Result<f64, String> {
+fn round(job: &Job, side: &str) -> Result<f64, String> {
     Ok((collected(job, side, "3")? - collected(job, side, "1")?) / 2.0)
 }
 
@@ -166,7 +201,7 @@ fn collected(job: &Job, side: &str, rounds: &str) -> Result<f64, String> {
     let run = Command::new("valgrind")
         .args(["--tool=callgrind", "--callgrind-out-file=/dev/null"])
         .arg(own)
-        .args(["--once", job.name, side, rounds])
+        .args(["--once", &job.name, side, rounds])
         .output()
         .map_err(|error| format!("cannot run valgrind: {error}"))?;
     let told = String::from_utf8_lossy(&run.stderr);
@@ -179,11 +214,10 @@ fn collected(job: &Job, side: &str, rounds: &str) -> Result<f64, String> {
 
 /// One side of a small job, for callgrind.
 fn once(name: &str, side: &str, rounds: &str) -> Result<(), String> {
-    let jobs = jobs::all(true);
-    let job = jobs
-        .iter()
-        .find(|job| job.name == name)
-        .ok_or("no such job")?;
+    let mut jobs = jobs::all(true)
+        .into_iter()
+        .chain(jobs::growth().into_iter().flatten());
+    let job = jobs.find(|job| job.name == name).ok_or("no such job")?;
     let side = match side {
         "library" => Side::Library,
         "rust" => Side::Rust,

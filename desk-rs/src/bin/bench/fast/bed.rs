@@ -2,7 +2,7 @@
 
 use super::words::{check_text, letter, list, list_of, name, no_surplus_line, number};
 use super::words::{require, split, Answer, Split, Word};
-use super::{fill, hand_over, Row, Rows, BLOCK_LIMIT, LIMIT};
+use super::{fill, Record, Row, Rows, Standard, BLOCK_LIMIT, LIMIT};
 
 const COORDINATE: (u64, u64) = (0, LIMIT);
 
@@ -17,12 +17,19 @@ pub struct Bed {
     thick_start: u64,
     thick_end: u64,
     colour: u64,
-    pub block_count: usize,
+    block_count: usize,
 }
 
-impl Bed {
-    /// The numbers that the library's parse entry gives before the rows.
-    pub fn numbers(&self) -> Vec<u64> {
+impl Record for Bed {
+    fn read(text: &[u8], rows: &mut Rows) -> Answer<Bed> {
+        read_text(text, rows)
+    }
+
+    fn block_count(&self) -> usize {
+        self.block_count
+    }
+
+    fn numbers(&self) -> Vec<u64> {
         let part = |(start, end): Word| [start as u64, (end - start) as u64];
         let [chrom, chrom_length] = part(self.chrom);
         let [name, name_length] = part(self.name);
@@ -42,13 +49,36 @@ impl Bed {
             self.block_count as u64,
         ]
     }
-}
 
-/// Reads a BED line into a record and the lent rows.
-pub fn read(text: &[u8], rows: &mut Rows, lent: &mut [Row]) -> Answer<Bed> {
-    let bed = read_text(text, rows)?;
-    hand_over(&rows[..bed.block_count], lent, text.len())?;
-    Ok(bed)
+    fn write(&self, text: &[u8], rows: &[Row], out: &mut Standard) {
+        out.line(b'\t');
+        if self.word_count > 9 {
+            out.list(rows.iter().rev().map(|row| row.target - self.start));
+            out.list(rows.iter().rev().map(|row| row.size));
+            out.number(self.block_count as u64);
+        }
+        if self.word_count > 8 {
+            write_colour(self.colour, out);
+        }
+        if self.word_count > 7 {
+            out.number(self.thick_end);
+        }
+        if self.word_count > 6 {
+            out.number(self.thick_start);
+        }
+        if self.word_count > 5 {
+            out.word(&[self.strand]);
+        }
+        if self.word_count > 4 {
+            out.number(self.score);
+        }
+        if self.word_count > 3 {
+            out.word(&text[self.name.0..self.name.1]);
+        }
+        out.number(self.end);
+        out.number(self.start);
+        out.word(&text[self.chrom.0..self.chrom.1]);
+    }
 }
 
 fn read_text(text: &[u8], rows: &mut Rows) -> Answer<Bed> {
@@ -154,4 +184,16 @@ fn colour(text: &[u8], word: Word) -> Answer<u64> {
     })?;
     require(count == 3, 8, word.0)?;
     Ok(colour)
+}
+
+/// `0`, or red, green and blue.
+fn write_colour(colour: u64, out: &mut Standard) {
+    if colour == 0 {
+        return out.word(b"0");
+    }
+    out.number(colour & 255);
+    out.bytes(b",");
+    out.digits(colour >> 8 & 255);
+    out.bytes(b",");
+    out.digits(colour >> 16);
 }

@@ -2,7 +2,7 @@
 
 use super::words::{check_text, letter, name, no_surplus_line, number};
 use super::words::{require, split, Answer, Refused, Word};
-use super::{hand_over, Row, Rows, BLOCK_LIMIT, LIMIT};
+use super::{Record, Room, Row, Rows, Standard, BLOCK_LIMIT, LIMIT};
 
 const COORDINATE: (u64, u64) = (0, LIMIT);
 const SIZE: (u64, u64) = (1, LIMIT);
@@ -19,12 +19,19 @@ pub struct Chain {
     q_start: u64,
     q_end: u64,
     id: u64,
-    pub block_count: usize,
+    block_count: usize,
 }
 
-impl Chain {
-    /// The numbers that the library's parse entry gives before the rows.
-    pub fn numbers(&self) -> Vec<u64> {
+impl Record for Chain {
+    fn read(text: &[u8], rows: &mut Rows) -> Answer<Chain> {
+        read_text(text, rows)
+    }
+
+    fn block_count(&self) -> usize {
+        self.block_count
+    }
+
+    fn numbers(&self) -> Vec<u64> {
         let part = |(start, end): Word| [start as u64, (end - start) as u64];
         let [t_name, t_length] = part(self.t_name);
         let [q_name, q_length] = part(self.q_name);
@@ -45,13 +52,32 @@ impl Chain {
             self.block_count as u64,
         ]
     }
-}
 
-/// Reads a chain into a record and the lent rows.
-pub fn read(text: &[u8], rows: &mut Rows, lent: &mut [Row]) -> Answer<Chain> {
-    let chain = read_text(text, rows)?;
-    hand_over(&rows[..chain.block_count], lent, text.len())?;
-    Ok(chain)
+    fn write(&self, text: &[u8], rows: &[Row], out: &mut Standard) {
+        out.line(b' ');
+        out.number(rows[rows.len() - 1].size);
+        for two in rows.windows(2).rev() {
+            let (row, next) = (&two[0], &two[1]);
+            out.line(b' ');
+            out.number(next.query - row.query - row.size);
+            out.number(next.target - row.target - row.size);
+            out.number(row.size);
+        }
+        out.line(b' ');
+        out.number(self.id);
+        out.number(self.q_end);
+        out.number(self.q_start);
+        out.word(&[self.q_strand]);
+        out.number(self.q_size);
+        out.word(&text[self.q_name.0..self.q_name.1]);
+        out.number(self.t_end);
+        out.number(self.t_start);
+        out.word(b"+");
+        out.number(self.t_size);
+        out.word(&text[self.t_name.0..self.t_name.1]);
+        out.number(self.score);
+        out.word(b"chain");
+    }
 }
 
 fn read_text(text: &[u8], rows: &mut Rows) -> Answer<Chain> {
@@ -122,10 +148,10 @@ fn read_blocks(text: &[u8], end: usize, chain: &mut Chain, rows: &mut Rows) -> A
 }
 
 /// Kept, dropped, start and end of a region lifted through a chain's text.
-pub fn lift_region(text: &[u8], start: u64, end: u64, rows: &mut Rows) -> Answer<[u64; 4]> {
-    let chain = read_text(text, rows)?;
+pub fn lift_region(text: &[u8], start: u64, end: u64, room: &mut Room) -> Answer<[u64; 4]> {
+    let chain = read_text(text, &mut room.rows)?;
     require(start < end && end <= chain.t_size, 13, 0)?;
-    let rows = &rows[..chain.block_count];
+    let rows = &room.rows[..chain.block_count];
     let from = rows.partition_point(|row| row.target + row.size <= start);
     let to = rows.partition_point(|row| row.target < end);
     if from >= to {

@@ -2,12 +2,18 @@
 //! words, numbers read in place, no allocation. The checks and their order are
 //! the ledger's, and a refusal leaves the lent rows and bytes as they were.
 
-pub mod bed;
-pub mod chain;
-pub mod numbers;
-pub mod psl;
+mod bed;
+mod chain;
+mod numbers;
+mod psl;
+mod standard;
 mod words;
 
+pub use bed::Bed;
+pub use chain::{lift_region, Chain};
+pub use numbers::{read as numbers, room as numbers_room, Numbers};
+pub use psl::Psl;
+pub use standard::Standard;
 pub use words::{Answer, Refused};
 
 /// Most bytes in a text.
@@ -25,18 +31,59 @@ pub struct Row {
     pub size: u64,
 }
 
-/// Working room for the rows of one record, used again for each text.
+/// Room for the rows of one record.
 pub type Rows = [Row; BLOCK_LIMIT];
 
-/// Copies the rows of an accepted record to the lent ones, given room.
-fn hand_over(rows: &[Row], lent: &mut [Row], text_end: usize) -> Answer<()> {
+/// Working room, used again for each text.
+pub struct Room {
+    rows: Rows,
+    bytes: standard::Bytes,
+}
+
+impl Room {
+    pub fn new() -> Room {
+        Room {
+            rows: [Row::default(); BLOCK_LIMIT],
+            bytes: [0; TEXT_LIMIT],
+        }
+    }
+}
+
+/// What a text of one kind holds, besides its rows.
+pub trait Record: Sized {
+    /// Reads a text; its blocks go to the rows.
+    fn read(text: &[u8], rows: &mut Rows) -> Answer<Self>;
+    fn block_count(&self) -> usize;
+    /// The numbers that the library's parse entry gives before the rows.
+    fn numbers(&self) -> Vec<u64>;
+    /// Writes the standard text of what was read from this text.
+    fn write(&self, text: &[u8], rows: &[Row], out: &mut Standard);
+}
+
+/// Checks a text; answers its number of blocks.
+pub fn check<R: Record>(text: &[u8], room: &mut Room) -> Answer<usize> {
+    Ok(R::read(text, &mut room.rows)?.block_count())
+}
+
+/// Reads a text into a record and the lent rows.
+pub fn parse<R: Record>(text: &[u8], room: &mut Room, lent: &mut [Row]) -> Answer<R> {
+    let record = R::read(text, &mut room.rows)?;
+    let rows = &room.rows[..record.block_count()];
     match lent.get_mut(..rows.len()) {
         Some(front) => {
             front.copy_from_slice(rows);
-            Ok(())
+            Ok(record)
         }
-        None => Err(Refused::new(11, text_end)),
+        None => Err(Refused::new(11, text.len())),
     }
+}
+
+/// Writes the standard text of a text into the lent bytes; answers its length.
+pub fn format<R: Record>(text: &[u8], room: &mut Room, lent: &mut [u8]) -> Answer<usize> {
+    let record = R::read(text, &mut room.rows)?;
+    let mut out = Standard::new(&mut room.bytes);
+    record.write(text, &room.rows[..record.block_count()], &mut out);
+    out.hand_over(lent, text.len())
 }
 
 /// Blocks on one side that start at `start`, don't overlap, and end at `end`.

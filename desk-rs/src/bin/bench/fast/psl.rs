@@ -2,7 +2,7 @@
 
 use super::words::{check_text, letter, list_of, name, no_surplus_line, number};
 use super::words::{require, split, Answer, Split, Word};
-use super::{fill, hand_over, Row, Rows, BLOCK_LIMIT, LIMIT};
+use super::{fill, Record, Row, Rows, Standard, BLOCK_LIMIT, LIMIT};
 
 const COORDINATE: (u64, u64) = (0, LIMIT);
 const SIZE: (u64, u64) = (1, LIMIT);
@@ -13,7 +13,7 @@ pub struct Psl {
     strand: u8,
     query: Side,
     target: Side,
-    pub block_count: usize,
+    block_count: usize,
 }
 
 #[derive(Clone, Copy)]
@@ -41,9 +41,16 @@ impl Side {
     }
 }
 
-impl Psl {
-    /// The numbers that the library's parse entry gives before the rows.
-    pub fn numbers(&self) -> Vec<u64> {
+impl Record for Psl {
+    fn read(text: &[u8], rows: &mut Rows) -> Answer<Psl> {
+        read_text(text, rows)
+    }
+
+    fn block_count(&self) -> usize {
+        self.block_count
+    }
+
+    fn numbers(&self) -> Vec<u64> {
         let mut numbers = self.counts.to_vec();
         numbers.push(u64::from(self.strand));
         numbers.extend(self.query.numbers());
@@ -51,13 +58,24 @@ impl Psl {
         numbers.push(self.block_count as u64);
         numbers
     }
-}
 
-/// Reads a PSL line into a record and the lent rows.
-pub fn read(text: &[u8], rows: &mut Rows, lent: &mut [Row]) -> Answer<Psl> {
-    let psl = read_text(text, rows)?;
-    hand_over(&rows[..psl.block_count], lent, text.len())?;
-    Ok(psl)
+    fn write(&self, text: &[u8], rows: &[Row], out: &mut Standard) {
+        out.line(b'\t');
+        out.list(rows.iter().rev().map(|row| row.target));
+        out.list(rows.iter().rev().map(|row| row.query));
+        out.list(rows.iter().rev().map(|row| row.size));
+        out.number(self.block_count as u64);
+        for side in [&self.target, &self.query] {
+            out.number(side.end);
+            out.number(side.start);
+            out.number(side.size);
+            out.word(&text[side.name.0..side.name.1]);
+        }
+        out.word(&[self.strand]);
+        for count in self.counts.iter().rev() {
+            out.number(*count);
+        }
+    }
 }
 
 fn read_text(text: &[u8], rows: &mut Rows) -> Answer<Psl> {
