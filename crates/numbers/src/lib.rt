@@ -237,7 +237,7 @@ fn is_word_end(text: &[u8], i: usize) -> bool
 }
 
 // The digits from a place on, at most nineteen. The number of bytes that are looked at is not a fixed one, which keeps the loop
-// short: it then stands in each place that takes a number, where the processor guesses its end better than in one shared place.
+// short enough to be put into each place that takes a number (docs/BENCHMARKS.md has both ways' times).
 fn short_digits(text: &[u8], from: usize) -> Digits
     ensures { λ r. ⌜ DigitsRead (now (text .entry)) from shortLimit r ⌝ }
 {
