@@ -18,6 +18,7 @@
 #![deny(unsafe_code)]
 
 mod answer;
+mod batch;
 mod lift;
 mod numbers;
 mod records;
@@ -25,6 +26,7 @@ pub mod sys;
 mod texts;
 
 pub use answer::{meaning, Refusal};
+pub use batch::{lift_batch, Batch};
 pub use lift::{convert, lift_position, lift_region, turn};
 pub use lift::{LiftedPosition, LiftedRegion, Tally};
 pub use numbers::numbers;

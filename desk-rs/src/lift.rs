@@ -1,7 +1,7 @@
 //! Strand conversion, lifting through a chain, turning a chain, and the tally of
 //! a batch. A chain is handed in as its text.
 
-use crate::answer::{taken, Numbers, Refusal};
+use crate::answer::{taken, Refusal};
 use crate::sys;
 use crate::texts::Room;
 
@@ -64,16 +64,14 @@ impl Tally {
     /// Sends one region through a chain; answers the bases kept. A region refused
     /// by 12 counts as asked and dropped; any other refusal leaves the tally.
     pub fn add(&mut self, chain: &[u8], start: u64, end: u64) -> Result<u64, Refusal> {
-        let mut lent = [0; 24];
-        let fields = [self.asked, self.kept, self.dropped];
-        for (place, field) in lent.chunks_exact_mut(8).zip(fields) {
-            place.copy_from_slice(&field.to_le_bytes());
-        }
-        let answer = taken(sys::tally(chain, start, end, &mut lent));
-        let mut left = Numbers::of(&lent, 3);
-        self.asked = left.next();
-        self.kept = left.next();
-        self.dropped = left.next();
+        self.lent(|tally| sys::tally(chain, start, end, tally))
+    }
+
+    /// Lends the tally to an entry, as 3 numbers, and takes back what it left.
+    pub(crate) fn lent(&mut self, entry: impl FnOnce(&mut [u8]) -> u64) -> Result<u64, Refusal> {
+        let mut lent = [self.asked, self.kept, self.dropped].map(u64::to_le_bytes);
+        let answer = taken(entry(lent.as_flattened_mut()));
+        [self.asked, self.kept, self.dropped] = lent.map(u64::from_le_bytes);
         answer
     }
 }

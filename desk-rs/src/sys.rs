@@ -54,6 +54,16 @@ extern "C" {
         tally: *mut u8,
         tally_length: usize,
     ) -> u64;
+    fn tenderchock_lift_batch(
+        text: *const u8,
+        text_length: usize,
+        regions: *const u8,
+        regions_length: usize,
+        tally: *mut u8,
+        tally_length: usize,
+        out: *mut u8,
+        out_length: usize,
+    ) -> u64;
     fn tenderchock_numbers(
         text: *const u8,
         text_length: usize,
@@ -63,9 +73,9 @@ extern "C" {
 }
 
 // SAFETY, for every call below: an entry is total, keeps no pointer, reads only
-// the text and what is lent, and writes only what is lent. Each pointer and
-// length come from one live slice; the lent one is borrowed mutably, so it and
-// the text don't overlap.
+// the text, the regions and what is lent, and writes only what is lent. Each
+// pointer and length come from one live slice; each lent one is borrowed mutably,
+// so no other overlaps it.
 
 /// Whether a text of this kind is accepted; counts its blocks.
 pub fn check(kind: u64, text: &[u8]) -> u64 {
@@ -111,6 +121,23 @@ pub fn turn(text: &[u8], out: &mut [u8]) -> u64 {
 pub fn tally(text: &[u8], start: u64, end: u64, tally: &mut [u8]) -> u64 {
     let (lent, length) = (tally.as_mut_ptr(), tally.len());
     unsafe { tenderchock_tally(text.as_ptr(), text.len(), start, end, lent, length) }
+}
+
+/// A batch of regions through a chain, each a start and an end, 2 numbers; each gets a
+/// row of 5 numbers, and the tally, 3 numbers, grows in place. Counts the regions.
+pub fn lift_batch(text: &[u8], regions: &[u8], tally: &mut [u8], out: &mut [u8]) -> u64 {
+    unsafe {
+        tenderchock_lift_batch(
+            text.as_ptr(),
+            text.len(),
+            regions.as_ptr(),
+            regions.len(),
+            tally.as_mut_ptr(),
+            tally.len(),
+            out.as_mut_ptr(),
+            out.len(),
+        )
+    }
 }
 
 /// The numbers of a text of one line, 8 bytes each; counts them.

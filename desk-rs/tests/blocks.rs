@@ -5,24 +5,10 @@ mod common;
 
 use std::collections::HashMap;
 
-use common::Folder;
+use common::{Dice, Folder};
 
 const LINES: usize = 10_000;
 const TARGET: u64 = 400_000;
-
-/// Numbers from a seed.
-struct Dice(u64);
-
-impl Dice {
-    /// From `least` up to and with `most`.
-    fn roll(&mut self, least: u64, most: u64) -> u64 {
-        self.0 = self
-            .0
-            .wrapping_mul(6_364_136_223_846_793_005)
-            .wrapping_add(1_442_695_040_888_963_407);
-        least + (self.0 >> 33) % (most - least + 1)
-    }
-}
 
 /// A chain over a part of the target; its query's name is its own.
 fn chain(dice: &mut Dice, id: u64, target: &str, start: u64, end: u64) -> String {

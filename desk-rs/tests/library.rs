@@ -1,9 +1,9 @@
-//! The bench samples through the library's functions, field by field, and texts of
-//! numbers.
+//! The bench samples through the library's functions, field by field, batches of regions,
+//! and texts of numbers.
 
-use tenderchock::{check, convert, format, lift_position, lift_region, numbers, sys, turn};
-use tenderchock::{Bed, Chain, Kind, LiftedPosition, LiftedRegion, Psl, Refusal, Room, Row};
-use tenderchock::{Strand, Tally};
+use tenderchock::{check, convert, format, lift_batch, lift_position, lift_region, numbers};
+use tenderchock::{sys, turn, Batch, Bed, Chain, Kind, LiftedPosition, LiftedRegion, Psl};
+use tenderchock::{Refusal, Room, Row, Strand, Tally};
 
 const CHAIN_A: &[u8] = b"chain 100 tA 100 + 10 40 qB 80 - 5 33 7\n10 3 0\n8 0 1\n9\n";
 const CHAIN_A_TURNED: &[u8] = b"chain 100 qB 80 + 47 75 tA 100 - 60 90 7\n9 1 0\n8 0 3\n10\n";
@@ -179,6 +179,118 @@ fn regions_lift_and_are_tallied() {
             dropped: 6
         }
     );
+}
+
+/// What a batch answers for each region: bases kept, or the refusal's number.
+fn in_a_batch(regions: &[(u64, u64)], tally: &mut Tally) -> Vec<Result<u64, u8>> {
+    let lifted = lift_batch(CHAIN_A, regions, tally).expect("a chain");
+    let each = |region: Result<LiftedRegion, Refusal>| match region {
+        Ok(region) => Ok(region.kept),
+        Err(refusal) => Err(refusal.number),
+    };
+    lifted.into_iter().map(each).collect()
+}
+
+#[test]
+fn a_batch_is_lifted_and_tallied() {
+    let across = LiftedRegion {
+        kept: 4,
+        dropped: 3,
+        start: 63,
+        end: 67,
+    };
+    let refused = |number| Err(Refusal { number, place: 0 });
+    let mut tally = Tally::default();
+    assert_eq!(
+        lift_batch(
+            CHAIN_A,
+            &[(18, 25), (20, 23), (20, 20), (0, 101)],
+            &mut tally
+        ),
+        Ok(vec![Ok(across), refused(12), refused(13), refused(13)])
+    );
+    let grown = Tally {
+        asked: 10,
+        kept: 4,
+        dropped: 6,
+    };
+    assert_eq!(tally, grown);
+    // No regions, and a chain that is refused.
+    assert_eq!(lift_batch(CHAIN_A, &[], &mut tally), Ok(vec![]));
+    let bad = b"chain 100 tA 100 + 10 40 qB 80 - 5 33 7\n10 3 0\n8 0 1\n8\n";
+    for (chain, place) in [(&bad[..], None), (b"chain", Some((2, 5)))] {
+        let refusal = check(Kind::Chain, chain).expect_err("a refusal");
+        let found = (refusal.number, refusal.place);
+        assert_eq!(place.unwrap_or(found), found);
+        assert_eq!(lift_batch(chain, &[(18, 25)], &mut tally), Err(refusal));
+    }
+    assert_eq!(tally, grown);
+}
+
+/// A region that takes the tally over its limit is passed over alone.
+#[test]
+fn a_batch_keeps_to_the_limit_of_its_tally() {
+    let near = 9_223_372_036_854_775_807 - 5;
+    let mut tally = Tally {
+        asked: near,
+        kept: near,
+        dropped: 0,
+    };
+    let answers = in_a_batch(&[(10, 16), (10, 15), (10, 11)], &mut tally);
+    assert_eq!(answers, [Err(5), Ok(5), Err(5)]);
+    let full = Tally {
+        asked: near + 5,
+        kept: near + 5,
+        dropped: 0,
+    };
+    assert_eq!(tally, full);
+}
+
+#[test]
+fn a_batch_is_refused_region_by_region_for_a_tally_that_disagrees() {
+    let bad = Tally {
+        asked: 1,
+        kept: 1,
+        dropped: 1,
+    };
+    let mut tally = bad;
+    let answers = in_a_batch(&[(10, 20), (20, 23), (30, 30), (99, 101)], &mut tally);
+    assert_eq!(answers, [Err(10), Err(10), Err(13), Err(13)]);
+    assert_eq!(tally, bad);
+}
+
+/// Every region with an end up to 102, in one batch and one by one; a batch that is used
+/// again has nothing left from before.
+#[test]
+fn a_batch_answers_as_single_calls_do() {
+    let regions: Vec<(u64, u64)> = (0..103)
+        .flat_map(|end| (0..=end + 1).map(move |start| (start, end)))
+        .collect();
+    for chain in [CHAIN_A, CHAIN_A_TURNED] {
+        let (mut single, mut tally, mut again) = Default::default();
+        let lifted = lift_batch(chain, &regions, &mut tally).expect("a chain");
+        for ((start, end), lifted) in regions.iter().zip(&lifted) {
+            assert_eq!(lift_region(chain, *start, *end), *lifted, "{start} {end}");
+            let kept = Tally::add(&mut single, chain, *start, *end);
+            assert_eq!(kept, lifted.map(|region| region.kept), "{start} {end}");
+        }
+        assert_eq!(tally, single);
+        let mut batch = Batch::new();
+        assert!(batch.is_empty());
+        for (start, end) in regions.iter().rev() {
+            batch.push(*start, *end);
+        }
+        let answers = batch.lift(chain, &mut again).expect("a chain");
+        assert!(answers.eq(lifted.iter().rev().copied()));
+        assert_eq!(again, tally);
+        batch.clear();
+        batch.push(18, 25);
+        assert_eq!(batch.len(), 1);
+        for _ in 0..2 {
+            let answers = batch.lift(chain, &mut again).expect("a chain");
+            assert!(answers.eq([lift_region(chain, 18, 25)]));
+        }
+    }
 }
 
 /// Lifts that the second program would take long to list base by base.

@@ -75,3 +75,32 @@ fn a_lift_holds_its_chains_and_not_its_lines() {
         assert_eq!(status, Some(1), "{feed}: {told}");
     }
 }
+
+/// Lines wait for each other, and a line may ask several chains about each of its blocks;
+/// so many at a time, whatever their number in all.
+#[test]
+fn a_lift_holds_few_lines_and_few_blocks() {
+    let folder = Folder::new("memory-held");
+    let chain = |id: u32| format!("chain {id} t 2000 + 0 2000 q 2000 - 0 2000 {id}\n2000\n");
+    folder.write("a.chain", chain(1));
+    folder.write("b.chain", (1..=10).map(chain).collect::<String>());
+    let starts: String = (0..512).map(|at| format!("{},", 2 * at)).collect();
+    let wide = format!(
+        "t\t0\t1023\tn\t0\t+\t0\t1023\t0\t512\t{}\t{starts}",
+        "1,".repeat(512)
+    );
+    folder.write("wide", wide);
+    folder.write("short", "t\t0\t3\tn\t0\t+\t0\t3\t0\t2\t1,1,\t0,2,");
+    for (line, count) in [("wide", 300), ("short", 20_000)] {
+        let feed = format!("yes \"$(cat {line})\" | head -n {count}");
+        for options in [
+            "a.chain",
+            "--span a.chain",
+            "--several all b.chain",
+            "--several best --span b.chain",
+        ] {
+            let (told, status) = limited(&folder, &feed, &format!("lift {options} - o u"));
+            assert_eq!(status, Some(0), "{line} {options}: {told}");
+        }
+    }
+}

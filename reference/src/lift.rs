@@ -1,4 +1,4 @@
-//! Strand conversion, pairs, lifting, turning and the tally.
+//! Strand conversion, pairs, lifting, turning, the tally and batches of regions.
 
 use crate::chain::{self, Chain};
 use crate::ledger::{require, Answer, Reason, Refusal, Strand, TALLY_LIMIT};
@@ -179,7 +179,7 @@ impl Tally {
     }
 }
 
-/// One region of a batch: lifts it and answers the tally it leaves behind.
+/// One region with a tally: lifts it and answers the tally it leaves behind.
 /// Refused by 9, 13, 10 (bad tally) or 5 (asked would pass its limit) it leaves
 /// the tally; refused by 12 it adds its length to asked and dropped.
 pub fn step(
@@ -203,6 +203,38 @@ pub fn step(
 fn tally_ready(tally: &Tally, length: u64) -> Answer<()> {
     require(tally.good(), Reason::BadCounts, 0)?;
     require(tally.has_room(length), Reason::OutOfRange, 0)
+}
+
+/// One answer of a batch: 0, kept, dropped, start and end of the query region; or the
+/// refusal's number and four zeros.
+pub type BatchRow = [u64; 5];
+
+/// A batch of regions, each a start and an end, through one chain, with `room` rows lent
+/// for the answers: a row for each region, and the tally after the last. Fewer rows than
+/// regions is 11, before all else; then no region counts as sent.
+pub fn batch(
+    chain: &Chain,
+    table: &[Row],
+    regions: &[(u64, u64)],
+    room: usize,
+    tally: Tally,
+) -> Answer<(Tally, Vec<BatchRow>)> {
+    require(regions.len() <= room, Reason::NoRoom, 0)?;
+    let mut after = tally;
+    let mut rows = Vec::new();
+    for (start, end) in regions {
+        let (left, answer) = step(chain, table, *start, *end, after);
+        after = left;
+        rows.push(batch_row(answer));
+    }
+    Ok((after, rows))
+}
+
+fn batch_row(answer: Answer<LiftedRegion>) -> BatchRow {
+    match answer {
+        Ok(lifted) => [0, lifted.kept, lifted.dropped, lifted.start, lifted.end],
+        Err(refusal) => [u64::from(refusal.reason.number()), 0, 0, 0, 0],
+    }
 }
 
 /// A region sent with the record and rows to lift it through.

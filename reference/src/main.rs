@@ -1,7 +1,7 @@
 //! The samples command: one case a line on standard input, one answer a line on
 //! standard output. A case is its letter, a space and an escaped payload (of the
 //! record cases `W`, `X` and `Y`, words of which only the names are escaped; of the
-//! cases of lifts, turns and tallies, a question and a chain); empty lines and lines
+//! cases of lifts, turns, tallies and batches, a question and a chain); empty lines and lines
 //! that begin with `#` are comments.
 //!
 //! It makes what the programs that run the library must print:
@@ -47,7 +47,7 @@ fn answer_line(line: &[u8], tally: &mut Tally, output: &mut Vec<u8>) {
         b'W' => bed_cases::record(payload),
         b'X' => psl_cases::record(payload),
         b'Y' => chain_cases::record(payload),
-        b'p' | b'g' | b'u' | b'a' | b'm' => lift_cases::answer(letter, payload, tally),
+        b'p' | b'g' | b'u' | b'a' | b'm' | b'R' => lift_cases::answer(letter, payload, tally),
         b'v' => lift_cases::conversion(payload),
         _ => answer(letter, &unescape(payload)).unwrap_or_else(refused),
     };

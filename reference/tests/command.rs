@@ -379,6 +379,55 @@ fn turns_and_tallies() {
     ]);
 }
 
+#[test]
+fn batches() {
+    let text = r"chain 100 tA 100 + 10 40 qB 80 - 5 33 7\n10 3 0\n8 0 1\n9\n";
+    let record = "100 100 10 40 80 - 5 33 7 3 =tA =qB 10,5,10 23,15,8 31,24,9";
+    let bad = record.replace("7 3", "7 4");
+    let regions = "4 18 25 20 23 20 20 0 101";
+    let full = "9223372036854775807 0 9223372036854775807";
+    let rows = "| 0 4 3 63 67 | 12 0 0 0 0 | 13 0 0 0 0 | 13 0 0 0 0";
+    cases(&[
+        (
+            &format!("R 4 {regions} {text}"),
+            &format!("R ok {rows} tally 10 4 6"),
+        ),
+        (
+            &format!("R 5 {regions} {record}"),
+            &format!("R ok {rows} tally 20 8 12"),
+        ),
+        (
+            &format!("R 3 {regions} {bad}"),
+            "R refused 11 at 0 tally 20 8 12",
+        ),
+        (
+            &format!("R 9 2 18 25 20 20 {bad}"),
+            "R ok | 9 0 0 0 0 | 9 0 0 0 0 tally 20 8 12",
+        ),
+        (
+            &format!("a 1 1 1 20 20 {text}"),
+            "a refused 13 at 0 tally 1 1 1",
+        ),
+        (
+            &format!("R 2 2 20 23 20 20 {text}"),
+            "R ok | 10 0 0 0 0 | 13 0 0 0 0 tally 1 1 1",
+        ),
+        (&format!("R 0 0 {bad}"), "R ok tally 1 1 1"),
+        (
+            &format!("a {full} 20 20 {text}"),
+            &format!("a refused 13 at 0 tally {full}"),
+        ),
+        (
+            &format!("R 1 1 18 25 {text}"),
+            &format!("R ok | 5 0 0 0 0 tally {full}"),
+        ),
+        (
+            &format!("R 1 1 18 25 {}", text.replace(r"\n9", r"\n10")),
+            "R text refused 9 at 56",
+        ),
+    ]);
+}
+
 /// Every program that runs the library has its cases in `stdin`, and in `stdout` the answers of
 /// this command.
 #[test]

@@ -1,11 +1,11 @@
-//! Strand conversion, lifts, turns and the tally: bench samples and open points.
+//! Strand conversion, lifts, turns, the tally and batches: bench samples and open points.
 
 mod common;
 
 use common::{chain_a, number, CHAIN_A, CHAIN_A_TURNED, ROOM};
 use reference::chain::{self, Chain, Names};
 use reference::ledger::{Strand, TALLY_LIMIT};
-use reference::lift::{self, LiftedRegion, Sent, Tally};
+use reference::lift::{self, BatchRow, LiftedRegion, Sent, Tally};
 use reference::rows::Row;
 
 const LIMIT: u64 = 2_147_483_647;
@@ -175,6 +175,79 @@ fn asked_may_reach_its_limit() {
     let (after, answer) = lift::step(&chain, &rows, 18, 25, before);
     assert!(answer.is_ok());
     assert_eq!(after, tally(TALLY_LIMIT, TALLY_LIMIT - 3, 3));
+}
+
+/// Refused by this number: four zeros follow it.
+fn refused(number: u64) -> BatchRow {
+    [number, 0, 0, 0, 0]
+}
+
+#[test]
+fn a_batch_through_chain_a() {
+    let (chain, rows) = chain_a();
+    let regions = [(18, 25), (20, 23), (20, 20), (0, 101)];
+    let answers = vec![[0, 4, 3, 63, 67], refused(12), refused(13), refused(13)];
+    for room in [4, 5, ROOM] {
+        let batch = lift::batch(&chain, &rows, &regions, room, tally(0, 0, 0));
+        assert_eq!(batch, Ok((tally(10, 4, 6), answers.clone())));
+    }
+}
+
+#[test]
+fn asked_at_its_limit_passes_over_one_region_of_a_batch() {
+    let (chain, rows) = chain_a();
+    let before = tally(TALLY_LIMIT - 5, TALLY_LIMIT - 5, 0);
+    let regions = [(10, 16), (10, 15), (10, 11)];
+    let (after, answers) = lift::batch(&chain, &rows, &regions, 3, before).unwrap();
+    assert_eq!(answers, [refused(5), [0, 5, 0, 70, 75], refused(5)]);
+    assert_eq!(after, tally(TALLY_LIMIT, TALLY_LIMIT, 0));
+}
+
+#[test]
+fn a_bad_tally_refuses_every_region_inside() {
+    let (chain, rows) = chain_a();
+    let bad = tally(1, 1, 1);
+    let regions = [(18, 25), (20, 20), (20, 23), (0, 101)];
+    let (after, answers) = lift::batch(&chain, &rows, &regions, 4, bad).unwrap();
+    assert_eq!(answers, [10, 13, 10, 13].map(refused));
+    assert_eq!(after, bad);
+}
+
+#[test]
+fn a_bad_chain_refuses_every_region() {
+    let (chain, rows) = chain_a();
+    let bad = Chain { t_end: 41, ..chain };
+    let regions = [(18, 25), (20, 20), (20, 23)];
+    for before in [tally(0, 0, 0), tally(1, 1, 1)] {
+        let (after, answers) = lift::batch(&bad, &rows, &regions, 3, before).unwrap();
+        assert_eq!(answers, [9, 9, 9].map(refused));
+        assert_eq!(after, before);
+    }
+}
+
+#[test]
+fn room_for_a_batch_is_tested_first() {
+    let (chain, rows) = chain_a();
+    let bad = Chain { t_end: 41, ..chain };
+    let regions = [(18, 25), (20, 20)];
+    for room in [0, 1] {
+        for chain in [&chain, &bad] {
+            let batch = lift::batch(chain, &rows, &regions, room, tally(1, 1, 1));
+            assert_eq!(number(batch), 11);
+        }
+    }
+}
+
+#[test]
+fn a_batch_of_no_regions_is_good() {
+    let (chain, rows) = chain_a();
+    let bad = Chain { t_end: 41, ..chain };
+    for chain in [&chain, &bad] {
+        for before in [tally(10, 4, 6), tally(1, 1, 1)] {
+            let batch = lift::batch(chain, &rows, &[], 0, before);
+            assert_eq!(batch, Ok((before, vec![])));
+        }
+    }
 }
 
 #[test]

@@ -429,3 +429,39 @@ fn the_tally_after_each_region_is_the_sum_so_far() {
         }
     }
 }
+
+#[test]
+fn the_tally_after_each_batch_is_the_sum_so_far() {
+    let mut dice = Dice::new(11);
+    for _ in 0..30 {
+        let batches: Vec<_> = (0..4).map(|_| any_batch(&mut dice)).collect();
+        let mut tally = Tally::default();
+        let mut sent: Vec<Sent> = Vec::new();
+        for (chain, table, regions) in &batches {
+            let room = regions.len();
+            tally = lift::batch(chain, table, regions, room, tally).unwrap().0;
+            sent.extend(regions.iter().map(|&(start, end)| Sent {
+                chain,
+                table,
+                start,
+                end,
+            }));
+            assert_eq!(tally, lift::sums(&sent));
+        }
+    }
+}
+
+/// A chain that is damaged now and then, and up to 8 regions, also some not inside.
+fn any_batch(dice: &mut Dice) -> (Chain, Vec<Row>, Vec<(u64, u64)>) {
+    let (chain, rows, ..) = any_sent(dice);
+    let count = dice.between(0, 8);
+    let region = |_| {
+        let start = dice.between(0, chain.t_size);
+        (
+            start,
+            dice.between(start.saturating_sub(1), chain.t_size + 1),
+        )
+    };
+    let regions = (0..count).map(region).collect();
+    (chain, rows, regions)
+}

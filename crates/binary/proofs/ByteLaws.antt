@@ -167,3 +167,29 @@ byte-past s at on h = record { is = none-there s (at + on) (omega arith); small 
 
 pub byte-far : (s : List ℕ) (at on : ℕ) → length s - at ≤ on → ByteRead s (at + on) 0
 byte-far s at on h = record { is = none-there s (at + on) (omega arith); small = omega arith }
+
+-- ---- eight bytes at once
+low-first : (k : ℕ) (s : List ℕ) (i j : ℕ) → j ≡ suc i → lowAt (suc k) s i ≡ getD s i 0 + 256 * lowAt k s j
+unfolding lowAt
+low-first k s i j e = rw e
+
+low-none : (s : List ℕ) (i : ℕ) → lowAt 0 s i ≡ 0
+unfolding lowAt
+low-none s i = refl
+
+pub word-loaded : (s : List ℕ) (at a b c d e f g h low high : ℕ) → a ≡ getD s at 0 → b ≡ getD s (at + 1) 0 → c ≡ getD s (at + 2) 0 → d ≡ getD s (at + 3) 0
+    → e ≡ getD s (at + 4) 0 → f ≡ getD s (at + 5) 0 → g ≡ getD s (at + 6) 0 → h ≡ getD s (at + 7) 0
+    → low ≡ a + 256 * (b + 256 * (c + 256 * d)) → high ≡ e + 256 * (f + 256 * (g + 256 * h)) → low + 4294967296 * high ≡ lowAt wordSize s at
+word-loaded s at a b c d e f g h low high ea eb ec ed ee ef eg eh el ek =
+    omega (
+      arith,
+      low-first 7 s at (at + 1) (omega arith),
+      low-first 6 s (at + 1) (at + 2) (omega arith),
+      low-first 5 s (at + 2) (at + 3) (omega arith),
+      low-first 4 s (at + 3) (at + 4) (omega arith),
+      low-first 3 s (at + 4) (at + 5) (omega arith),
+      low-first 2 s (at + 5) (at + 6) (omega arith),
+      low-first 1 s (at + 6) (at + 7) (omega arith),
+      low-first 0 s (at + 7) (at + 8) (omega arith),
+      low-none s (at + 8),
+    )

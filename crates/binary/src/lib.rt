@@ -96,6 +96,17 @@ pub fn put_words(buf: &mut [u8], at: usize, vs: &[u64]) -> usize
     put_each(buf, at, vs)
 }
 
+// Stores five numbers at the front of a buffer, as far as it reaches. Their number is known, so that no loop is left of it.
+pub fn put_five(buf: &mut [u8], vs: [u64; 5])
+    ensures { λ _. ⌜ now (buf .exit) ≡ sets (now (buf .entry)) 0 (wordsBytes vs) ⌝ }
+{
+    if buf.len() < 5 * WORD_SIZE {
+        put_each(buf, 0, &vs);
+        return;
+    }
+    store_words(buf, 0, &vs);
+}
+
 // Stores the three numbers of a row.
 fn put_row(buf: &mut [u8], at: usize, target: u64, query: u64, size: u64) -> usize
     ensures { λ r. ⌜ Put (wordsBytes (rowsNumbers (rowAs target query size ∷ []))) at (now (buf .entry)) (now (buf .exit)) r ⌝ }
@@ -210,9 +221,53 @@ pub fn low_at(bytes: &[u8], at: usize, count: usize) -> u64
     n
 }
 
+// The number of four bytes.
+fn low_four(a: u64, b: u64, c: u64, d: u64) -> u64
+    requires { ⌜ (a ≤ 255) × (b ≤ 255) × (c ≤ 255) × (d ≤ 255) ⌝ }
+    ensures { λ r. ⌜ r ≡ a + 256 * (b + 256 * (c + 256 * d)) ⌝ }
+{
+    a + 256 * (b + 256 * (c + 256 * d))
+}
+
+// The eight bytes from a place on, where they are there.
+fn load_word(bytes: &[u8], at: usize) -> u64
+    requires { ⌜ at + wordSize ≤ length (now bytes) ⌝ }
+    ensures { λ r. ⌜ r ≡ lowAt wordSize (now (bytes .entry)) at ⌝ }
+{
+    let high = low_four(
+        wide(bytes[at + 4]),
+        wide(bytes[at + 5]),
+        wide(bytes[at + 6]),
+        wide(bytes[at + 7]),
+    );
+    let low = low_four(
+        wide(bytes[at]),
+        wide(bytes[at + 1]),
+        wide(bytes[at + 2]),
+        wide(bytes[at + 3]),
+    );
+    low + 4294967296 * high
+}
+
 // The word at a place.
 pub fn word_at(bytes: &[u8], at: usize) -> u64
     ensures { λ r. ⌜ r ≡ lowAt wordSize (now (bytes .entry)) at ⌝ }
 {
-    low_at(bytes, at, WORD_SIZE)
+    if bytes.len() < WORD_SIZE {
+        return low_at(bytes, at, WORD_SIZE);
+    }
+    if bytes.len() - WORD_SIZE < at {
+        return low_at(bytes, at, WORD_SIZE);
+    }
+    load_word(bytes, at)
+}
+
+// The first two words.
+pub fn two_words(bytes: &[u8]) -> [u64; 2]
+    ensures { λ r. ⌜ r ≡ lowAt wordSize (now (bytes .entry)) 0 ∷ lowAt wordSize (now (bytes .entry)) wordSize ∷ [] ⌝ }
+{
+    if bytes.len() < 2 * WORD_SIZE {
+        return [word_at(bytes, 0), word_at(bytes, WORD_SIZE)];
+    }
+    [load_word(bytes, 0), load_word(bytes, WORD_SIZE)]
 }

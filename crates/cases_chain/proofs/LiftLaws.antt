@@ -21,11 +21,13 @@ use Rattle.turn.specs.declared.TurnAnswer.{TurnAnswer}
 use Rattle.turn.specs.declared.TurnAnswer.the-variants.{Turned}
 use Rattle.turn.specs.Turns.{turnedRows, turned, turn}
 use Rattle.turn.proofs.TurnLaws.{counted, turnable}
-use Rattle.table_lift.specs.Lifts.{RegionTallied}
+use Rattle.text.specs.declared.Check.{Check}
+use Rattle.table_lift.specs.Lifts.{RegionTallied, BatchLifted}
 use Rattle.table_turn.specs.Turns.{tableAfter, RowsTurned, ColumnsTurned}
 use Rattle.cases_chain.specs.Tables.{tableLimit}
 use Rattle.cases_chain.proofs.FillLaws.{filled-table, copied}
-use Rattle.cases_chain.specs.Lifts.{PositionLifted, RegionLifted, RegionCounted, TableTurned}
+use Rattle.cases_chain.specs.declared.BatchAnswer.{BatchAnswer}
+use Rattle.cases_chain.specs.Lifts.{PositionLifted, RegionLifted, RegionCounted, BatchCounted, TableTurned}
 
 -- a table filled from columns
 module _ (n : ℕ) (ts qs zs : List ℕ) (marked table : List Row) (en : n ≡ min (length ts) tableLimit) (long : length marked ≡ tableLimit) (stored : table ≡ storedRows n ts qs zs marked) (c : Chain) where
@@ -38,6 +40,10 @@ module _ (n : ℕ) (ts qs zs : List ℕ) (marked table : List Row) (en : n ≡ m
   pub region-counted : (before after : Tally) (start end : ℕ) (answer : RegionAnswer) (x : Tallied) → RegionTallied before c (take n table) start end after answer → (x .tally ≡ after) × (x .answer ≡ answer)
       → RegionCounted before c ts qs zs start end x
   region-counted before after start end answer x h e = record { is = λ even. rw (filled-table n ts qs zs marked table en long stored even, sym (e .0), sym (e .1)) at h }
+
+  pub batch-counted : (before after : Tally) (regions lent left : List (List ℕ)) (check : Check) (x : BatchAnswer) → BatchLifted before c (take n table) regions lent after left check → (x .tally ≡ after) × (x .check ≡ check)
+      → BatchCounted before c ts qs zs regions lent left x
+  batch-counted before after regions lent left check x h e = record { is = λ even. rw (filled-table n ts qs zs marked table en long stored even, sym (e .0), sym (e .1)) at h }
 
 turned-count : (c d : Chain) → d ≡ turned c → d .blockCount ≡ c .blockCount
 unfolding turned

@@ -14,8 +14,9 @@ use Rattle.region.specs.declared.Tallied.{Tallied}
 use Rattle.region.specs.Regions.{liftRegion}
 use Rattle.turn.specs.declared.TurnAnswer.{TurnAnswer}
 use Rattle.turn.specs.Turns.{turn}
-use Rattle.table_lift.specs.Lifts.{RegionTallied}
+use Rattle.table_lift.specs.Lifts.{RegionTallied, BatchLifted}
 use Rattle.table_turn.specs.Turns.{ColumnsTurned}
+use Rattle.cases_chain.specs.declared.BatchAnswer.{BatchAnswer}
 use Rattle.cases_chain.specs.Tables.{tableLimit, Even}
 
 abbrev pub lentRows : List ℕ → List ℕ → List ℕ → List Row
@@ -29,6 +30,9 @@ pub record RegionLifted (c : Chain) (ts qs zs : List ℕ) (start end : ℕ) (x :
 
 pub record RegionCounted (before : Tally) (c : Chain) (ts qs zs : List ℕ) (start end : ℕ) (x : Tallied) : Type 0 where
   pub is : Even ts qs zs → RegionTallied before c (lentRows ts qs zs) start end (x .tally) (x .answer)
+
+pub record BatchCounted (before : Tally) (c : Chain) (ts qs zs : List ℕ) (regions lent left : List (List ℕ)) (x : BatchAnswer) : Type 0 where
+  pub is : Even ts qs zs → BatchLifted before c (lentRows ts qs zs) regions lent (x .tally) left (x .check)
 
 -- a turn into a table of so many rows: the answer; and columns of room for a record's blocks hold the turned rows at their fronts
 pub record TableTurned (c : Chain) (ts qs zs : List ℕ) (room : ℕ) (nt nt′ nq nq′ nz nz′ : List ℕ) (x : TurnAnswer) : Type 0 where

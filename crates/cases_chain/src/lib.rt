@@ -1,7 +1,7 @@
-// The sample programs' calls over lent tables of rows: chains read, checked and written; lifted, tallied and turned. Each table is made
-// here with a mark in every row, and its rows are filled from three columns before a call, or copied out to them after it.
+// The sample programs' calls over lent tables of rows: chains read, checked and written; lifted, tallied and turned; batches. Each table
+// is made here with a mark in every row, and its rows are filled from three columns before a call, or copied out to them after it.
 ghost use mathlib.Core.Path.{_≡_};
-ghost use Rattle.cases_chain.specs.Lifts.{PositionLifted, RegionLifted, RegionCounted, TableTurned};
+ghost use Rattle.cases_chain.specs.Lifts.{PositionLifted, RegionLifted, RegionCounted, BatchCounted, TableTurned};
 ghost use Rattle.cases_chain.specs.Tables.{TableRead, TableChecked, TableWrote};
 use chain::Chain;
 use chain::ChainAnswer;
@@ -148,4 +148,38 @@ pub fn tally_region(
     let mut sums = tally;
     let answer = table_lift::tally_region(&mut sums, c, &table[..n], start, end);
     tallied(sums, answer)
+}
+
+// The tally after a batch of regions, and whether the batch was answered.
+pub struct BatchAnswer {
+    pub tally: Tally,
+    pub check: Check,
+}
+
+fn batched(tally: Tally, check: Check) -> BatchAnswer
+    ensures { λ r. ⌜ (r .tally ≡ tally) × (r .check ≡ check) ⌝ }
+{
+    BatchAnswer { tally, check }
+}
+
+// A batch of regions with a tally, which is lent and updated in place; the row of each region goes to the answers.
+pub fn lift_batch(
+    tally: Tally,
+    c: Chain,
+    targets: &[u64],
+    queries: &[u64],
+    sizes: &[u64],
+    regions: &[[u64; 2]],
+    answers: &mut [[u64; 5]],
+) -> BatchAnswer
+    ensures { λ x. ⌜ BatchCounted tally c (now (targets .entry)) (now (queries .entry)) (now (sizes .entry)) (now (regions .entry))
+        (now (answers .entry)) (now (answers .exit)) x ⌝ }
+{
+    let mark = cases::row_mark();
+    let n = cases::table_rows(targets);
+    let mut table = [mark; cases::TABLE];
+    rows::store_rows(&mut table, n, targets, queries, sizes);
+    let mut sums = tally;
+    let check = table_lift::lift_batch(&mut sums, c, &table[..n], regions, answers);
+    batched(sums, check)
 }

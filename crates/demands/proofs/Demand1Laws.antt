@@ -11,14 +11,14 @@ use Rattle.table_bed.proofs.TableLaws as bedTable
 use Rattle.table_psl.proofs.TableLaws as pslTable
 use Rattle.table_chain.proofs.TableLaws as chainTable
 use Rattle.table_turn.proofs.TableLaws as turnTable
-use Rattle.table_lift.proofs.TableLaws.{tally-left, tally-added}
+use Rattle.table_lift.proofs.TableLaws.{tally-left, tally-added, batch-refused}
 use Rattle.desk.proofs.QuietLaws as desk
 use Rattle.demands.specs.Bed.{bed}
 use Rattle.demands.specs.Psl.{psl}
 use Rattle.demands.specs.Chain.{chain}
 use Rattle.demands.specs.Demand1.{Refusals, Demand1}
 use Rattle.demands.proofs.TextPlaceLaws.{bed-read-in, psl-read-in, numbers-read-in, chain-read-in}
-use Rattle.demands.proofs.EndLaws.{bed-write-at, psl-write-at, chain-write-at, check-ends, parse-ends, format-ends, numbers-ends, convert-ends, lift-position-ends, lift-region-ends, turned-ends, tallied-ends}
+use Rattle.demands.proofs.EndLaws.{bed-write-at, psl-write-at, chain-write-at, check-ends, parse-ends, format-ends, numbers-ends, convert-ends, lift-position-ends, lift-region-ends, turned-ends, tallied-ends, batch-ends}
 use Rattle.demands.proofs.RefusalLaws.{turn-at, tally-grows}
 
 -- the formats
@@ -85,6 +85,7 @@ demand1 = record {
   tallyGrows = tally-grows;
   tally = tally-left;
   tallyNone = tally-added;
+  batch = batch-refused;
   bedSlices = λ s ts ts′ qs qs′ zs zs′ x w. (w .targets, w .queries, w .sizes);
   pslSlices = λ s ts ts′ qs qs′ zs zs′ x w. (w .targets, w .queries, w .sizes);
   chainSlices = λ s ts ts′ qs qs′ zs zs′ x w. (w .targets, w .queries, w .sizes);
@@ -102,6 +103,8 @@ demand1 = record {
   turnText = λ s. record { ends = λ b b′ a. turned-ends b b′ a s; left = λ b b′ a. desk.turn-left b b′ a s };
   tallyEnds = tallied-ends;
   tallyLeft = desk.tally-left;
+  batchEnds = batch-ends;
+  batchLeft = desk.batch-left;
   thirteen = thirteen;
   unlike = unlike;
   tells = tells;

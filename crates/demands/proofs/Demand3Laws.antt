@@ -2,12 +2,16 @@
 use mathlib.Core.Path.{_≡_, refl, sym, ap, _∙_}
 use mathlib.Core.Bool.{Bool, true, false}
 use mathlib.Core.Logic.{_↔_}
-use mathlib.Core.List.{List, _++_}
-use Prim.Native.Nat.{ℕ}
+use mathlib.Core.List.{List, [], _++_, map}
+use Prim.Native.Nat.{ℕ, _≤_, _<_}
 use native.Mathlib.Omega.{arith}
-use lib.ListN.{length, take, drop}
+use lib.ListN.{length, take, drop, getD}
 use lib.Seq.{take-append-seam}
+use borrow.Author.Tests.{lt-leb, le-leb}
 use Rattle.ledger.specs.declared.Row.{Row}
+use Rattle.ledger.specs.declared.Reason.the-variants.{NoRoom}
+use Rattle.text.specs.declared.Check.{Check}
+use Rattle.text.specs.declared.Check.the-variants as check
 use Rattle.chain.specs.declared.Chain.{Chain}
 use Rattle.chain.specs.declared.ChainAnswer.the-variants.{Accepted}
 use Rattle.chain.specs.Records.{chainTargets, chainQueries, chainSizes, chainRows}
@@ -20,6 +24,7 @@ use Rattle.lift.specs.declared.Partner.{Partner}
 use Rattle.lift.specs.declared.Partner.the-variants.{Base, Alone}
 use Rattle.lift.specs.Accepted.{used, accepted}
 use Rattle.lift.specs.Pairs.{pairs, partnerOf, isPartner, stands}
+use Rattle.lift.proofs.RunLaws.{either}
 use Rattle.lift.proofs.AcceptLaws.{table-accepted}
 use Rattle.ledger.proofs.Laws.{opposite-twice, letter-determines}
 use Rattle.lift.proofs.ConversionLaws.{converts-twice}
@@ -28,6 +33,10 @@ use Rattle.lift.proofs.PositionLaws.{lifts-exactly, one-partner, pair-found, pa
 use Rattle.region.specs.declared.Region.{Region}
 use Rattle.region.specs.declared.RegionAnswer.the-variants as region
 use Rattle.region.specs.Regions.{liftRegion}
+use Rattle.region.specs.declared.Tally.{Tally}
+use Rattle.region.specs.Tallies.{tallyStep}
+use Rattle.region.specs.Batches.{answerRow, sentAs, batchCheck}
+use Rattle.region.proofs.BatchLaws.{batch-row, batch-rest, batch-many, batch-tally, batch-left}
 use Rattle.region.proofs.RegionLaws.{region-lifted, lifted-length, region-inside, region-holds, region-smallest}
 use Rattle.turn.specs.declared.TurnAnswer.{TurnAnswer}
 use Rattle.turn.specs.declared.TurnAnswer.the-variants.{Turned}
@@ -35,9 +44,10 @@ use Rattle.turn.specs.Turns.{turned, turnedRows}
 use Rattle.turn.proofs.TurnLaws.{turns, Turning, turning}
 use Rattle.table_turn.specs.Turns.{tableAfter}
 use Rattle.table_turn.proofs.TableLaws.{rows-turning}
-use Rattle.table_lift.proofs.TableLaws.{batch-sums}
+use Rattle.table_lift.proofs.TableLaws.{calls-sums, singles-sent}
+use Rattle.table_lift.specs.Lifts.{BatchLifted}
 use Rattle.demands.specs.Chain.{ChainSpells}
-use Rattle.demands.specs.Demand3.{InPair, Turns, RegionCounts, Demand3}
+use Rattle.demands.specs.Demand3.{InPair, Turns, RegionCounts, BatchRows, Demand3}
 use Rattle.demands.proofs.RowLaws.{read-count, front-rows, holds-if}
 use Rattle.demands.proofs.RefusalLaws.{position-refused, region-refused, turn-refused, tally-refused}
 use Rattle.demands.proofs.ChainDemand2.{spelt-check, spelt-rows}
@@ -99,6 +109,36 @@ region-counts c rows a e r h =
       smallest = region-smallest c rows a e r h;
     }
 
+-- a batch, by the single calls
+module _ (t u : Tally) (c : Chain) (rows : List Row) (regions before after : List (List ℕ)) (x : Check) (h : BatchLifted t c rows regions before u after x) where
+  refuses : length before < length regions → x ≡ check.Refused (record { reason = NoRoom; place = 0 })
+  unfolding batchCheck
+  refuses k = rw (lt-leb (length regions) (length before) k) at (h .check)
+
+  holds : length regions ≤ length before → x ≡ check.Holds
+  unfolding batchCheck
+  holds k = rw (le-leb (length regions) (length before) k) at (h .check)
+
+  eleven-if : x ≡ check.Refused (record { reason = NoRoom; place = 0 }) → length before < length regions
+  eleven-if e = either (length regions) (length before) _ (λ k. absurd (let w = sym (holds k) ∙ e in let z : _≡_ {A = ℕ} 0 1 = cc in omega arith)) (λ k. k)
+
+  holds-only : x ≡ check.Holds → length regions ≤ length before
+  holds-only e = either (length regions) (length before) _ (λ k. k) (λ k. absurd (let w = sym (refuses k) ∙ e in let z : _≡_ {A = ℕ} 0 1 = cc in omega arith))
+
+  batch-rows : BatchRows t c rows regions before after u x
+  batch-rows = record {
+    eleven = (eleven-if, refuses);
+    answered = (holds-only, holds);
+    left = λ k. let w = batch-left t c rows regions before after _ h k in (w .1, w .0);
+    rowIs = λ k i l v w y p q.
+        batch-row t c rows regions before after _ h k i l
+        ∙ ap (λ (z : Tally). answerRow (tallyStep z c rows (getD (getD regions i []) 0 0) (getD (getD regions i []) 1 0) .answer)) (sym (singles-sent t v (map (sentAs c rows) (take i regions)) p))
+        ∙ ap answerRow (sym (q .is));
+    rest = batch-rest t c rows regions before after _ h;
+    many = batch-many t c rows regions before after _ h;
+    tallyIs = λ k v p. batch-tally t c rows regions before after _ h k ∙ sym (singles-sent t v (map (sentAs c rows) regions) p);
+  }
+
 -- DEMAND 3
 pub demand3 : Demand3
 demand3 = record {
@@ -120,5 +160,6 @@ demand3 = record {
   regions = region-counts;
   regionRefused = region-refused;
   tallyRefused = tally-refused;
-  everyList = batch-sums;
+  batchRows = batch-rows;
+  everyCall = calls-sums;
 }

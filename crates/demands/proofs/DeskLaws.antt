@@ -1,8 +1,9 @@
 -- Demands 2 and 3 hold at the entries. Assumes nothing.
 use mathlib.Core.Path.{_≡_, refl, sym, ap, _∙_}
 use mathlib.Core.Logic.{_↔_}
+use mathlib.Core.Bool.{Bool, true, false}
 use mathlib.Core.List.{List, [], _∷_, _++_}
-use Prim.Native.Nat.{ℕ, _+_, _*_, _%_, _≤_}
+use Prim.Native.Nat.{ℕ, _+_, _*_, _/_, _%_, _≤_}
 use native.Mathlib.Omega.{arith}
 use lib.ListN.{length, length-append, length-map, length-take}
 use lib.Seq.{take-all, ext-getD}
@@ -29,6 +30,9 @@ use Rattle.psl.specs.Records.{pslTargets, pslQueries, pslSizes}
 use Rattle.psl.specs.Write.{pslText, pslWrite}
 use Rattle.chain.specs.declared.Chain.{Chain}
 use Rattle.chain.specs.declared.ChainAnswer.the-variants as chainAnswer
+use Rattle.text.specs.declared.Check.{Check}
+use Rattle.text.specs.declared.Check.the-variants as checkAnswer
+use Rattle.text.specs.Checks.{require}
 use Rattle.chain.specs.Read.{chainCheck}
 use Rattle.chain.specs.Rules.{named}
 use Rattle.chain.specs.Write.{chainText, chainWrite}
@@ -56,7 +60,7 @@ use Rattle.binary.proofs.BackLaws.{rows-length, words-length, words-back}
 use Rattle.answers.specs.Answers.{mostTold, told, Outcome, gives, refuses, refusalCode, Answered, roomed, numbered, recordNumbers, recorded}
 use Rattle.answers.proofs.AnswerLaws.{told-itself, refused-reason}
 use Rattle.desk.specs.Records.{bedNumbers, pslNumbers, chainNumbers}
-use Rattle.desk.specs.Entries.{byKind, written, nameBytes, bedWritten, pslWritten, chainWritten, checkedBed, checkedPsl, checkedChain, checked, parsedBed, parsedPsl, parsedChain, parsed, formattedBed, formattedPsl, formattedChain, formatted, ofNumbers, numbersGiven, inWord, ofPosition, positionLifted, ofRegion, regionLifted, turnWritten, turnedText, tallied}
+use Rattle.desk.specs.Entries.{byKind, written, nameBytes, bedWritten, pslWritten, chainWritten, checkedBed, checkedPsl, checkedChain, checked, parsedBed, parsedPsl, parsedChain, parsed, formattedBed, formattedPsl, formattedChain, formatted, ofNumbers, numbersGiven, inWord, ofPosition, positionLifted, ofRegion, regionLifted, turnWritten, turnedText, tallyIn, tallied, onCheck, batchLifted, tallyAfter, BatchTold}
 use Rattle.demands.specs.Formats.{Names, Format}
 use Rattle.demands.specs.Demand2.{Demand2}
 use Rattle.demands.specs.Bed.{BedSpells, bedNames, bed}
@@ -71,7 +75,9 @@ use Rattle.demands.proofs.PslDemand2 as ofPsl
 use Rattle.demands.proofs.ChainDemand2 as ofChain
 use Rattle.demands.proofs.RefusalLaws.{position-at, region-at}
 use Rattle.demands.proofs.Demand1Laws.{thirteen}
-use Rattle.demands.proofs.CallLaws.{tally-told}
+use Rattle.demands.proofs.CallLaws.{tally-told, batch-given, batch-kept}
+use Rattle.region.specs.Batches.{answerRows, regionSize, regionsIn, rowsBytes, roomInBytes, sentText, textBatchCheck}
+use Rattle.region.proofs.ByteLaws.{regions-length}
 use Rattle.demands.proofs.Demand3Laws.{spelled-accepted}
 
 -- ---- outcomes, as an answer and the lent bytes
@@ -365,8 +371,21 @@ region-told : (y : RegionAnswer) (end : ℕ) (b b′ : List ℕ) (a : ℕ) → e
 region-told (region.Lifted r) end b b′ a h f k = numbers-given b b′ a end (r .kept ∷ r .dropped ∷ r .start ∷ r .end ∷ []) h (omega arith) k
 region-told (region.Refused x) end b b′ a h f k = refused-by b b′ a x (omega (arith, f x refl)) k
 
+-- a batch
+check-none : (c : Check) (bytes lent : List ℕ) (n : ℕ) (x : Refusal) → c ≡ checkAnswer.Refused x → x .place ≤ mostTold → (b b′ lent′ kept : List ℕ) (a : ℕ) → Answered (onCheck c refuses (gives n bytes)) b b′ a
+    → lent′ ≡ onCheck c (λ _. lent) kept → RefusedBy x b b′ a × (lent′ ≡ lent)
+check-none c bytes lent n x e h b b′ lent′ kept a k l = (refused-by b b′ a x h (rw e at k), rw e at l)
+
+batch-only : (s regions lent lent′ b b′ : List ℕ) (a : ℕ) → BatchTold s regions lent lent′ b b′ a → a % 16 ≡ 0 → SpellsOne chain s
+unfolding batchLifted textBatchCheck
+batch-only s regions lent lent′ b b′ a h z = spelt-or s _ (λ y. y) (λ x e. absurd (go (roomInBytes regions (length b)) x (rw e at (h .rowsTold .is))))
+  where
+    go : (v : Bool) (x : Refusal) → a ≡ onCheck (require v NoRoom 0 (checkAnswer.Refused x)) refuses (gives (length regions / regionSize) (rowsBytes (answerRows (tallyIn lent) (sentText s regions (length b))))) .answer → ⊥
+    go true x e = no-count x a e z
+    go false x e = no-count (record { reason = NoRoom; place = 0 }) a e z
+
 chain-calls : ChainsAtDesk
-unfolding chain positionLifted regionLifted turnedText tallied turned
+unfolding chain positionLifted regionLifted turnedText tallied turned batchLifted tallyAfter textBatchCheck
 chain-calls =
     let refused : (s : List ℕ) (x : Refusal) → Refuses chain s x → chainCheck s ≡ chainAnswer.Refused x = λ s x w. refused-of (chain-reads s) (length (w .before)) x (w .wide) (w .reads .is) in
     let low : (s : List ℕ) (x : Refusal) → Refuses chain s x → x .place ≤ mostTold = λ s x w. omega (arith, chain-entries .lowPlace s x w) in
@@ -378,14 +397,24 @@ chain-calls =
       turns = λ s c rows p b b′ a h.
           text-given b b′ a (length s) (turnedIn s c rows) (end-low s c rows p) (ofChain.short (turned c) (chainNames s (turned c)) (turnedRows c rows) (turned-valid s c rows p)) (rw (turned-as s c rows p (length b)) at h);
       tallies = tally-told;
+      batches = λ s c rows p t u regions lentRows leftRows d e g l rest lent′ b b′ a h fits. (
+        given b b′ a (length (regionsIn regions)) (rowsBytes leftRows) (omega (arith, regions-length (length regions / regionSize) regions 0))
+            (rw (batch-given s c rows p regions (length b) fits t u lentRows leftRows d e g rest) at (h .rowsTold)),
+        h .tallyLeft ∙ batch-kept s c rows p regions (length b) fits t u lentRows leftRows d e g rest,
+      );
+      batchNoRoom = λ s regions lent lent′ b b′ a h fits.
+          check-none (textBatchCheck s regions (length b)) _ lent _ (record { reason = NoRoom; place = 0 }) (rw fits) (omega arith) b b′ lent′ _ a (h .rowsTold) (h .tallyLeft);
       positionOnly = λ s q b b′ a h z. spelt-or s _ (λ y. y) (λ x e. absurd (no-count x a (rw e at (h .is)) z));
       regionOnly = λ s start end b b′ a h z. spelt-or s _ (λ y. y) (λ x e. absurd (no-count x a (rw e at (h .is)) z));
       turnOnly = λ s b b′ a h z. spelt-or s _ (λ y. y) (λ x e. absurd (no-count x a (rw e at (h .is)) z));
       tallyOnly = λ s start end b b′ a h z. spelt-or s _ (λ y. y) (λ x e. absurd (no-count x a (rw e at (h .is)) z));
+      batchOnly = batch-only;
       positionRefused = λ s x w q b b′ a h. refused-by b b′ a x (low s x w) (rw (refused s x w) at h);
       regionRefused = λ s x w start end b b′ a h. refused-by b b′ a x (low s x w) (rw (refused s x w) at h);
       turnRefused = λ s x w b b′ a h. refused-by b b′ a x (low s x w) (rw (refused s x w) at h);
       tallyRefused = λ s x w start end b b′ a h. refused-by b b′ a x (low s x w) (rw (refused s x w) at h);
+      batchRefused = λ s x w regions lent lent′ b b′ a h fits.
+          check-none (textBatchCheck s regions (length b)) _ lent _ x (rw (fits, refused s x w)) (low s x w) b b′ lent′ _ a (h .rowsTold) (h .tallyLeft);
     }
 
 -- ---- THE DESK

@@ -2,7 +2,7 @@
 use mathlib.Core.Path.{_≡_, refl}
 use mathlib.Core.Bool.{Bool, true, false, _&&_}
 use mathlib.Core.List.{List, [], _∷_}
-use Prim.Native.Nat.{ℕ, _+_, _-_, _≤_, min, zero-le}
+use Prim.Native.Nat.{ℕ, _+_, _-_, _/_, _≤_, min, zero-le}
 use native.Mathlib.Omega.{arith}
 use native.Mathlib.Nat.{le-refl}
 use lib.ListN.{length, take}
@@ -17,6 +17,7 @@ use Rattle.ledger.specs.Strands.{isTold}
 use Rattle.text.specs.declared.Check.{Check}
 use Rattle.text.specs.declared.Check.the-variants.{Holds}
 use Rattle.text.specs.declared.Check.the-variants as check
+use Rattle.text.specs.Checks.{require}
 use Rattle.writing.specs.declared.Writing.the-variants as writing
 use Rattle.writing.specs.Answers.{roomAnswer}
 use Rattle.writing.specs.Answers as answers
@@ -58,11 +59,13 @@ use Rattle.region.specs.declared.Tally.{Tally}
 use Rattle.region.specs.declared.Tallied.{Tallied}
 use Rattle.region.specs.Regions as regions
 use Rattle.region.specs.Tallies as tallies
+use Rattle.region.specs.Batches.{answerRows, regionSize, rowsBytes, roomInBytes, sentText, textBatchCheck}
+use Rattle.lift.specs.Texts.{ofChecked}
 use Rattle.turn.specs.declared.TurnAnswer.the-variants.{Turned}
 use Rattle.turn.specs.Turns as turns
 use Rattle.binary.specs.Bytes.{wordsBytes}
-use Rattle.answers.specs.Answers.{mostTold, told, Outcome, gives, pickOutcome, refusalCode, Answered, roomed, numbered, recorded}
-use Rattle.desk.specs.Entries.{byKind, ofBed, ofPsl, ofChain, ofNumbers, ofSpan, ofPosition, ofRegion, ofTurn, ofTallied, atEnd, pickPlace, nameBytes, written, bedWritten, pslWritten, chainWritten, checkedBed, checkedPsl, checkedChain, checked, parsedBed, parsedPsl, parsedChain, parsed, formattedBed, formattedPsl, formattedChain, formatted, numbersGiven, convertedNumbers, positionLifted, regionLifted, turnWritten, turnedText, tallyIn, tallyBytes, tallied}
+use Rattle.answers.specs.Answers.{mostTold, told, Outcome, gives, refuses, pickOutcome, refusalCode, Answered, roomed, numbered, recorded}
+use Rattle.desk.specs.Entries.{byKind, ofBed, ofPsl, ofChain, ofNumbers, ofSpan, ofPosition, ofRegion, ofTurn, ofTallied, atEnd, pickPlace, nameBytes, written, bedWritten, pslWritten, chainWritten, checkedBed, checkedPsl, checkedChain, checked, parsedBed, parsedPsl, parsedChain, parsed, formattedBed, formattedPsl, formattedChain, formatted, numbersGiven, convertedNumbers, positionLifted, regionLifted, turnWritten, turnedText, tallyIn, tallyBytes, tallied, onCheck, batchLifted, BatchTold}
 use Rattle.demands.specs.Demand1.{Ended, with-count, with-place}
 use Rattle.demands.proofs.PlaceLaws.{placeOf, required}
 use Rattle.demands.proofs.TextPlaceLaws.{bedPlace, bed-in, pslPlace, psl-in, numbersPlace, numbers-in, chainPlace, chain-in}
@@ -301,3 +304,13 @@ module _ (b b′ : List ℕ) (r : ℕ) where
 pub tallied-ends : (s : List ℕ) (a e : ℕ) (b b′ : List ℕ) (r : ℕ) → Answered (tallied s a e b) b b′ r → Ended (length s) r
 unfolding tallied
 tallied-ends s a e b b′ r = answered-ends (length s) _ b b′ r (chain-ends (length s) (chainCheck s) _ (chain-in s) (λ c. tally-ends (length s) (tallyIn b) c (chainRows s c) a e))
+
+pub batch-ends : (s regions lent lent′ b b′ : List ℕ) (r : ℕ) → BatchTold s regions lent lent′ b b′ r → Ended (length s) r
+unfolding batchLifted textBatchCheck
+batch-ends s regions lent lent′ b b′ r h = answered-ends (length s) _ b b′ r (go (roomInBytes regions (length b)) (chainCheck s) (chain-in s)) (h .rowsTold)
+  where
+    go : (v : Bool) (x : ChainAnswer) → chainPlace x ≤ length s
+        → Ends (length s) (onCheck (require v NoRoom 0 (ofChecked check.Refused (λ _. check.Holds) x)) refuses (gives (length regions / regionSize) (rowsBytes (answerRows (tallyIn lent) (sentText s regions (length b))))))
+    go true (chainAnswer.Accepted c) k = gives-ends (length s) (length regions / regionSize) (rowsBytes (answerRows (tallyIn lent) (sentText s regions (length b))))
+    go true (chainAnswer.Refused x) k = code-ends (length s) x k
+    go false x k = code-ends (length s) (record { reason = NoRoom; place = 0 }) zero-le

@@ -7,8 +7,9 @@ use lib.ListN.{length}
 use Rattle.ledger.specs.declared.Row.{Row}
 use Rattle.ledger.specs.declared.Refusal.{Refusal}
 use Rattle.ledger.specs.declared.Reason.{Reason}
-use Rattle.ledger.specs.declared.Reason.the-variants.{NoPair}
+use Rattle.ledger.specs.declared.Reason.the-variants.{NoRoom, NoPair}
 use Rattle.ledger.specs.Reasons.{reasonNumber}
+use Rattle.text.specs.declared.Check.the-variants as check
 use Rattle.writing.specs.declared.Writing.the-variants as writing
 use Rattle.bed.specs.declared.Bed.{Bed}
 use Rattle.bed.specs.declared.BedAnswer.the-variants as bedAnswer
@@ -29,11 +30,11 @@ use Rattle.region.specs.declared.Region.{Region}
 use Rattle.region.specs.declared.RegionAnswer.the-variants as region
 use Rattle.region.specs.Tallies.{grown}
 use Rattle.turn.specs.declared.TurnAnswer.the-variants as turn
-use Rattle.table_lift.specs.Lifts.{RegionTallied}
+use Rattle.table_lift.specs.Lifts.{RegionTallied, BatchLifted}
 use Rattle.table_turn.specs.Turns.{RowsTurned}
 use Rattle.turn.specs.Turns.{TurnedInto}
 use Rattle.answers.specs.Answers.{Outcome, Answered}
-use Rattle.desk.specs.Entries.{checked, parsed, formatted, numbersGiven, convertedNumbers, positionLifted, regionLifted, turnedText, tallied, Refusing}
+use Rattle.desk.specs.Entries.{checked, parsed, formatted, numbersGiven, convertedNumbers, positionLifted, regionLifted, turnedText, tallied, BatchTold, Refusing}
 use Rattle.demands.specs.Formats.{Names, Format}
 use Rattle.demands.specs.Bed.{bed}
 use Rattle.demands.specs.Psl.{psl}
@@ -71,6 +72,9 @@ pub record Demand1 : Type 0 where
   pub tallyGrows : (t u : Tally) (c : Chain) (rows : List Row) (a e : ℕ) (r : Region) → RegionTallied t c rows a e u (region.Lifted r) → u ≡ grown t (e - a) (r .kept) (r .dropped)
   pub tally : (t u : Tally) (c : Chain) (rows : List Row) (a e : ℕ) (x : Refusal) → RegionTallied t c rows a e u (region.Refused x) → (x .reason ≡ NoPair → ⊥) → u ≡ t
   pub tallyNone : (t u : Tally) (c : Chain) (rows : List Row) (a e : ℕ) (x : Refusal) → RegionTallied t c rows a e u (region.Refused x) → x .reason ≡ NoPair → u ≡ grown t (e - a) 0 (e - a)
+  -- a batch is refused by 11 at place 0 alone, which leaves the tally and every row
+  pub batch : (t u : Tally) (c : Chain) (rows : List Row) (regions before after : List (List ℕ)) (x : Refusal) → BatchLifted t c rows regions before u after (check.Refused x)
+      → (x ≡ record { reason = NoRoom; place = 0 }) × (u ≡ t) × (after ≡ before)
   -- the same functions over three flat slices: the slices, or the buffer
   pub bedSlices : (s ts ts′ qs qs′ zs zs′ : List ℕ) (x : Refusal) → BedRead s ts ts′ qs qs′ zs zs′ (bedAnswer.Refused x) → (ts′ ≡ ts) × (qs′ ≡ qs) × (zs′ ≡ zs)
   pub pslSlices : (s ts ts′ qs qs′ zs zs′ : List ℕ) (x : Refusal) → PslRead s ts ts′ qs qs′ zs zs′ (pslAnswer.Refused x) → (ts′ ≡ ts) × (qs′ ≡ qs) × (zs′ ≡ zs)
@@ -91,6 +95,9 @@ pub record Demand1 : Type 0 where
   -- the tally in lent bytes, which every refusal but 12 leaves
   pub tallyEnds : (s : List ℕ) (start end : ℕ) (before after : List ℕ) (a : ℕ) → Answered (tallied s start end before) before after a → Ended (length s) a
   pub tallyLeft : (s : List ℕ) (start end : ℕ) (before after : List ℕ) (a : ℕ) → Answered (tallied s start end before) before after a → Refusing a → (a % 16 ≡ reasonNumber NoPair → ⊥) → after ≡ before
+  -- the batch, whose refusal leaves the rows and the tally
+  pub batchEnds : (s regions lent lent′ before after : List ℕ) (a : ℕ) → BatchTold s regions lent lent′ before after a → Ended (length s) a
+  pub batchLeft : (s regions lent lent′ before after : List ℕ) (a : ℕ) → BatchTold s regions lent lent′ before after a → Refusing a → (after ≡ before) × (lent′ ≡ lent)
   -- the ledger has thirteen numbers; a count and a refusal never look alike, and a refusal tells its number and its place
   pub thirteen : (why : Reason) → (1 ≤ reasonNumber why) × (reasonNumber why ≤ 13)
   pub unlike : (n place : ℕ) (why : Reason) → 16 * n ≡ 16 * place + reasonNumber why → ⊥

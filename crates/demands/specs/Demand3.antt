@@ -3,8 +3,8 @@ use Prim.Native.Nat.{ℕ, _+_, _-_, _≤_, _<_}
 use mathlib.Core.Path.{_≡_}
 use mathlib.Core.Bool.{true, false}
 use mathlib.Core.Logic.{_↔_}
-use mathlib.Core.List.{List, _++_, map, reverse, List·Memᴰ}
-use lib.ListN.{length, drop}
+use mathlib.Core.List.{List, [], _++_, map, reverse, List·Memᴰ}
+use lib.ListN.{length, take, drop, getD}
 use lib.IntN.{pos, _-ℤ_}
 use Rattle.ledger.specs.declared.Row.{Row}
 use Rattle.ledger.specs.Limits.{tallyLimit}
@@ -13,6 +13,8 @@ use Rattle.ledger.specs.declared.Strand.the-variants.{Plus, Minus}
 use Rattle.ledger.specs.Strands.{strandOpposite, strandLetter}
 use Rattle.blocks.specs.Rows.{tableOf}
 use Rattle.ledger.specs.declared.Reason.the-variants.{NumberOutOfRange, BlockRules, CountsDisagree, NoRoom, NoPair, OutsideTarget}
+use Rattle.text.specs.declared.Check.{Check}
+use Rattle.text.specs.declared.Check.the-variants as check
 use Rattle.chain.specs.declared.Chain.{Chain}
 use Rattle.chain.specs.declared.ChainAnswer.the-variants as chain
 use Rattle.lift.specs.declared.PositionAnswer.the-variants as position
@@ -28,12 +30,13 @@ use Rattle.region.specs.declared.RegionAnswer.the-variants as region
 use Rattle.region.specs.Regions.{kept, dropped, liftRegion}
 use Rattle.region.specs.Regions as ofRegions
 use Rattle.region.specs.declared.Tally.{Tally}
-use Rattle.region.specs.Tallies.{goodTally, Sent, sums, zeroTally}
+use Rattle.region.specs.Tallies.{goodTally, sums, zeroTally}
+use Rattle.region.specs.Batches.{answerRow, sentAs, Call, single, sentByAll}
 use Rattle.turn.specs.declared.TurnAnswer.{TurnAnswer}
 use Rattle.turn.specs.declared.TurnAnswer.the-variants.{Turned}
 use Rattle.turn.specs.Turns.{swapPair, turned, notTurned, turn, TurnedInto}
 use Rattle.table_chain.specs.Rows.{RowsRead}
-use Rattle.table_lift.specs.Lifts.{RegionTallied, Batch}
+use Rattle.table_lift.specs.Lifts.{RegionTallied, BatchLifted, Calls}
 use Rattle.table_turn.specs.Turns.{RowsTurned}
 use Rattle.demands.specs.Chain.{ChainSpells}
 
@@ -107,6 +110,22 @@ pub record RegionCounts (c : Chain) (rows : List Row) (a e : ℕ) (r : Region) :
   pub holdsAll : (p q : ℕ) → a ≤ p → p < e → InPair c rows p q → (r .start ≤ q) × (q < r .end)
   pub smallest : (lo hi : ℕ) → ((p q : ℕ) → a ≤ p → p < e → InPair c rows p q → (lo ≤ q) × (q < hi)) → (lo ≤ r .start) × (r .end ≤ hi)
 
+-- the regions of a batch, each a single call
+abbrev pub singly : Chain → List Row → List (List ℕ) → List Call
+singly c rows regions = map single (map (sentAs c rows) regions)
+
+-- a batch: refused by 11 alone, once and before all else, where there are fewer answer rows than regions, and then nothing moves; else row i is the answer of the single
+-- call for region i with the tally v as the regions before it left it, the rows past the regions stay, and the tally is that after the single calls
+pub record BatchRows (t : Tally) (c : Chain) (rows : List Row) (regions before after : List (List ℕ)) (u : Tally) (x : Check) : Type 0 where
+  pub eleven : (x ≡ check.Refused (record { reason = NoRoom; place = 0 })) ↔ (length before < length regions)
+  pub answered : (x ≡ check.Holds) ↔ (length regions ≤ length before)
+  pub left : length before < length regions → (u ≡ t) × (after ≡ before)
+  pub rowIs : length regions ≤ length before → (i : ℕ) → i < length regions → (v w : Tally) (y : RegionAnswer) → Calls t (singly c rows (take i regions)) v
+      → RegionTallied v c rows (getD (getD regions i []) 0 0) (getD (getD regions i []) 1 0) w y → getD after i [] ≡ answerRow y
+  pub rest : length regions ≤ length before → drop (length regions) after ≡ drop (length regions) before
+  pub many : length after ≡ length before
+  pub tallyIs : length regions ≤ length before → (v : Tally) → Calls t (singly c rows regions) v → u ≡ v
+
 -- strands: the opposite and the conversion to the other strand undo themselves, and the letter tells the strand
 pub record Strands : Type 0 where
   pub oppositeTwice : (k : Strand) → strandOpposite (strandOpposite k) ≡ k
@@ -131,6 +150,8 @@ pub record Demand3 : Type 0 where
   pub regions : (c : Chain) (rows : List Row) (a e : ℕ) (r : Region) → liftRegion c rows a e ≡ region.Lifted r → RegionCounts c rows a e r
   pub regionRefused : (c : Chain) (rows : List Row) (a e : ℕ) → RegionRefused c rows a e
   pub tallyRefused : (t u : Tally) (c : Chain) (rows : List Row) (a e : ℕ) (x : RegionAnswer) → RegionTallied t c rows a e u x → TallyRefused t c rows a e x
-  -- after every list of regions, sent one by one with the record and rows handed in with each and one tally that starts at zero, its fields are the sums: a single claim
-  -- about the list, and so of each part of it that was sent so far
-  pub everyList : (u : Tally) (rs : List Sent) → Batch zeroTally rs u → u ≡ sums rs
+  -- the rows of a batch, and its refusal
+  pub batchRows : (t u : Tally) (c : Chain) (rows : List Row) (regions before after : List (List ℕ)) (x : Check) → BatchLifted t c rows regions before u after x → BatchRows t c rows regions before after u x
+  -- after every list of calls, single regions and batches mixed, each with the record and rows handed in with it and one tally that starts at zero, its fields are the
+  -- sums over the regions sent: a single claim about the list, and so of each part of it that was sent so far
+  pub everyCall : (u : Tally) (xs : List Call) → Calls zeroTally xs u → u ≡ sums (sentByAll xs)

@@ -2,13 +2,15 @@
 use Prim.Native.Nat.{ℕ, _+_, _*_, _%_, _≤_, _<_}
 use mathlib.Core.Path.{_≡_}
 use mathlib.Core.Logic.{_↔_}
+use mathlib.Core.Bool.{true, false}
 use mathlib.Core.List.{List, [], _∷_, _++_}
 use lib.ListN.{length, drop}
 use Rattle.ledger.specs.declared.Row.{Row}
 use Rattle.ledger.specs.declared.Reason.the-variants.{BadWord, NoRoom}
 use Rattle.ledger.specs.declared.Refusal.{Refusal}
-use Rattle.ledger.specs.Limits.{blockLimit, largestNumber}
+use Rattle.ledger.specs.Limits.{blockLimit, largestNumber, largestPlace}
 use Rattle.ledger.specs.Reasons.{reasonNumber}
+use Rattle.text.specs.declared.Check.the-variants as check
 use Rattle.text.specs.Parts.{partBytes}
 use Rattle.blocks.specs.Rows.{targetsOf, queriesOf, sizesOf}
 use Rattle.chain.specs.declared.Chain.{Chain}
@@ -23,12 +25,13 @@ use Rattle.region.specs.declared.RegionAnswer.{RegionAnswer}
 use Rattle.region.specs.declared.RegionAnswer.the-variants as region
 use Rattle.region.specs.Regions.{liftRegion}
 use Rattle.region.specs.declared.Tally.{Tally}
-use Rattle.table_lift.specs.Lifts.{RegionTallied}
+use Rattle.region.specs.Batches.{regionsIn, rowsBytes, roomInBytes}
+use Rattle.table_lift.specs.Lifts.{RegionTallied, BatchLifted}
 use Rattle.numbers.specs.Ranges.{Between}
 use Rattle.turn.specs.Turns.{turned, turnedRows}
 use Rattle.binary.specs.Bytes.{wordSize, wordsBytes}
 use Rattle.answers.specs.Answers.{Answered, recordNumbers, recordBytes}
-use Rattle.desk.specs.Entries.{inWord, tallyBytes, checked, parsed, formatted, numbersGiven, positionLifted, regionLifted, turnedText, tallied}
+use Rattle.desk.specs.Entries.{inWord, tallyBytes, checked, parsed, formatted, numbersGiven, positionLifted, regionLifted, turnedText, tallied, BatchTold}
 use Rattle.demands.specs.Formats.{Format}
 use Rattle.demands.specs.Bed.{bed}
 use Rattle.demands.specs.Psl.{psl}
@@ -125,14 +128,26 @@ pub record ChainsAtDesk : Type 0 where
   pub tallies : (s : List ℕ) (c : Chain) (rows : List Row) → ChainSpells s c rows → (t u : Tally) (start end : ℕ) (x : RegionAnswer) → RegionTallied t c rows start end u x
       → Between 0 largestNumber (t .asked ∷ t .kept ∷ t .dropped ∷ []) → (rest b′ : List ℕ) (a : ℕ) → Answered (tallied s start end (tallyBytes t ++ rest)) (tallyBytes t ++ rest) b′ a
       → TallyCode x a × (b′ ≡ tallyBytes u ++ rest)
+  -- a batch of whole regions with room for a row each: its rows, and the tally that it leaves, are those of `lift_batch` with as many rows as regions
+  pub batches : (s : List ℕ) (c : Chain) (rows : List Row) → ChainSpells s c rows → (t u : Tally) (regions : List ℕ) (lentRows leftRows : List (List ℕ))
+      → BatchLifted t c rows (regionsIn regions) lentRows u leftRows check.Holds → length lentRows ≡ length (regionsIn regions)
+      → Between 0 largestNumber (t .asked ∷ t .kept ∷ t .dropped ∷ []) → length regions ≤ largestPlace
+      → (rest lent′ b b′ : List ℕ) (a : ℕ) → BatchTold s regions (tallyBytes t ++ rest) lent′ b b′ a → roomInBytes regions (length b) ≡ true
+      → Gives (length (regionsIn regions)) (rowsBytes leftRows) b b′ a × (lent′ ≡ tallyBytes u ++ rest)
+  -- any other is 11 at place 0, whatever the text is
+  pub batchNoRoom : (s regions lent lent′ b b′ : List ℕ) (a : ℕ) → BatchTold s regions lent lent′ b b′ a → roomInBytes regions (length b) ≡ false
+      → RefusedBy (record { reason = NoRoom; place = 0 }) b b′ a × (lent′ ≡ lent)
   pub positionOnly : (s : List ℕ) (p : ℕ) (b b′ : List ℕ) (a : ℕ) → Answered (positionLifted s p (length b)) b b′ a → a % 16 ≡ 0 → SpellsOne chain s
   pub regionOnly : (s : List ℕ) (start end : ℕ) (b b′ : List ℕ) (a : ℕ) → Answered (regionLifted s start end (length b)) b b′ a → a % 16 ≡ 0 → SpellsOne chain s
   pub turnOnly : (s b b′ : List ℕ) (a : ℕ) → Answered (turnedText s (length b)) b b′ a → a % 16 ≡ 0 → SpellsOne chain s
   pub tallyOnly : (s : List ℕ) (start end : ℕ) (b b′ : List ℕ) (a : ℕ) → Answered (tallied s start end b) b b′ a → a % 16 ≡ 0 → SpellsOne chain s
+  pub batchOnly : (s regions lent lent′ b b′ : List ℕ) (a : ℕ) → BatchTold s regions lent lent′ b b′ a → a % 16 ≡ 0 → SpellsOne chain s
   pub positionRefused : (s : List ℕ) (x : Refusal) → Refuses chain s x → (p : ℕ) (b b′ : List ℕ) (a : ℕ) → Answered (positionLifted s p (length b)) b b′ a → RefusedBy x b b′ a
   pub regionRefused : (s : List ℕ) (x : Refusal) → Refuses chain s x → (start end : ℕ) (b b′ : List ℕ) (a : ℕ) → Answered (regionLifted s start end (length b)) b b′ a → RefusedBy x b b′ a
   pub turnRefused : (s : List ℕ) (x : Refusal) → Refuses chain s x → (b b′ : List ℕ) (a : ℕ) → Answered (turnedText s (length b)) b b′ a → RefusedBy x b b′ a
   pub tallyRefused : (s : List ℕ) (x : Refusal) → Refuses chain s x → (start end : ℕ) (b b′ : List ℕ) (a : ℕ) → Answered (tallied s start end b) b b′ a → RefusedBy x b b′ a
+  pub batchRefused : (s : List ℕ) (x : Refusal) → Refuses chain s x → (regions lent lent′ b b′ : List ℕ) (a : ℕ) → BatchTold s regions lent lent′ b b′ a → roomInBytes regions (length b) ≡ true
+      → RefusedBy x b b′ a × (lent′ ≡ lent)
 
 pub record Desk : Type 0 where
   pub beds : AtDesk bed

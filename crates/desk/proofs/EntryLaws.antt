@@ -32,7 +32,7 @@ use Rattle.desk.specs.Entries.{ofBed, ofPsl, ofChain, checkedBed, checke
 use Rattle.answers.proofs.AnswerLaws.{refused-is}
 
 -- the rows of the room are those of the text
-held-rows : (n : ℕ) (ts qs zs ts′ qs′ zs′ : List ℕ) → Held n ts qs zs ts′ qs′ zs′ → tableOf (take n ts′) (take n qs′) (take n zs′) ≡ tableOf ts qs zs
+pub held-rows : (n : ℕ) (ts qs zs ts′ qs′ zs′ : List ℕ) → Held n ts qs zs ts′ qs′ zs′ → tableOf (take n ts′) (take n qs′) (take n zs′) ≡ tableOf ts qs zs
 held-rows n ts qs zs ts′ qs′ zs′ h = rw (h .targets, h .queries, h .sizes)
 
 first-rows : (n : ℕ) (ts qs zs ts′ qs′ zs′ : List ℕ) → Held n ts qs zs ts′ qs′ zs′ → take n (tableOf ts′ qs′ zs′) ≡ tableOf ts qs zs

@@ -5,6 +5,7 @@ pub mod NumberLaws
 pub mod WriteLaws
 pub mod LiftLaws
 pub mod TallyLaws
+pub mod BatchLaws
 pub mod TurnLaws
 pub mod Vectors
 pub mod QuietLaws

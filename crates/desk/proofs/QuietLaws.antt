@@ -2,12 +2,14 @@
 use mathlib.Core.Path.{_≡_, refl, ap, _∙_}
 use mathlib.Core.Bool.{Bool, true, false}
 use mathlib.Core.List.{List, [], _∷_}
-use Prim.Native.Nat.{ℕ, _%_}
+use Prim.Native.Nat.{ℕ, _/_, _%_}
 use lib.ListN.{length}
 use lib.Dec.{eqb, leb}
 use borrow.Author.Tests.{eqb-true}
 use Rattle.ledger.specs.declared.Reason.the-variants.{BadWord, NoRoom, NoPair}
 use Rattle.ledger.specs.declared.Refusal.{Refusal}
+use Rattle.text.specs.declared.Check.{Check}
+use Rattle.text.specs.declared.Check.the-variants as check
 use Rattle.ledger.specs.Limits.{blockLimit}
 use Rattle.ledger.specs.Reasons.{reasonNumber}
 use Rattle.writing.specs.declared.Writing.{Writing}
@@ -42,12 +44,13 @@ use Rattle.region.specs.declared.RegionAnswer.the-variants as region
 use Rattle.region.specs.declared.Tally.{Tally}
 use Rattle.region.specs.Regions.{liftRegion}
 use Rattle.region.specs.Tallies.{tallyStep}
+use Rattle.region.specs.Batches.{regionSize, textBatchCheck}
 use Rattle.turn.specs.declared.TurnAnswer.{TurnAnswer}
 use Rattle.turn.specs.declared.TurnAnswer.the-variants as turn
 use Rattle.turn.specs.Turns as turns
 use Rattle.answers.specs.Answers.{Outcome, gives, refuses, refusesBy, pickOutcome, Answered, refusalCode, roomed, numbered, recorded}
 use Rattle.answers.proofs.AnswerLaws.{accepted-reason, refused-reason}
-use Rattle.desk.specs.Entries.{byKind, ofBed, ofPsl, ofChain, ofNumbers, ofSpan, ofPosition, ofRegion, ofTurn, ofTallied, atEnd, nameBytes, written, bedWritten, pslWritten, chainWritten, parsedBed, parsedPsl, parsedChain, parsed, numbersGiven, formattedBed, formattedPsl, formattedChain, formatted, convertedNumbers, positionLifted, regionLifted, turnWritten, turnedText, tallyIn, tallyBytes, tallied, Refusing}
+use Rattle.desk.specs.Entries.{byKind, ofBed, ofPsl, ofChain, ofNumbers, ofSpan, ofPosition, ofRegion, ofTurn, ofTallied, atEnd, nameBytes, written, bedWritten, pslWritten, chainWritten, parsedBed, parsedPsl, parsedChain, parsed, numbersGiven, formattedBed, formattedPsl, formattedChain, formatted, convertedNumbers, positionLifted, regionLifted, turnWritten, turnedText, tallyIn, tallyBytes, tallied, onCheck, batchLifted, tallyAfter, BatchTold, Refusing}
 
 -- an outcome that tells a refusal has no bytes
 record Quiet (o : Outcome) : Type 0 where
@@ -195,3 +198,19 @@ unfolding tallied
 tally-left s start end b b′ r h k l =
     let q = still-chain (chainCheck s) _ (λ c. still-tallied (tallyStep (tallyIn b) c (chainRows s c) start end .answer) (tallyStep (tallyIn b) c (chainRows s c) start end .tally)) in
     left _ b b′ r h (q .none (λ e. k (ap (λ (n : ℕ). n % 16) (h .is) ∙ e)) (λ e. l (ap (λ (n : ℕ). n % 16) (h .is) ∙ e)))
+
+-- a batch: rows and tally
+quiet-check : (x : Check) (o : Outcome) → Quiet o → Quiet (onCheck x refuses o)
+quiet-check check.Holds o q = q
+quiet-check (check.Refused x) o q = quiet-refuses x
+
+still-batch : (x : Check) (count : ℕ) (bytes lent kept : List ℕ) → Refusing (onCheck x refuses (gives count bytes) .answer) → onCheck x (λ _. lent) kept ≡ lent
+still-batch check.Holds count bytes lent kept h = absurd (h (accepted-reason count))
+still-batch (check.Refused x) count bytes lent kept h = refl
+
+pub batch-left : (s regions lent lent′ b b′ : List ℕ) (r : ℕ) → BatchTold s regions lent lent′ b b′ r → Refusing r → (b′ ≡ b) × (lent′ ≡ lent)
+unfolding batchLifted tallyAfter
+batch-left s regions lent lent′ b b′ r h k = (
+  quiet-left _ b b′ r (quiet-check (textBatchCheck s regions (length b)) _ (quiet-gives (length regions / regionSize) _)) (h .rowsTold) k,
+  h .tallyLeft ∙ still-batch (textBatchCheck s regions (length b)) (length regions / regionSize) _ lent _ (λ e. k (ap (λ (n : ℕ). n % 16) (h .rowsTold .is) ∙ e)),
+)

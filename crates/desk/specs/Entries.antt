@@ -1,10 +1,10 @@
 -- The entries of docs/DESK.md, each as a definition: what it answers and writes, for every input.
-use Prim.Native.Nat.{ℕ, suc, _-_, _*_, _%_, _≤_}
+use Prim.Native.Nat.{ℕ, suc, _-_, _*_, _/_, _%_, _≤_}
 use mathlib.Core.Path.{_≡_}
 use mathlib.Core.Bool.{Bool, true, false}
 use mathlib.Core.List.{List, [], _∷_, _++_}
 use lib.Dec.{leb, eqb}
-use lib.ListN.{length}
+use lib.ListN.{length, drop}
 use lib.IntN.{ℤ, pos, negsuc}
 use Rattle.ledger.specs.declared.Part.{Part}
 use Rattle.ledger.specs.declared.Reason.the-variants.{BadWord, NoRoom, NoPair}
@@ -13,6 +13,8 @@ use Rattle.ledger.specs.declared.Row.{Row}
 use Rattle.ledger.specs.Limits.{blockLimit, largestNumber}
 use Rattle.ledger.specs.Reasons.{reasonNumber}
 use Rattle.blocks.specs.Rows.{targetsOf, queriesOf, sizesOf}
+use Rattle.text.specs.declared.Check.{Check}
+use Rattle.text.specs.declared.Check.the-variants as check
 use Rattle.text.specs.Parts.{partIn, partBytes}
 use Rattle.text.specs.Pieces.{lineOf}
 use Rattle.writing.specs.declared.Writing.{Writing}
@@ -52,12 +54,13 @@ use Rattle.region.specs.declared.RegionAnswer.the-variants as region
 use Rattle.region.specs.declared.Tally.{Tally}
 use Rattle.region.specs.declared.Tallied.{Tallied}
 use Rattle.region.specs.Regions.{liftRegion}
-use Rattle.region.specs.Tallies.{tallyStep}
+use Rattle.region.specs.Tallies.{tallyStep, sentThrough}
+use Rattle.region.specs.Batches.{answerRows, regionSize, rowsBytes, sentText, textBatchCheck}
 use Rattle.turn.specs.declared.TurnAnswer.{TurnAnswer}
 use Rattle.turn.specs.declared.TurnAnswer.the-variants as turn
 use Rattle.turn.specs.Turns as turns
 use Rattle.binary.specs.Bytes.{wordSize, wordsBytes, lowAt}
-use Rattle.answers.specs.Answers.{refusalCode, Outcome, gives, refuses, refusesBy, pickOutcome, numbered, recorded}
+use Rattle.answers.specs.Answers.{refusalCode, Outcome, Answered, gives, refuses, refusesBy, pickOutcome, numbered, recorded}
 use Rattle.desk.specs.Records.{bedNumbers, pslNumbers, chainNumbers}
 
 -- by the kind of text: 1 BED, 2 PSL, 3 chain; any other is 6 at place 0
@@ -217,6 +220,30 @@ tallied s start end lent = ofChain (chainCheck s) (λ c. tallyOutcome (tallyStep
 pub record TallyRoom (answer : RegionAnswer) (lent : List ℕ) : Type 0 where
   pub lifted : (x : Region) → answer ≡ region.Lifted x → 3 * wordSize ≤ length lent
   pub alone : (x : Refusal) → answer ≡ region.Refused x → reasonNumber (x .reason) ≡ reasonNumber NoPair → 3 * wordSize ≤ length lent
+
+-- LIFT A BATCH: too few rows, or a region cut short, is 11 at place 0, before the text is read; then the text's refusals; then a row of five numbers for each region
+abbrev pub onCheck : {A : Type 0} → Check → (Refusal → A) → A → A
+onCheck check.Holds refused rest = rest
+onCheck (check.Refused x) refused rest = refused x
+
+unfoldable pub batchLifted : List ℕ → List ℕ → List ℕ → ℕ → Outcome
+batchLifted s regions lent room = onCheck (textBatchCheck s regions room) refuses (gives (length regions / regionSize) (rowsBytes (answerRows (tallyIn lent) (sentText s regions room))))
+
+-- the lent tally afterwards: that after the regions sent, where the bytes hold one; a refusal leaves it
+abbrev pub pickBytes : Bool → List ℕ → List ℕ → List ℕ
+pickBytes true a b = a
+pickBytes false a b = b
+
+unfoldable pub tallyKept : Tally → List ℕ → List ℕ
+tallyKept t lent = pickBytes (leb (3 * wordSize) (length lent)) (tallyBytes t ++ drop (3 * wordSize) lent) lent
+
+unfoldable pub tallyAfter : List ℕ → List ℕ → List ℕ → ℕ → List ℕ
+tallyAfter s regions lent room = onCheck (textBatchCheck s regions room) (λ _. lent) (tallyKept (sentThrough (tallyIn lent) (sentText s regions room)) lent)
+
+-- what the batch promises of its answer, of the rows and of the tally
+pub record BatchTold (s regions lent lent′ before after : List ℕ) (r : ℕ) : Type 0 where
+  pub rowsTold : Answered (batchLifted s regions lent (length before)) before after r
+  pub tallyLeft : lent′ ≡ tallyAfter s regions lent (length before)
 
 -- TURN: the standard text of the turned chain, its names being those of the text
 abbrev pub ofTurn : TurnAnswer → (Chain → Outcome) → Outcome

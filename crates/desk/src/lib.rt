@@ -12,7 +12,7 @@ ghost use Rattle.region.specs.Tallies.{tallyStep};
 ghost use Rattle.writing.specs.Puts.{Put};
 ghost use Rattle.answers.specs.Answers.{refusalCode, Answered, recorded};
 ghost use Rattle.desk.specs.Records.{bedNumbers, pslNumbers, chainNumbers, Staging, BedStaged, PslStaged, ChainStaged, TurnStaged};
-ghost use Rattle.desk.specs.Entries.{checkedBed, checkedPsl, checkedChain, checked, parsedBed, parsedPsl, parsedChain, parsed, convertedNumbers, atEnd, written, copied, bedWritten, pslWritten, chainWritten, formattedBed, formattedPsl, formattedChain, formatted, inWord, positionLifted, regionLifted, tallyIn, tallyBytes, ofTallied, tallyOutcome, TallyRoom, tallied, turnWritten, turnedText, numbersGiven};
+ghost use Rattle.desk.specs.Entries.{checkedBed, checkedPsl, checkedChain, checked, parsedBed, parsedPsl, parsedChain, parsed, convertedNumbers, atEnd, written, copied, bedWritten, pslWritten, chainWritten, formattedBed, formattedPsl, formattedChain, formatted, inWord, positionLifted, regionLifted, tallyIn, tallyBytes, ofTallied, tallyOutcome, TallyRoom, tallied, tallyKept, BatchTold, turnWritten, turnedText, numbersGiven};
 use bed::Bed;
 use bed::BedAnswer;
 use chain::Chain;
@@ -26,6 +26,7 @@ use psl::Psl;
 use psl::PslAnswer;
 use region::RegionAnswer;
 use region::Tally;
+use text::Check;
 use turn::TurnAnswer;
 use writing::Writing;
 
@@ -648,6 +649,41 @@ pub extern "C" fn tenderchock_tally(text: &[u8], start: u64, end: u64, tally: &m
     match stage_chain(text, &mut targets, &mut queries, &mut sizes) {
         ChainAnswer::Refused(x) => answers::refusal_code(x),
         ChainAnswer::Accepted(c) => answer_tally(c, &targets, &queries, &sizes, start, end, tally),
+    }
+}
+
+// Leaves a tally in the lent bytes where they hold one.
+fn keep_tally(lent: &mut [u8], t: Tally)
+    ensures { λ _. ⌜ now (lent .exit) ≡ tallyKept t (now (lent .entry)) ⌝ }
+{
+    if lent.len() < 3 * binary::WORD_SIZE {
+        return;
+    }
+    put_tally(lent, t);
+}
+
+// Many regions at once: a row of answers for each, and the tally after them. Room for the rows is asked for before the
+// text is read.
+#[no_mangle]
+pub extern "C" fn tenderchock_lift_batch(
+    text: &[u8],
+    regions: &[u8],
+    tally: &mut [u8],
+    out: &mut [u8],
+) -> u64
+    ensures { λ r. ⌜ BatchTold (now (text .entry)) (now (regions .entry)) (now (tally .entry)) (now (tally .exit))
+        (now (out .entry)) (now (out .exit)) r ⌝ }
+{
+    let before = tally_of(tally);
+    let done = region::batch_text(text, before, regions, out);
+    let check = done.check;
+    let after = done.tally;
+    match check {
+        Check::Refused(x) => answers::refusal_code(x),
+        Check::Holds => {
+            keep_tally(tally, after);
+            answers::told_as((regions.len() / region::REGION_SIZE) as u64)
+        }
     }
 }
 

@@ -1,6 +1,9 @@
 pub mod CountLaws
 pub mod ReachLaws
 pub mod RegionLaws
+pub mod SearchLaws
 pub mod TextLaws
 pub mod TallyLaws
 pub mod Vectors
+pub mod BatchLaws
+pub mod ByteLaws

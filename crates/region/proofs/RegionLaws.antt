@@ -7,7 +7,7 @@ use Prim.Native.Nat.{ℕ, zero, suc, _+_, _-_, _≤_, _<_, min, max}
 use native.Mathlib.Omega.{arith}
 use lib.ListN.{length, length-append}
 use lib.Dec.{leb, ltb}
-use borrow.Author.Tests.{lt-leb, le-leb, lt-ltb, le-ltb, leb-true, ltb-true, not-true}
+use borrow.Author.Tests.{lt-leb, le-leb, lt-ltb, le-ltb, leb-true, ltb-true, not-true, not-false}
 use Rattle.ledger.specs.declared.Row.{Row}
 use Rattle.ledger.specs.declared.Reason.the-variants.{BlockRules, NoPair, OutsideTarget}
 use Rattle.blocks.specs.Rows.{tableOf}
@@ -22,7 +22,7 @@ use Rattle.region.specs.declared.Region.{Region}
 use Rattle.region.specs.declared.RegionAnswer.{RegionAnswer}
 use Rattle.region.specs.declared.RegionAnswer.the-variants.{Lifted}
 use Rattle.region.specs.Regions.{kept, dropped, consIf, partnersIn, least, bound, notLifted, ifLifted, inside, carried, liftRegion}
-use Rattle.region.specs.Reaches.{lap, covered, Reached, answerOf}
+use Rattle.region.specs.Reaches.{lap, covered, Found, answerOf}
 use Rattle.region.proofs.CountLaws.{kept-covered, kept-dropped}
 use Rattle.region.proofs.ReachLaws.{basesFrom, clip, partners-append}
 
@@ -121,7 +121,7 @@ some-member : (xs : List ℕ) → 1 ≤ length xs → Member xs
 some-member [] h = absurd (omega arith)
 some-member (x ∷ xs) h = record { it = x; isIn = List·Memᴰ·head refl }
 
-no-member : (xs : List ℕ) → ((x : ℕ) → List·Memᴰ x xs → ⊥) → length xs ≡ 0
+pub no-member : (xs : List ℕ) → ((x : ℕ) → List·Memᴰ x xs → ⊥) → length xs ≡ 0
 no-member [] f = refl
 no-member (x ∷ xs) f = absurd (f x (List·Memᴰ·head refl))
 
@@ -234,16 +234,14 @@ pub region-not-accepted : (c : Chain) (rows : List Row) (a e : ℕ) (u : Bool) (
 unfolding liftRegion
 region-not-accepted c rows a e u r ok h k = rw (← ok, not-true u h) k
 
-module _ (c : Chain) (ts qs zs : List ℕ) (is : Ready c ts qs zs) (a e : ℕ) (r : RegionAnswer) where
-  pub region-empty : e ≤ a → r ≡ notLifted OutsideTarget → r ≡ liftRegion c (tableOf ts qs zs) a e
+module _ (c : Chain) (ts qs zs : List ℕ) (is : Ready c ts qs zs) (a e : ℕ) (u : Bool) (out : u ≡ not (ltb a e && leb e (c .tSize))) (r : RegionAnswer) where
+  pub region-outside : u ≡ true → r ≡ notLifted OutsideTarget → r ≡ liftRegion c (tableOf ts qs zs) a e
   unfolding liftRegion inside
-  region-empty l k = rw (is .ok, le-ltb a e l) k
+  region-outside h k = rw (is .ok, not-true (ltb a e && leb e (c .tSize)) (sym out ∙ h)) k
 
-  pub region-past : a < e → c .tSize < e → r ≡ notLifted OutsideTarget → r ≡ liftRegion c (tableOf ts qs zs) a e
-  unfolding liftRegion inside
-  region-past l m k = rw (is .ok, lt-ltb a e l, lt-leb e (c .tSize) m) k
-
-  pub region-carried : a < e → e ≤ c .tSize → (g : Reach) → Reached (c .qSize) a e (pairs c (tableOf ts qs zs)) g → r ≡ answerOf g (e - a) → r ≡ liftRegion c (tableOf ts qs zs) a e
+  pub region-carried : u ≡ false → (g : Reach) → Found c (tableOf ts qs zs) a e g → r ≡ answerOf g (e - a) → r ≡ liftRegion c (tableOf ts qs zs) a e
   unfolding liftRegion inside carried
-  region-carried l m g reach k =
-      rw (is .ok, lt-ltb a e l, le-leb e (c .tSize) m, ← (reach .isKept), ← (reach .isLow), ← (reach .isHigh), ← (reach .isDropped)) k
+  region-carried h g found k =
+      let w = not-false (ltb a e && leb e (c .tSize)) (sym out ∙ h) in
+      let reach = found .reached w in
+      rw (is .ok, w, ← (reach .isKept), ← (reach .isLow), ← (reach .isHigh), ← (reach .isDropped)) k

@@ -1,30 +1,34 @@
 -- Demand 3 on the tally: after every list of regions its fields are the sums; and what a step does to any tally. Assumes nothing.
 use mathlib.Core.Path.{_≡_, refl, sym, ap, _∙_}
 use mathlib.Core.Bool.{Bool, true, false, not, _&&_}
-use mathlib.Core.List.{List, [], _∷_}
-use Prim.Native.Nat.{ℕ, suc, _+_, _-_, _≤_, _<_}
+use mathlib.Core.List.{List, [], _∷_, _++_}
+use Prim.Native.Nat.{ℕ, _+_, _-_, _≤_, _<_}
 use native.Mathlib.Omega.{arith}
-use lib.Dec.{leb, eqb}
-use borrow.Author.Tests.{lt-leb, le-leb, lt-ltb, le-ltb, eq-eqb, leb-true, leb-false, eqb-true, not-true, not-false}
+use lib.Dec.{leb, ltb, eqb}
+use borrow.Author.Tests.{lt-leb, le-leb, lt-ltb, le-ltb, eq-eqb, leb-true, leb-false, ltb-true, eqb-true, not-true, not-false}
 use Rattle.ledger.specs.declared.Row.{Row}
 use Rattle.ledger.specs.declared.Reason.{Reason}
 use Rattle.ledger.specs.declared.Reason.the-variants.{NumberOutOfRange, BlockRules, CountsDisagree, NoPair, OutsideTarget}
 use Rattle.ledger.specs.declared.Refusal.{Refusal}
-use Rattle.ledger.specs.Limits.{tallyLimit, largestNumber}
+use Rattle.ledger.specs.Limits.{tallyLimit}
 use Rattle.ledger.specs.Reasons.{reasonNumber}
+use Rattle.blocks.specs.Rows.{tableOf}
 use Rattle.blocks.proofs.RuleLaws.{both}
 use Rattle.chain.specs.declared.Chain.{Chain}
 use Rattle.lift.specs.Accepted.{accepted}
 use Rattle.lift.specs.Pairs.{Pair, pairs}
 use Rattle.lift.proofs.RunLaws.{and-i}
+use Rattle.region.specs.declared.Admission.{Admission}
+use Rattle.region.specs.declared.Admission.the-variants as adm
 use Rattle.region.specs.declared.Reach.{Reach}
 use Rattle.region.specs.declared.RegionAnswer.{RegionAnswer}
 use Rattle.region.specs.declared.RegionAnswer.the-variants.{Lifted, Refused}
 use Rattle.region.specs.declared.Tally.{Tally}
 use Rattle.region.specs.declared.Tallied.{Tallied}
 use Rattle.region.specs.Regions.{kept, dropped, notLifted, ifLifted, inside, carried, liftRegion}
-use Rattle.region.specs.Reaches.{Reached, answerOf}
+use Rattle.region.specs.Reaches.{Reached, Found, answerOf}
 use Rattle.region.specs.Tallies.{goodTally, grown, ifTallied, tallyStep, Sent, lengthOf, keptOf, droppedOf, counts, addIf, counted, total, sums, zeroTally, sentThrough}
+use Rattle.region.specs.Steps.{ifAdmitted, admission, Growable, grownBy, ofAdmission, stepReady}
 use Rattle.region.proofs.CountLaws.{kept-dropped}
 use Rattle.region.proofs.RegionLaws.{regionOf}
 
@@ -169,6 +173,12 @@ refused-adds t c rows a e x h n =
         let d : dropped (pairs c rows) a e ≡ e - a = omega (arith, kept-dropped (pairs c rows) a e) in
         rw (z, d)
 
+-- lists sent one after the other
+pub sent-append : (xs ys : List Sent) (t : Tally) → sentThrough t (xs ++ ys) ≡ sentThrough (sentThrough t xs) ys
+unfolding sentThrough
+sent-append [] ys t = refl
+sent-append (x ∷ xs) ys t = sent-append xs ys (tallyStep t (x .chain) (x .rows) (x .start) (x .end) .tally)
+
 -- where the tally is good and has room, the answer is the region's lift
 pub step-lifts : (t : Tally) (c : Chain) (rows : List Row) (a e : ℕ) → Good t → t .asked + (e - a) ≤ tallyLimit → tallyStep t c rows a e .answer ≡ liftRegion c rows a e
 unfolding tallyStep liftRegion
@@ -197,52 +207,89 @@ module _ (t : Tally) where
   pub good-if : (v : Bool) → v ≡ goodTally t → not v ≡ false → Good t
   good-if v e h = good-of t (sym e ∙ not-false v h)
 
-  -- what a good tally with room leaves the words of the machine
-  module _ (v : Bool) (e : v ≡ goodTally t) (h : not v ≡ false) where
-    pub asked-below : t .asked ≤ tallyLimit
-    asked-below = good-if v e h .askedMost
+  pub asked-below : (v : Bool) → v ≡ goodTally t → not v ≡ false → t .asked ≤ tallyLimit
+  asked-below v e h = good-if v e h .askedMost
 
-    pub kept-fits : (n k : ℕ) → k ≤ n → n ≤ tallyLimit - t .asked → t .kept + k < suc largestNumber
-    kept-fits n k l m = let g = good-if v e h in omega (arith, g .keptMost)
+-- ---- the ways out of `admit`
+module _ (t : Tally) (size a e : ℕ) (u : Bool) (out : u ≡ not (ltb a e && leb e size)) where
+  pub admit-outside : u ≡ true → adm.Refused OutsideTarget ≡ admission t size a e
+  unfolding admission
+  admit-outside h = rw (not-true (ltb a e && leb e size) (sym out ∙ h))
 
-    pub dropped-fits : (n k : ℕ) → n ≤ tallyLimit - t .asked → t .dropped + (n - k) < suc largestNumber
-    dropped-fits n k m = let g = good-if v e h in omega (arith, g .droppedMost)
+  module _ (h : u ≡ false) (v : Bool) (good : v ≡ goodTally t) where
+    pub admit-bad : not v ≡ true → adm.Refused CountsDisagree ≡ admission t size a e
+    unfolding admission
+    admit-bad n = rw (not-false (ltb a e && leb e size) (sym out ∙ h), ← good, not-true v n)
 
--- ---- the ways out of `tally_step`
-module _ (t : Tally) (c : Chain) (rows : List Row) (a e : ℕ) (u : Bool) (ok : u ≡ accepted c rows) where
-  module _ (r : Tallied) (rt : r .tally ≡ t) where
-    stays : {x : RegionAnswer} → r .answer ≡ x → r ≡ record { tally = t; answer = x }
-    stays k = λ i. record { tally = rt i; answer = k i }
+    pub admit-full : not v ≡ false → tallyLimit - t .asked < e - a → adm.Refused NumberOutOfRange ≡ admission t size a e
+    unfolding admission
+    admit-full n o =
+        let f = good-if t v good n in
+        let w : tallyLimit < t .asked + (e - a) = omega arith in
+        rw (not-false (ltb a e && leb e size) (sym out ∙ h), ← good, not-false v n, lt-leb _ _ w)
 
-    pub step-not-accepted : not u ≡ true → r .answer ≡ notLifted BlockRules → r ≡ tallyStep t c rows a e
-    unfolding tallyStep
-    step-not-accepted h k = rw (← ok, not-true u h) (stays k)
-
-    pub step-empty : not u ≡ false → e ≤ a → r .answer ≡ notLifted OutsideTarget → r ≡ tallyStep t c rows a e
-    unfolding tallyStep inside
-    step-empty h l k = rw (← ok, not-false u h, le-ltb a e l) (stays k)
-
-    pub step-past : not u ≡ false → a < e → c .tSize < e → r .answer ≡ notLifted OutsideTarget → r ≡ tallyStep t c rows a e
-    unfolding tallyStep inside
-    step-past h l m k = rw (← ok, not-false u h, lt-ltb a e l, lt-leb e (c .tSize) m) (stays k)
-
-    module _ (h : not u ≡ false) (l : a < e) (m : e ≤ c .tSize) (v : Bool) (good : v ≡ goodTally t) where
-      pub step-disagrees : not v ≡ true → r .answer ≡ notLifted CountsDisagree → r ≡ tallyStep t c rows a e
-      unfolding tallyStep inside
-      step-disagrees n k = rw (← ok, not-false u h, lt-ltb a e l, le-leb e (c .tSize) m, ← good, not-true v n) (stays k)
-
-      pub step-full : not v ≡ false → tallyLimit - t .asked < e - a → r .answer ≡ notLifted NumberOutOfRange → r ≡ tallyStep t c rows a e
-      unfolding tallyStep inside
-      step-full n o k =
-          let f = good-if t v good n in
-          let w : tallyLimit < t .asked + (e - a) = omega arith in
-          rw (← ok, not-false u h, lt-ltb a e l, le-leb e (c .tSize) m, ← good, not-false v n, lt-leb _ _ w) (stays k)
-
-  module _ (h : not u ≡ false) (l : a < e) (m : e ≤ c .tSize) (v : Bool) (good : v ≡ goodTally t) (n : not v ≡ false) where
-    pub step-done : e - a ≤ tallyLimit - t .asked → (g : Reach) → Reached (c .qSize) a e (pairs c rows) g → (x : RegionAnswer) → x ≡ answerOf g (e - a)
-        → _≡_ {A = Tallied} (record { tally = grown t (e - a) (g .kept) (e - a - g .kept); answer = x }) (tallyStep t c rows a e)
-    unfolding tallyStep inside carried
-    step-done o g reach x k =
+    pub admit-good : not v ≡ false → e - a ≤ tallyLimit - t .asked → adm.Admitted ≡ admission t size a e
+    unfolding admission
+    admit-good n o =
         let f = good-if t v good n in
         let w : t .asked + (e - a) ≤ tallyLimit = omega arith in
-        rw (k, ← ok, not-false u h, lt-ltb a e l, le-leb e (c .tSize) m, ← good, not-false v n, le-leb _ _ w, ← (reach .isKept), ← (reach .isLow), ← (reach .isHigh), ← (reach .isDropped))
+        rw (not-false (ltb a e && leb e size) (sym out ∙ h), ← good, not-false v n, le-leb _ _ w)
+
+pub grow-is : (t : Tally) (r : Reach) (len : ℕ) (x : RegionAnswer) → x ≡ answerOf r len → _≡_ {A = Tallied} (record { tally = grown t len (r .kept) (len - r .kept); answer = x }) (grownBy t r len)
+grow-is t r len x e = rw e
+
+-- ---- the ways out of `step_ready`
+module _ (t : Tally) (size a e : ℕ) (g : Reach) (x : Admission) (is : x ≡ admission t size a e) where
+  pub step-stays : (r : Tallied) (why : Reason) → x ≡ adm.Refused why → r .tally ≡ t → r .answer ≡ notLifted why → r ≡ stepReady t size g a e
+  unfolding stepReady
+  step-stays r why k et ea = rw (← is, k) (λ i. record { tally = et i; answer = ea i })
+
+  module _ (k : x ≡ adm.Admitted) where
+    -- what an admitted region is
+    admitted : (a < e) × (goodTally t ≡ true) × (t .asked + (e - a) ≤ tallyLimit)
+    unfolding admission
+    admitted = go (ltb a e) (leb e size) (goodTally t) (leb (t .asked + (e - a)) tallyLimit) refl refl refl (sym k ∙ is)
+      where
+        go : (b c d f : Bool) → ltb a e ≡ b → goodTally t ≡ d → leb (t .asked + (e - a)) tallyLimit ≡ f
+            → adm.Admitted ≡ ifAdmitted (b && c) OutsideTarget (ifAdmitted d CountsDisagree (ifAdmitted f NumberOutOfRange adm.Admitted)) → (a < e) × (goodTally t ≡ true) × (t .asked + (e - a) ≤ tallyLimit)
+        go false c d f eb ed ef w = absurd (let z : _≡_ {A = ℕ} 0 1 = cc in omega arith)
+        go true false d f eb ed ef w = absurd (let z : _≡_ {A = ℕ} 0 1 = cc in omega arith)
+        go true true false f eb ed ef w = absurd (let z : _≡_ {A = ℕ} 0 1 = cc in omega arith)
+        go true true true false eb ed ef w = absurd (let z : _≡_ {A = ℕ} 0 1 = cc in omega arith)
+        go true true true true eb ed ef w = (ltb-true a e eb, ed, leb-true _ _ ef)
+
+    pub step-order : a ≤ e
+    step-order = omega (arith, admitted .0)
+
+    pub step-growable : g .kept ≤ e - a → Growable t g (e - a)
+    step-growable h = record { fits = h; room = admitted .2; even = good-of t (admitted .1) .even }
+
+    pub step-grows : (r : Tallied) → r ≡ grownBy t g (e - a) → r ≡ stepReady t size g a e
+    unfolding stepReady
+    step-grows r h = rw (← is, k) h
+
+-- ---- the step of an accepted chain is the tally's
+pub ready-step : (t : Tally) (c : Chain) (rows : List Row) (a e : ℕ) (g : Reach) → accepted c rows ≡ true → Found c rows a e g → stepReady t (c .tSize) g a e ≡ tallyStep t c rows a e
+unfolding stepReady admission tallyStep inside
+ready-step t c rows a e g ok f = rw ok (go (inside c a e) (goodTally t) (leb (t .asked + (e - a)) tallyLimit) refl)
+  where
+    grows : Reached (c .qSize) a e (pairs c rows) g → grownBy t g (e - a) ≡ record { tally = grown t (e - a) (kept (pairs c rows) a e) (dropped (pairs c rows) a e); answer = carried (c .qSize) (pairs c rows) a e }
+    grows reach = unfold carried in rw (← (reach .isKept), ← (reach .isLow), ← (reach .isHigh), ← (reach .isDropped))
+
+    go : (b d h : Bool) → inside c a e ≡ b
+        → ofAdmission (ifAdmitted b OutsideTarget (ifAdmitted d CountsDisagree (ifAdmitted h NumberOutOfRange adm.Admitted))) t (grownBy t g (e - a))
+        ≡ ifTallied b t OutsideTarget (ifTallied d t CountsDisagree (ifTallied h t NumberOutOfRange
+        (record { tally = grown t (e - a) (kept (pairs c rows) a e) (dropped (pairs c rows) a e); answer = carried (c .qSize) (pairs c rows) a e })))
+    go false d h k = refl
+    go true false h k = refl
+    go true true false k = refl
+    go true true true k = grows (f .reached k)
+
+-- ---- the ways out of `tally_step`
+module _ (t : Tally) (c : Chain) (ts qs zs : List ℕ) (a e : ℕ) (u : Bool) (ok : u ≡ accepted c (tableOf ts qs zs)) (r : Tallied) where
+  pub step-not-accepted : not u ≡ true → r .tally ≡ t → r .answer ≡ notLifted BlockRules → r ≡ tallyStep t c (tableOf ts qs zs) a e
+  unfolding tallyStep
+  step-not-accepted h et ea = rw (← ok, not-true u h) (λ i. record { tally = et i; answer = ea i })
+
+  pub step-ready : not u ≡ false → (g : Reach) → Found c (tableOf ts qs zs) a e g → r ≡ stepReady t (c .tSize) g a e → r ≡ tallyStep t c (tableOf ts qs zs) a e
+  step-ready h g f k = k ∙ ready-step t c (tableOf ts qs zs) a e g (sym ok ∙ not-false u h) f

@@ -1,6 +1,6 @@
 -- Chain A of 01's bench samples: its regions and a tally over them, computed on the definitions. Assumes nothing.
 use mathlib.Core.Path.{_≡_, refl}
-use mathlib.Core.List.{List, [], _∷_}
+use mathlib.Core.List.{List, [], _∷_, map}
 use Prim.Native.Nat.{ℕ, _-_}
 use Rattle.ledger.specs.declared.Reason.the-variants.{NumberOutOfRange, NoPair, OutsideTarget}
 use Rattle.ledger.specs.Limits.{tallyLimit}
@@ -14,6 +14,7 @@ use Rattle.region.specs.declared.RegionAnswer.the-variants.{Lifted}
 use Rattle.region.specs.declared.Tally.{Tally}
 use Rattle.region.specs.Regions.{countOf, kept, dropped, partnersIn, least, bound, notLifted, inside, carried, liftRegion}
 use Rattle.region.specs.Tallies.{goodTally, tallyStep, Sent, counts, counted, total, sums, zeroTally, sentThrough}
+use Rattle.region.specs.Batches.{sentAs, answerRows}
 
 -- a region of chain A and its answer
 pub record Sample : Type 0 where
@@ -67,3 +68,15 @@ limit-reached = refl
 pub limit-kept : tallyStep (tally tallyLimit 4 (tallyLimit - 4)) chainA rowsA 20 23 ≡ record { tally = tally tallyLimit 4 (tallyLimit - 4); answer = notLifted NumberOutOfRange }
 unfolding tallyStep goodTally carried inside accepted chainValid namesFit fieldsFit rowNumbersFit spansFit rowsFit orderFrom blocksFill allBetween
 limit-kept = refl
+
+-- the rows of a batch through chain A
+pub batch-answered : answerRows zeroTally (map (sentAs chainA rowsA) ((18 ∷ 25 ∷ []) ∷ (20 ∷ 23 ∷ []) ∷ (20 ∷ 20 ∷ []) ∷ (0 ∷ 101 ∷ []) ∷ []))
+    ≡ (0 ∷ 4 ∷ 3 ∷ 63 ∷ 67 ∷ []) ∷ (12 ∷ 0 ∷ 0 ∷ 0 ∷ 0 ∷ []) ∷ (13 ∷ 0 ∷ 0 ∷ 0 ∷ 0 ∷ []) ∷ (13 ∷ 0 ∷ 0 ∷ 0 ∷ 0 ∷ []) ∷ []
+unfolding answerRows tallyStep goodTally carried inside accepted chainValid namesFit fieldsFit rowNumbersFit spansFit rowsFit orderFrom blocksFill allBetween pairs pairsOf blockPairs partnerOf countOf kept dropped partnersIn least bound
+batch-answered = refl
+
+-- asked 5 below its limit: 6 bases are passed over, 5 fill it, and 1 more is passed over
+pub batch-full : answerRows (tally (tallyLimit - 5) 0 (tallyLimit - 5)) (map (sentAs chainA rowsA) ((10 ∷ 16 ∷ []) ∷ (10 ∷ 15 ∷ []) ∷ (10 ∷ 11 ∷ []) ∷ []))
+    ≡ (5 ∷ 0 ∷ 0 ∷ 0 ∷ 0 ∷ []) ∷ (0 ∷ 5 ∷ 0 ∷ 70 ∷ 75 ∷ []) ∷ (5 ∷ 0 ∷ 0 ∷ 0 ∷ 0 ∷ []) ∷ []
+unfolding answerRows tallyStep goodTally carried inside accepted chainValid namesFit fieldsFit rowNumbersFit spansFit rowsFit orderFrom blocksFill allBetween pairs pairsOf blockPairs partnerOf countOf kept dropped partnersIn least bound
+batch-full = refl

@@ -1,11 +1,12 @@
 // The questions about a chain handed in, and their answers as bytes.
+use crate::batches;
 use crate::drifts;
+use crate::tallies;
 use chain::Chain;
 use ledger::Part;
 use lift::PositionAnswer;
 use lift::SpanAnswer;
 use region::RegionAnswer;
-use region::Tally;
 use turn::TurnAnswer;
 
 fn put_position(out: &mut [u8], at: usize, answer: PositionAnswer) -> usize {
@@ -30,13 +31,6 @@ fn put_region(out: &mut [u8], at: usize, answer: RegionAnswer) -> usize {
     }
 }
 
-// Puts a tally's three numbers into a lent table.
-fn keep_tally(tally: &mut [u64], asked: u64, kept: u64, dropped: u64) {
-    numbers::store(tally, 0, asked);
-    numbers::store(tally, 1, kept);
-    numbers::store(tally, 2, dropped);
-}
-
 // A region with a tally: its answer, and the tally that it leaves.
 fn tally_case(
     start: u64,
@@ -49,18 +43,13 @@ fn tally_case(
     out: &mut [u8],
     at: usize,
 ) -> usize {
-    let before = Tally {
-        asked: columns::value_at(tally, 0),
-        kept: columns::value_at(tally, 1),
-        dropped: columns::value_at(tally, 2),
-    };
+    let before = tallies::tally_in(tally);
     let done = cases_chain::tally_region(before, c, targets, queries, sizes, start, end);
     let answer = done.answer;
     let after = done.tally;
-    keep_tally(tally, after.asked, after.kept, after.dropped);
+    tallies::keep_tally(tally, after.asked, after.kept, after.dropped);
     let a = put_region(out, at, answer);
-    let b = writing::put_bytes(out, a, b" tally");
-    cases::put_spaced(out, b, &[after.asked, after.kept, after.dropped])
+    tallies::put_tally(out, a, after)
 }
 
 // The same with a tally that the case hands in.
@@ -76,7 +65,7 @@ fn new_tally_case(
 ) -> usize {
     let asked = cases::number_at(line, 0);
     let kept = cases::number_at(line, 1);
-    keep_tally(tally, asked, kept, cases::number_at(line, 2));
+    tallies::keep_tally(tally, asked, kept, cases::number_at(line, 2));
     let start = cases::number_at(line, 3);
     let end = cases::number_at(line, 4);
     tally_case(start, end, c, targets, queries, sizes, tally, out, at)
@@ -192,6 +181,7 @@ pub(crate) fn answer(
         ),
         b'u' => turn_case(line, c, page, targets, queries, sizes, out, at),
         b'm' => tally_case(first, second, c, targets, queries, sizes, tally, out, at),
+        b'R' => batches::batch_case(line, c, targets, queries, sizes, tally, out, at),
         _ => new_tally_case(line, c, targets, queries, sizes, tally, out, at),
     }
 }

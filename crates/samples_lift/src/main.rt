@@ -1,20 +1,23 @@
-// The samples of lifts, turns, tallies and conversions: one case a line on standard input, one answer a line on standard output. Every
-// answer comes from the library. A case is its letter, its question, and the chain it is asked of (chains):
+// The samples of lifts, turns, tallies, batches and conversions: one case a line on standard input, one answer a line on standard output.
+// Every answer comes from the library. A case is its letter, its question, and the chain it is asked of (chains):
 // `p` a position; `g` a region's start and end; `u` how many rows are lent for the turned chain; `a` a tally's three numbers, then a
-// region's start and end; `m` a region's start and end, with the tally as the last case left it. `v` has no chain: it is a span's start
-// and end, to be converted, and the sequence's size.
+// region's start and end; `m` a region's start and end, with the tally as the last case left it; `R` a batch of regions with that tally
+// (batches). `v` has no chain: it is a span's start and end, to be converted, and the sequence's size.
 mod answers;
+mod batches;
 mod chains;
 mod drifts;
+mod tallies;
 
 use chains::Given;
 
 // How many words a case's question has.
-fn question_words(letter: u8) -> usize {
+fn question_words(letter: u8, line: &[u8]) -> usize {
     match letter {
         b'p' | b'u' => 1,
         b'g' | b'm' => 2,
         b'a' => 5,
+        b'R' => batches::question_words(line),
         _ => 0,
     }
 }
@@ -65,7 +68,7 @@ fn chain_case(letter: u8, line: &[u8], tally: &mut [u64], out: &mut [u8], at: us
     let mut sizes = cases::row_numbers();
     let given = chains::chain_at(
         line,
-        question_words(letter),
+        question_words(letter, line),
         &mut page,
         &mut targets,
         &mut queries,
@@ -88,7 +91,7 @@ fn chain_case(letter: u8, line: &[u8], tally: &mut [u64], out: &mut [u8], at: us
 fn answer_case(letter: u8, line: &[u8], tally: &mut [u64], out: &mut [u8], at: usize) -> usize {
     match letter {
         b'v' => answers::convert_case(line, out, at),
-        b'p' | b'g' | b'u' | b'a' | b'm' => chain_case(letter, line, tally, out, at),
+        b'p' | b'g' | b'u' | b'a' | b'm' | b'R' => chain_case(letter, line, tally, out, at),
         _ => writing::put_bytes(out, at, b"unknown case"),
     }
 }

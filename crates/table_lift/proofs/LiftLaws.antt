@@ -21,7 +21,10 @@ use Rattle.region.specs.declared.Tally.{Tally}
 use Rattle.region.specs.declared.Tallied.{Tallied}
 use Rattle.region.specs.Regions.{kept, dropped, ifLifted as ifRegion, inside, carried, liftRegion}
 use Rattle.region.specs.Tallies.{goodTally, grown, ifTallied, tallyStep}
-use Rattle.table_lift.specs.Lifts.{RegionTallied}
+use Rattle.region.specs.declared.Batched.{Batched}
+use Rattle.region.specs.Batches.{BatchDone}
+use Rattle.region.proofs.BatchLaws.{done-same}
+use Rattle.table_lift.specs.Lifts.{RegionTallied, BatchLifted}
 
 -- on the rows that are staged, each is what it is on the table
 position-cut : (c : Chain) (rows : List Row) (p : ℕ) → liftPosition c (cutRows rows) p ≡ liftPosition c rows p
@@ -58,6 +61,10 @@ module _ (c : Chain) (rows n : ℕ) (ts qs zs : List ℕ) (h : n ≡ min rows bl
   pub step-staged : (t : Tally) (a e : ℕ) (x : Tallied) → x ≡ tallyStep t c (tableOf (take n ts) (take n qs) (take n zs)) a e → x ≡ tallyStep t c (stagedRows rows ts qs zs) a e
   step-staged t a e x k = k ∙ ap (λ (l : List Row). tallyStep t c l a e) (staged-parts rows n ts qs zs h)
 
+  pub batch-staged : (t : Tally) (regions before after : List (List ℕ)) (x : Batched) → BatchDone t c (tableOf (take n ts) (take n qs) (take n zs)) regions before after x
+      → BatchDone t c (stagedRows rows ts qs zs) regions before after x
+  batch-staged t regions before after x d = rw (← staged-parts rows n ts qs zs h) d
+
 -- the columns that the table was loaded into
 module _ (rows : List Row) (ts ts′ qs qs′ zs zs′ : List ℕ) (room : Columns ts qs zs) (h : Loaded (allReach (length rows) ts qs zs) rows ts ts′ qs qs′ zs zs′) where
   abbrev bs : List Row
@@ -76,3 +83,8 @@ module _ (rows : List Row) (ts ts′ qs qs′ zs zs′ : List ℕ) (room : Colum
   region-tallied t c a e x k =
       let s : x ≡ tallyStep t c rows a e = k ∙ ap (λ (l : List Row). tallyStep t c l a e) here ∙ step-cut t c rows a e in
       record { is = ap (λ (y : Tallied). y .answer) s; tally = ap (λ (y : Tallied). y .tally) s }
+
+  pub batch-lifted : (t : Tally) (c : Chain) (regions before after : List (List ℕ)) (x : Batched) → BatchDone t c bs regions before after x
+      → BatchLifted t c rows regions before (x .tally) after (x .check)
+  batch-lifted t c regions before after x d =
+      done-same c bs rows (λ u a e. ap (λ (l : List Row). tallyStep u c l a e) here ∙ step-cut u c rows a e) t regions before after x d

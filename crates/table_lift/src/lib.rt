@@ -1,17 +1,21 @@
-// Lifts through a chain whose blocks stand in a lent table of row structs, and the tally lent for a batch of regions. Each stages
+// Lifts through a chain whose blocks stand in a lent table of row structs, and the tally lent for regions, one by one or a
+// batch of them. Each stages
 // the rows in three columns and calls the function of `lift` or `region` over flat slices.
 ghost use mathlib.Core.Path.{_≡_};
 ghost use Rattle.rows.specs.Staging.{Columns, stagedRows};
 ghost use Rattle.lift.specs.Positions.{liftPosition};
 ghost use Rattle.region.specs.Regions.{liftRegion};
 ghost use Rattle.region.specs.Tallies.{tallyStep};
-ghost use Rattle.table_lift.specs.Lifts.{RegionTallied};
+ghost use Rattle.region.specs.Batches.{BatchDone};
+ghost use Rattle.table_lift.specs.Lifts.{RegionTallied, BatchLifted};
 use chain::Chain;
 use ledger::Row;
 use lift::PositionAnswer;
+use region::Batched;
 use region::RegionAnswer;
 use region::Tallied;
 use region::Tally;
+use text::Check;
 
 // Lifts a position through a chain whose blocks stand in three columns, for a table of so many rows.
 fn position_columns(
@@ -121,4 +125,61 @@ pub fn tally_region(
     );
     *tally = done.tally;
     done.answer
+}
+
+// A batch through a chain whose blocks stand in three columns, for a table of so many rows.
+fn batch_columns(
+    before: Tally,
+    c: Chain,
+    rows: usize,
+    targets: &[u64],
+    queries: &[u64],
+    sizes: &[u64],
+    regions: &[[u64; 2]],
+    answers: &mut [[u64; 5]],
+) -> Batched
+    requires { ⌜ Columns (now targets) (now queries) (now sizes) ⌝ }
+    ensures { λ x. ⌜ BatchDone before c (stagedRows rows (now (targets .entry)) (now (queries .entry)) (now (sizes .entry)))
+        (now (regions .entry)) (now (answers .entry)) (now (answers .exit)) x ⌝ }
+{
+    let n = rows::staged_rows(rows);
+    region::tally_batch(
+        before,
+        c,
+        &targets[..n],
+        &queries[..n],
+        &sizes[..n],
+        regions,
+        answers,
+    )
+}
+
+// THE BATCH: each region, a start and an end, gets its row of answers, and the lent tally is updated in place. Fewer rows than regions
+// is 11, which leaves both.
+pub fn lift_batch(
+    tally: &mut Tally,
+    c: Chain,
+    table: &[Row],
+    regions: &[[u64; 2]],
+    answers: &mut [[u64; 5]],
+) -> Check
+    ensures { λ x. ⌜ BatchLifted (now (tally .entry)) c (now (table .entry)) (now (regions .entry)) (now (answers .entry))
+        (now (tally .exit)) (now (answers .exit)) x ⌝ }
+{
+    let mut targets: [u64; rows::ROOM] = [0; rows::ROOM];
+    let mut queries: [u64; rows::ROOM] = [0; rows::ROOM];
+    let mut sizes: [u64; rows::ROOM] = [0; rows::ROOM];
+    rows::load_rows(table, &mut targets, &mut queries, &mut sizes);
+    let done = batch_columns(
+        *tally,
+        c,
+        table.len(),
+        &targets,
+        &queries,
+        &sizes,
+        regions,
+        answers,
+    );
+    *tally = done.tally;
+    done.check
 }

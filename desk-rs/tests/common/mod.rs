@@ -132,3 +132,17 @@ impl Folder {
             .any(|name| name.starts_with(".tenderchock"))
     }
 }
+
+/// Numbers from a seed.
+pub struct Dice(pub u64);
+
+impl Dice {
+    /// From `least` up to and with `most`.
+    pub fn roll(&mut self, least: u64, most: u64) -> u64 {
+        self.0 = self
+            .0
+            .wrapping_mul(6_364_136_223_846_793_005)
+            .wrapping_add(1_442_695_040_888_963_407);
+        least + (self.0 >> 33) % (most - least + 1)
+    }
+}

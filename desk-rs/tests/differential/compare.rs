@@ -5,7 +5,9 @@ use std::collections::BTreeMap;
 
 use crate::dice::Dice;
 use crate::expected;
+use reference::chain::Chain;
 use reference::ledger::{Answer, Reason, Refusal};
+use reference::rows::Row;
 use tenderchock::{sys, Kind};
 
 /// How often each entry gave each number, 0 for accepted.
@@ -60,28 +62,36 @@ impl Compare<'_> {
         });
     }
 
-    /// Turns, lifts and tallies through a chain's text, accepted or not.
+    /// Turns, lifts, tallies and batches through a chain's text, accepted or not.
     fn chain(&mut self, text: &[u8]) {
         let turned = expected::turn(text);
         self.lent("turn", turned, 1, text.len(), |out| sys::turn(text, out));
-        let edges = match expected::read_chain(text) {
-            Ok((_, rows)) if expected::bases(&rows) > MOST_BASES => return,
-            Ok((chain, rows)) => {
-                let row = rows[self.dice.index(rows.len())];
-                let ends = [
-                    row.target,
-                    row.target + row.size,
-                    chain.t_start,
-                    chain.t_end,
-                ];
-                [&ends[..], &[chain.t_size, 0]].concat()
-            }
-            Err(_) => vec![0, 10],
+        let read = expected::read_chain(text);
+        let times = match &read {
+            Ok((_, rows)) if expected::bases(rows) > MOST_BASES => return,
+            Ok(_) => 4,
+            Err(_) => 1,
         };
-        let times = if edges.len() > 2 { 4 } else { 1 };
+        let edges = self.edges(&read);
         for _ in 0..times {
             self.lifts(text, &edges);
+            self.batch(text, &read);
         }
+    }
+
+    /// Where a block, drawn anew at each call, the span and the target begin and end.
+    pub fn edges(&mut self, read: &Answer<(Chain, Vec<Row>)>) -> Vec<u64> {
+        let Ok((chain, rows)) = read else {
+            return vec![0, 10];
+        };
+        let row = self.dice.of(rows);
+        let ends = [
+            row.target,
+            row.target + row.size,
+            chain.t_start,
+            chain.t_end,
+        ];
+        [&ends[..], &[chain.t_size, 0]].concat()
     }
 
     fn lifts(&mut self, text: &[u8], edges: &[u64]) {
@@ -107,26 +117,30 @@ impl Compare<'_> {
     }
 
     fn tally(&mut self, text: &[u8], start: u64, end: u64) {
-        let fields = self.any_tally(end.wrapping_sub(start));
-        let mut lent = bytes_of(fields.to_vec());
-        let length = match self.dice.between(0, 9) {
+        let mut lent = self.any_lent_tally(end.wrapping_sub(start));
+        self.tally_call(text, start, end, &mut lent);
+    }
+
+    /// One region with a tally in lent bytes, which are compared after the call.
+    pub fn tally_call(&mut self, text: &[u8], start: u64, end: u64, lent: &mut [u8]) {
+        let mut after = lent.to_vec();
+        let answer = expected::tally(text, start, end, &mut after);
+        let got = sys::tally(text, start, end, lent);
+        self.number("tally", got, &answer);
+        assert!(lent == after, "{}: the tally left behind", self.label);
+    }
+
+    /// A tally in lent bytes, now and then too few or too many.
+    pub fn any_lent_tally(&mut self, length: u64) -> Vec<u8> {
+        let mut lent = bytes_of(self.any_tally(length).to_vec());
+        let more = self.dice.bytes(20);
+        lent.extend(more);
+        lent.truncate(match self.dice.between(0, 9) {
             0 => self.dice.index(24),
             1 => 24 + self.dice.index(20),
             _ => 24,
-        };
-        let more = self.dice.bytes(20);
-        lent.extend(more);
-        lent.truncate(length);
-        // A tally of fewer than 24 bytes is a bad one.
-        let known = if length < 24 { [1, 0, 0] } else { fields };
-        let (left, answer) = expected::tally(text, start, end, known);
-        let mut after = lent.clone();
-        if length >= 24 {
-            after[..24].copy_from_slice(&bytes_of(left.to_vec()));
-        }
-        let got = sys::tally(text, start, end, &mut lent);
-        self.number("tally", got, &answer);
-        assert!(lent == after, "{}: the tally left behind", self.label);
+        });
+        lent
     }
 
     /// Good tallies, some near the limit for a region of this length, and bad ones.
@@ -182,7 +196,7 @@ impl Compare<'_> {
     }
 
     /// A number at one of these edges, near it, below it, or anywhere.
-    fn near(&mut self, edges: &[u64]) -> u64 {
+    pub fn near(&mut self, edges: &[u64]) -> u64 {
         let edge = self.dice.of(edges);
         match self.dice.between(0, 24) {
             0 => self.dice.any(),
@@ -245,7 +259,7 @@ impl Compare<'_> {
         );
     }
 
-    fn number(&mut self, entry: &'static str, got: u64, wanted: &Answer<u64>) {
+    pub fn number(&mut self, entry: &'static str, got: u64, wanted: &Answer<u64>) {
         let reason = wanted
             .as_ref()
             .map_or_else(|refusal| refusal.reason.number(), |_| 0);
@@ -263,6 +277,6 @@ impl Compare<'_> {
     }
 }
 
-fn bytes_of(numbers: Vec<u64>) -> Vec<u8> {
+pub fn bytes_of(numbers: Vec<u64>) -> Vec<u8> {
     numbers.into_iter().flat_map(u64::to_le_bytes).collect()
 }

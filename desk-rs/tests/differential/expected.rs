@@ -1,7 +1,7 @@
 //! What the second program answers, in the form of the library's entries.
 
 use reference::chain::{self, Chain};
-use reference::ledger::{Answer, Reason, Refusal};
+use reference::ledger::{require, Answer, Reason, Refusal};
 use reference::lift::{self, Tally};
 use reference::rows::{self, Row};
 use reference::{bed, numbers, psl};
@@ -170,21 +170,64 @@ pub fn numbers(text: &[u8], room: usize) -> Answer<Vec<u64>> {
     numbers::read(text, room)
 }
 
-/// One region of a batch. The tally left behind, and the bases kept.
-pub fn tally(text: &[u8], start: u64, end: u64, lent: [u64; 3]) -> ([u64; 3], Answer<u64>) {
-    let (chain, rows) = match read_chain(text) {
-        Ok(read) => read,
-        Err(refusal) => return (lent, Err(refusal)),
+/// The tally in lent bytes. One of fewer than 24 bytes is a bad one.
+fn tally_in(lent: &[u8]) -> Tally {
+    let numbers = numbers_in(lent);
+    let (asked, kept, dropped) = match numbers[..] {
+        [asked, kept, dropped, ..] => (asked, kept, dropped),
+        _ => (1, 0, 0),
     };
-    let [asked, kept, dropped] = lent;
-    let tally = Tally {
+    Tally {
         asked,
         kept,
         dropped,
-    };
-    let (left, answer) = lift::step(&chain, &rows, start, end, tally);
-    let left = [left.asked, left.kept, left.dropped];
-    (left, answer.map(|lifted| lifted.kept))
+    }
+}
+
+/// The numbers of 8 bytes at the front of these.
+fn numbers_in(bytes: &[u8]) -> Vec<u64> {
+    let number = |eight: &[u8]| u64::from_le_bytes(eight.try_into().unwrap());
+    bytes.chunks_exact(8).map(number).collect()
+}
+
+/// A tally, put back where it was lent if there is room for one.
+fn keep_tally(lent: &mut [u8], tally: Tally) {
+    if let Some(front) = lent.get_mut(..24) {
+        let fields = [tally.asked, tally.kept, tally.dropped];
+        front.copy_from_slice(&fields.map(u64::to_le_bytes).concat());
+    }
+}
+
+/// One region with a tally, which grows in place. The bases kept.
+pub fn tally(text: &[u8], start: u64, end: u64, lent: &mut [u8]) -> Answer<u64> {
+    let (chain, rows) = read_chain(text)?;
+    let (left, answer) = lift::step(&chain, &rows, start, end, tally_in(lent));
+    keep_tally(lent, left);
+    answer.map(|lifted| lifted.kept)
+}
+
+/// Bytes of a region, and of an answer's row.
+pub const REGION: usize = 16;
+pub const BATCH_ROW: usize = 40;
+
+/// A batch of regions in bytes; the tally and the rows of answers are left in what is lent.
+/// Too few whole rows, or regions of other than 16 bytes each, are 11 before the text is read.
+/// The number of regions.
+pub fn lift_batch(text: &[u8], regions: &[u8], tally: &mut [u8], out: &mut [u8]) -> Answer<u64> {
+    let asked: Vec<(u64, u64)> = numbers_in(regions)
+        .chunks_exact(2)
+        .map(|two| (two[0], two[1]))
+        .collect();
+    let room = out.len() / BATCH_ROW;
+    let enough = regions.len().is_multiple_of(REGION) && asked.len() <= room;
+    require(enough, Reason::NoRoom, 0)?;
+    let (chain, rows) = read_chain(text)?;
+    let (left, answers) = lift::batch(&chain, &rows, &asked, room, tally_in(tally))?;
+    keep_tally(tally, left);
+    for (bytes, row) in out.chunks_exact_mut(BATCH_ROW).zip(answers) {
+        bytes.copy_from_slice(&row.map(u64::to_le_bytes).concat());
+    }
+    Ok(asked.len() as u64)
 }
 
 /// A region and the chain's text that it is sent through.
@@ -196,8 +239,8 @@ pub struct Sent {
 
 /// The sums over a list of regions, counted in the pairs of their chains. A text
 /// that is no chain is passed over.
-pub fn sums(batch: &[Sent]) -> Tally {
-    let read: Vec<_> = batch
+pub fn sums(sent: &[Sent]) -> Tally {
+    let read: Vec<_> = sent
         .iter()
         .filter_map(|sent| Some((read_chain(&sent.text).ok()?, sent)))
         .collect();

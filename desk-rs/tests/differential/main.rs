@@ -2,9 +2,10 @@
 //! damaged, go through every entry of the library, and each number, place, field,
 //! row and byte left behind must be what the second program says.
 //!
-//! TENDERCHOCK_CASES sets the number of cases (20,000, and a quarter as many texts of
-//! numbers), TENDERCHOCK_SEED the seed (1).
+//! TENDERCHOCK_CASES sets the number of cases (20,000; a quarter as many texts of numbers,
+//! and a fiftieth as many lists of calls with one tally), TENDERCHOCK_SEED the seed (1).
 
+mod batches;
 mod compare;
 mod damage;
 mod dice;
@@ -13,7 +14,7 @@ mod expected;
 
 use std::env;
 
-use compare::{Case, Compare, Seen};
+use compare::{bytes_of, Case, Compare, Seen};
 use dice::Dice;
 use drafts::Draft;
 use expected::Sent;
@@ -158,11 +159,64 @@ fn a_batch_is_tallied_as_the_sums_over_its_regions() {
     }
 }
 
+/// One call of a list: a region, or a batch of regions, through a chain of few bases. The
+/// regions that count as sent.
+fn mixed_call(one: &mut Compare, tally: &mut [u8]) -> Vec<Sent> {
+    let Sent { text, start, end } = sent(one.dice);
+    let of_text = |(start, end)| Sent {
+        text: text.clone(),
+        start,
+        end,
+    };
+    if one.dice.once_in(2) {
+        one.tally_call(&text, start, end, tally);
+        return vec![of_text((start, end))];
+    }
+    let regions = one.any_regions(&expected::read_chain(&text));
+    match one.batch_call(&text, &regions, tally) {
+        true => regions.into_iter().map(of_text).collect(),
+        false => Vec::new(),
+    }
+}
+
+/// Calls one after the other with one tally, which is compared after each; from a zero one
+/// it is the sums over all regions sent so far.
+fn mixed_list(one: &mut Compare, from_zero: bool) {
+    let mut tally = match from_zero {
+        true => vec![0; 24],
+        false => one.any_lent_tally(200),
+    };
+    let mut regions = Vec::new();
+    for _ in 0..8 {
+        regions.extend(mixed_call(one, &mut tally));
+        if from_zero {
+            let sums = expected::sums(&regions);
+            let fields = vec![sums.asked, sums.kept, sums.dropped];
+            assert!(tally == bytes_of(fields), "{}: the sums", one.label);
+        }
+    }
+}
+
+#[test]
+fn single_calls_and_batches_grow_one_tally() {
+    let seed = option("TENDERCHOCK_SEED", 1);
+    let mut seen = Seen::new();
+    for list in 0..option("TENDERCHOCK_CASES", CASES) / 50 {
+        let mut one = Compare {
+            dice: &mut Dice::of_case(seed, list),
+            seen: &mut seen,
+            label: &format!("seed {seed}, list {list}"),
+        };
+        mixed_list(&mut one, list.is_multiple_of(2));
+    }
+    told(&seen);
+}
+
 /// An entry and the numbers that it can give.
 type Answers = (&'static str, &'static [u8]);
 
 /// The entries that every text goes through.
-const ANSWERS: [Answers; 15] = [
+const ANSWERS: [Answers; 17] = [
     ("bed check", &[0, 1, 2, 3, 4, 5, 6, 7, 8, 9]),
     ("bed parse", &[0, 1, 2, 3, 4, 5, 6, 7, 8, 9, 11]),
     ("bed format", &[0, 1, 2, 3, 4, 5, 6, 7, 8, 9, 11]),
@@ -177,6 +231,8 @@ const ANSWERS: [Answers; 15] = [
     ("lift position", &[0, 1, 2, 3, 4, 5, 6, 7, 9, 11, 12, 13]),
     ("lift region", &[0, 1, 2, 3, 4, 5, 6, 7, 9, 11, 12, 13]),
     ("tally", &[0, 1, 2, 3, 4, 5, 6, 7, 9, 10, 11, 12, 13]),
+    ("lift batch", &[0, 1, 2, 3, 4, 5, 6, 7, 9, 11]),
+    ("batch row", &[0, 5, 10, 12, 13]),
     ("convert", &[0, 5, 7, 11]),
 ];
 

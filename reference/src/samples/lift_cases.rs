@@ -1,9 +1,9 @@
-//! Cases of lifts, turns, tallies and conversions. A case is its question, then the chain it is
-//! asked of: an escaped text, which begins with `c`, or a record's words.
+//! Cases of lifts, turns, tallies, batches and conversions. A case is its question, then the chain
+//! it is asked of: an escaped text, which begins with `c`, or a record's words.
 
 use reference::chain::{self, Chain, Names};
 use reference::ledger::Answer;
-use reference::lift::{self, LiftedRegion, Tally};
+use reference::lift::{self, BatchRow, LiftedRegion, Tally};
 use reference::rows::Row;
 use reference::text::Part;
 
@@ -12,6 +12,10 @@ use super::{checked, part, refused, row_list, shown, Handed};
 
 /// The room for the rows of a chain's text.
 const ROOM: usize = 1024;
+
+/// The most regions of a batch, and the most rows lent for their answers.
+const MOST_REGIONS: u64 = 16;
+const MOST_ANSWERS: u64 = 20;
 
 /// A chain that a case hands in, its table, and the bytes that its names stand in.
 struct Given {
@@ -26,6 +30,7 @@ pub fn answer(letter: u8, payload: &[u8], tally: &mut Tally) -> Vec<u8> {
     let question = match letter {
         b'p' | b'u' => 1,
         b'g' | b'm' => 2,
+        b'R' => 2 + 2 * region_count(&words),
         _ => 5,
     };
     let given = match given(payload.splitn(question + 1, |byte| *byte == b' ').last()) {
@@ -37,6 +42,7 @@ pub fn answer(letter: u8, payload: &[u8], tally: &mut Tally) -> Vec<u8> {
         b'g' => region(lift_region(&given, words.number(0), words.number(1))),
         b'u' => turn(&given, words.number(0) as usize),
         b'm' => tallied(&given, words.number(0), words.number(1), tally),
+        b'R' => batch(&given, &words, tally),
         _ => {
             *tally = Tally {
                 asked: words.number(0),
@@ -117,8 +123,37 @@ fn region(answer: Answer<LiftedRegion>) -> Vec<u8> {
 fn tallied(given: &Given, start: u64, end: u64, tally: &mut Tally) -> Vec<u8> {
     let (after, answer) = lift::step(&given.chain, &given.table, start, end, *tally);
     *tally = after;
-    let sums = format!(" tally {} {} {}", after.asked, after.kept, after.dropped);
-    [region(answer), sums.into_bytes()].concat()
+    [region(answer), sums(tally)].concat()
+}
+
+fn sums(tally: &Tally) -> Vec<u8> {
+    format!(" tally {} {} {}", tally.asked, tally.kept, tally.dropped).into_bytes()
+}
+
+/// How many regions a batch has.
+fn region_count(words: &Handed) -> usize {
+    words.number(1).min(MOST_REGIONS) as usize
+}
+
+/// A batch: how many rows are lent, how many regions there are, and their starts and ends. Its
+/// answer is the row of each region, and the tally that the batch leaves.
+fn batch(given: &Given, words: &Handed, tally: &mut Tally) -> Vec<u8> {
+    let room = words.number(0).min(MOST_ANSWERS) as usize;
+    let region = |at| (words.number(2 + 2 * at), words.number(3 + 2 * at));
+    let regions: Vec<(u64, u64)> = (0..region_count(words)).map(region).collect();
+    let answer = match lift::batch(&given.chain, &given.table, &regions, room, *tally) {
+        Ok((after, rows)) => {
+            *tally = after;
+            let rows: String = rows.iter().map(batch_row).collect();
+            format!("ok{rows}").into_bytes()
+        }
+        Err(refusal) => refused(refusal),
+    };
+    [answer, sums(tally)].concat()
+}
+
+fn batch_row([reason, kept, dropped, start, end]: &BatchRow) -> String {
+    format!(" | {reason} {kept} {dropped} {start} {end}")
 }
 
 /// A turn into a table of `room` rows: the record, its rows, its standard text and what the

@@ -25,6 +25,8 @@ enum Work {
     Numbers,
     /// Each region goes through the text, a chain.
     Lift,
+    /// The regions go through the text, a chain, in one call.
+    Batch,
 }
 
 pub struct Job {
@@ -34,6 +36,8 @@ pub struct Job {
     kind: Kind,
     texts: Vec<Vec<u8>>,
     regions: Vec<(u64, u64)>,
+    /// Regions as bytes.
+    batch: Vec<u8>,
     /// What one time is divided by, and what that is.
     pub units: u64,
     pub unit: &'static str,
@@ -43,8 +47,15 @@ pub struct Job {
 const MARK: u8 = 0xA5;
 const BLOCKS: u64 = fast::BLOCK_LIMIT as u64;
 const REGIONS: u64 = 10_000;
+/// Bytes of a region in a batch, and of its row of answers.
+const REGION_SIZE: usize = 16;
+const ROW_SIZE: usize = 40;
+/// The tally that a batch begins with.
+const EMPTY: [u8; 24] = [0; 24];
+/// Regions of a batch that are tried with each tally and room.
+const FEW: usize = 40;
 
-/// The jobs; `small` has fewer regions, for counting instructions.
+/// The jobs; `small` has fewer regions to lift one by one, for counting instructions.
 pub fn all(small: bool) -> Vec<Job> {
     let regions = if small { REGIONS / 100 } else { REGIONS };
     let long = |kind| vec![texts::text(kind, BLOCKS)];
@@ -67,16 +78,7 @@ pub fn all(small: bool) -> Vec<Job> {
         )
         .per(NUMBERS, "number"),
     ];
-    for (does, done, work) in [
-        ("check", "checked", Work::Check),
-        ("format", "written as standard text", Work::Format),
-    ] {
-        for words in [3, 6, 12] {
-            let (name, lines) = (format!("bed{words}-{does}"), texts::exons(words));
-            let about = format!("{} BED lines of {words} words, each {done}", lines.len());
-            jobs.push(job(&name, &about, work, Kind::Bed, lines));
-        }
-    }
+    jobs.extend(bed_lines());
     for (name, about, kind) in [
         ("bed", "a BED line of 12 words with 512 blocks", Kind::Bed),
         ("psl", "a PSL line with 512 blocks", Kind::Psl),
@@ -89,7 +91,32 @@ pub fn all(small: bool) -> Vec<Job> {
         regions: texts::regions(regions, BLOCKS),
         ..job("lift", LIFT, Work::Lift, Kind::Chain, long(Kind::Chain)).per(regions, "region")
     });
+    jobs.push(batch(long(Kind::Chain).remove(0), REGIONS, BLOCKS));
     jobs
+}
+
+/// BED lines of a few words, checked and formatted.
+fn bed_lines() -> Vec<Job> {
+    let mut jobs = Vec::new();
+    for (does, done, work) in [
+        ("check", "checked", Work::Check),
+        ("format", "written as standard text", Work::Format),
+    ] {
+        for words in [3, 6, 12] {
+            let (name, lines) = (format!("bed{words}-{does}"), texts::exons(words));
+            let about = format!("{} BED lines of {words} words, each {done}", lines.len());
+            jobs.push(job(&name, &about, work, Kind::Bed, lines));
+        }
+    }
+    jobs
+}
+
+/// So many regions through a chain of so many blocks, in one call.
+fn batch(chain: Vec<u8>, regions: u64, blocks: u64) -> Job {
+    Job {
+        batch: texts::batch(regions, blocks),
+        ..job("batch", BATCH, Work::Batch, Kind::Chain, vec![chain]).per(regions, "region")
+    }
 }
 
 /// The numbers of blocks at which growth is shown.
@@ -125,6 +152,8 @@ const LIST: &str = "3,000 numbers of 1 to 10 digits in one list of a BED line, \
      which is read to its end and refused by 8";
 const LIFT: &str =
     "10,000 regions lifted one by one through that chain, whose text is handed in each time";
+const BATCH: &str =
+    "10,000 regions of all sorts lifted through that chain in one call, with a tally";
 
 /// Work on each of these texts.
 fn job(name: &str, about: &str, work: Work, kind: Kind, texts: Vec<Vec<u8>>) -> Job {
@@ -137,6 +166,7 @@ fn job(name: &str, about: &str, work: Work, kind: Kind, texts: Vec<Vec<u8>>) -> 
         unit: if kind == Kind::Chain { "chain" } else { "line" },
         texts,
         regions: Vec::new(),
+        batch: Vec::new(),
     }
 }
 
@@ -170,6 +200,10 @@ impl Job {
             Work::Lift => self.each_region(lent, |text, start, end, lent| {
                 sys::lift_region(text, start, end, &mut lent.bytes)
             }),
+            Work::Batch => self.each(lent, |text, lent| {
+                lent.tally = EMPTY;
+                sys::lift_batch(text, &self.batch, &mut lent.tally, &mut lent.answers)
+            }),
         }
     }
 
@@ -187,6 +221,11 @@ impl Job {
             }),
             Work::Lift => self.each_region(lent, |text, start, end, lent| {
                 fast::lift_region(text, start, end, &mut lent.room)
+            }),
+            Work::Batch => self.each(lent, |text, lent| {
+                lent.tally = EMPTY;
+                let (tally, answers) = (&mut lent.tally, &mut lent.answers);
+                fast::lift_batch(text, &self.batch, tally, answers, &mut lent.room)
             }),
         }
     }
@@ -253,6 +292,11 @@ impl Job {
                 let rust = fast::lift_region(text, *start, *end, &mut lent.room);
                 lent.parsed(count) == rust.map(|numbers| numbers.to_vec())
             }),
+            Work::Batch => {
+                let whole = lent.batch_agrees(text, &self.batch, &EMPTY, lent.answers.len());
+                let few = &self.batch[..self.batch.len().min(FEW * REGION_SIZE)];
+                whole && lent.batches_agree(text, few)
+            }
         }
     }
 }
@@ -263,10 +307,35 @@ fn agree_in(
     library: impl FnOnce(&mut [u8]) -> u64,
     rust: impl FnOnce(&mut [u8]) -> Answer<usize>,
 ) -> bool {
-    let (mut given, mut wanted) = (vec![MARK; room], vec![MARK; room]);
+    agree_from(vec![MARK; room], library, rust)
+}
+
+/// The same where what is lent holds these bytes. A refusal must leave them.
+fn agree_from(
+    lent: Vec<u8>,
+    library: impl FnOnce(&mut [u8]) -> u64,
+    rust: impl FnOnce(&mut [u8]) -> Answer<usize>,
+) -> bool {
+    let (mut given, mut wanted) = (lent.clone(), lent.clone());
     let (answer, code) = (library(&mut given), code(rust(&mut wanted)));
-    let kept = code % 16 == 0 || wanted.iter().all(|byte| *byte == MARK);
+    let kept = code % 16 == 0 || wanted == lent;
     answer == code && given == wanted && kept
+}
+
+/// Tallies of all sorts: too short, too long, at and near the limit, and bad ones.
+fn tallies() -> Vec<Vec<u8>> {
+    let most = u64::MAX / 2;
+    let good = [[9, 4, 5], [most, most, 0], [most - 5_000, 0, most - 5_000]];
+    let bad = [
+        [1, 0, 0],
+        [most + 1, most, 1],
+        [0, most + 1, most + 1],
+        [u64::MAX, u64::MAX, 0],
+    ];
+    let numbers = good.into_iter().chain(bad);
+    let whole = numbers.map(|sums| sums.map(u64::to_le_bytes).concat());
+    let zeros = [0, 23, 24, 30].map(|length| vec![0; length]);
+    whole.chain(zeros).collect()
 }
 
 /// An answer as the library codes it.
@@ -283,6 +352,8 @@ pub struct Lent {
     rows: Vec<Row>,
     room: Box<Room>,
     numbers: Box<Numbers>,
+    answers: Vec<u8>,
+    tally: [u8; 24],
 }
 
 impl Lent {
@@ -292,6 +363,8 @@ impl Lent {
             rows: vec![Row::default(); fast::BLOCK_LIMIT],
             room: Box::new(Room::new()),
             numbers: fast::numbers_room(),
+            answers: vec![0; ROW_SIZE * REGIONS as usize],
+            tally: EMPTY,
         }
     }
 
@@ -313,6 +386,34 @@ impl Lent {
         })
     }
 
+    /// Whether both sides agree on a batch with this tally, given so much room.
+    fn batch_agrees(&mut self, text: &[u8], regions: &[u8], tally: &[u8], room: usize) -> bool {
+        let lent = [tally, &vec![MARK; room]].concat();
+        let library = |lent: &mut [u8]| {
+            let (tally, out) = lent.split_at_mut(tally.len());
+            sys::lift_batch(text, regions, tally, out)
+        };
+        agree_from(lent, library, |lent| {
+            let (tally, out) = lent.split_at_mut(tally.len());
+            fast::lift_batch(text, regions, tally, out, &mut self.room)
+        })
+    }
+
+    /// The same with each tally, with room that is enough and that isn't, and with
+    /// regions cut.
+    fn batches_agree(&mut self, text: &[u8], regions: &[u8]) -> bool {
+        let exact = regions.len() / REGION_SIZE * ROW_SIZE;
+        let rooms = [exact + ROW_SIZE, exact, exact - 1, exact - ROW_SIZE, 0];
+        let lengths = [0, 1, 8, REGION_SIZE, regions.len() - 1, regions.len()];
+        tallies().iter().all(|tally| {
+            rooms.iter().all(|room| {
+                lengths
+                    .iter()
+                    .all(|length| self.batch_agrees(text, &regions[..*length], tally, *room))
+            })
+        })
+    }
+
     /// The library's answer taken apart.
     fn parsed(&self, answer: u64) -> Answer<Vec<u64>> {
         let (number, value) = ((answer % 16) as u8, (answer / 16) as usize);
@@ -330,7 +431,7 @@ impl Lent {
 
 #[cfg(test)]
 mod tests {
-    use super::{job, texts, Kind, Lent, Work};
+    use super::{batch, job, texts, Kind, Lent, Side, Work, REGION_SIZE, ROW_SIZE};
 
     #[test]
     fn both_sides_answer_the_same() {
@@ -371,6 +472,51 @@ mod tests {
             let job = job("odd", "", Work::Format, Kind::Bed, texts::exons(words));
             assert!(job.sides_agree(1_000), "{words} words");
         }
+    }
+
+    /// Chains of other numbers of blocks, on both query strands.
+    #[test]
+    fn both_sides_answer_batches_the_same() {
+        for blocks in [1, 2, 3, 8, 64, 511] {
+            let minus = String::from_utf8(texts::text(Kind::Chain, blocks)).unwrap();
+            for chain in [minus.replace(" - ", " + "), minus] {
+                let job = batch(chain.into_bytes(), 1_000, blocks);
+                assert!(job.sides_agree(20), "{blocks} blocks");
+            }
+        }
+    }
+
+    /// Every region of a small chain, and some far out, with tallies that take all of
+    /// them, some or none.
+    #[test]
+    fn both_sides_answer_every_region_of_a_small_chain_the_same() {
+        let minus = "chain 100 tA 100 + 10 40 qB 80 - 5 33 7\n10 3 0\n8 0 1\n9\n";
+        let places = || (0..=102u64).chain([u64::MAX - 1, u64::MAX]);
+        let pairs = places().flat_map(|start| places().map(move |end| [start, end]));
+        let regions: Vec<u8> = pairs.flatten().flat_map(u64::to_le_bytes).collect();
+        let room = regions.len() / REGION_SIZE * ROW_SIZE;
+        let mut lent = Lent::new();
+        for chain in [minus, &minus.replace(" - ", " + ")] {
+            for left in [u64::MAX / 2, 100_000, 101, 100, 99, 6, 5, 1, 0] {
+                let asked = (u64::MAX / 2 - left).to_le_bytes();
+                let tally = [asked, [0; 8], asked].concat();
+                let agree = lent.batch_agrees(chain.as_bytes(), &regions, &tally, room);
+                assert!(agree, "{left} left of the tally");
+            }
+        }
+    }
+
+    /// Regions with a pair, with none, and not inside the target.
+    #[test]
+    fn a_batch_has_all_sorts_of_regions() {
+        let mut lent = Lent::new();
+        let job = super::all(true).pop().unwrap();
+        job.run(Side::Library, &mut lent);
+        let rows = lent.answers.chunks_exact(ROW_SIZE);
+        let count = |reason| rows.clone().filter(|row| row[0] == reason).count();
+        let counts = [0, 12, 13].map(count);
+        assert_eq!(counts.iter().sum::<usize>(), rows.len());
+        assert!(counts.iter().all(|count| *count >= 100), "{counts:?}");
     }
 
     /// Each word near the start and near the end of texts of all small lengths.

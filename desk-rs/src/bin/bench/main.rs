@@ -21,7 +21,7 @@ bench: times the jobs of docs/BENCHMARKS.md, through the library and in plain Ru
   bench --growth                 instructions a block of check, parse and format, on texts of 1, 8, 64 and 512 blocks
 
 Without a JOB, all: numbers, scores, list, bed3-check, bed6-check, bed12-check,
-bed3-format, bed6-format, bed12-format, bed, psl, chain, lift.
+bed3-format, bed6-format, bed12-format, bed, psl, chain, lift, batch.
 ";
 
 /// Samples of each side, the two in turn; their median counts. A short sample is

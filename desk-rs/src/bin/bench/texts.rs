@@ -172,6 +172,46 @@ pub fn regions(count: u64, blocks: u64) -> Vec<(u64, u64)> {
     (0..count).map(region).collect()
 }
 
+/// Regions of all sorts for a chain of so many blocks, in drawn order, as the library
+/// takes them: start and end, 8 bytes each.
+pub fn batch(count: u64, blocks: u64) -> Vec<u8> {
+    let blocks = Blocks::drawn(blocks);
+    let region = |at| {
+        let drawn = |column: u64, below: u64| mixed(at + 100_000 * column) % below.max(1);
+        let (start, end) = region_of(&blocks, drawn);
+        [start.to_le_bytes(), end.to_le_bytes()]
+    };
+    (0..count).flat_map(region).flatten().collect()
+}
+
+/// Of 100 regions some 60 are short, 16 long, 15 in a gap, 4 before the first block,
+/// 3 past the last, and 2 not inside the target.
+fn region_of(blocks: &Blocks, drawn: impl Fn(u64, u64) -> u64) -> (u64, u64) {
+    let (t_end, t_size) = (blocks.t_end, blocks.t_end + 500);
+    // A region between these two places.
+    let between = |low: u64, high: u64| {
+        let start = low + drawn(2, high - low);
+        (start, start + 1 + drawn(3, high - start))
+    };
+    match drawn(1, 100) {
+        0..60 => {
+            let start = FIRST_TARGET + drawn(2, t_end - FIRST_TARGET);
+            (start, t_size.min(start + 1 + drawn(3, 2_000)))
+        }
+        60..75 => between(FIRST_TARGET, t_end),
+        75 => (drawn(2, FIRST_TARGET), t_size),
+        76..91 => {
+            let block = drawn(4, blocks.sizes.len() as u64) as usize;
+            let gap = blocks.t_starts[block] + blocks.sizes[block];
+            between(gap, gap + blocks.t_gaps[block].max(1))
+        }
+        91..95 => between(0, FIRST_TARGET),
+        95..98 => between(t_end, t_size),
+        98 => between(t_size, t_size + 2_000),
+        _ => (t_end, FIRST_TARGET + drawn(2, t_end - FIRST_TARGET)),
+    }
+}
+
 /// A text with one byte changed, dropped or doubled.
 pub fn damage(text: &[u8], seed: u64) -> Vec<u8> {
     let mut text = text.to_vec();

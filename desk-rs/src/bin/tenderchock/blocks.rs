@@ -1,11 +1,15 @@
 //! A BED line on the query: its blocks as the library lifted them, its thick part,
 //! and the other columns. The library writes the line.
 
+use std::io::Write;
+
 use crate::args::Lifting;
 use crate::chains::Held;
-use crate::choice::Sent;
 use crate::loss::{self, Loss, LostPart};
 use crate::part::Part;
+use crate::ready::Sent;
+use crate::round::Answer;
+use crate::thick;
 use crate::why::Why;
 use tenderchock::{Bed, Kind, LiftedRegion, Room};
 
@@ -28,151 +32,131 @@ pub fn parts(bed: &Bed, options: &Lifting) -> Vec<Part> {
     }
 }
 
+/// What is to be asked of the chain besides: where the thick part goes; or, of a line
+/// that is lifted by its span, which blocks keep something. A line that isn't lifted
+/// asks nothing.
+pub fn questions(bed: &Bed, sent: &Sent, options: &Lifting) -> Vec<Part> {
+    let asks = match options.span {
+        // A block alone is the span itself.
+        true => bed.rows.len() > 1,
+        false => thick::is_there(bed),
+    };
+    match asks.then(|| Placed::of(sent, options)) {
+        None | Some(Err(_)) => Vec::new(),
+        Some(Ok(_)) if options.span => Part::blocks(bed),
+        Some(Ok(placed)) => thick::questions(bed, placed.target),
+    }
+}
+
 /// The line on the query, or why there is none.
 pub fn lifted(bed: &Bed, sent: &Sent, options: &Lifting, room: &mut Room) -> Result<Lifted, Why> {
-    let (kept, lost) = sorted_out(sent, options)?;
-    let places = Places::of(&kept);
-    let (length, asked) = (places.query.length(), places.target.length());
-    if kept.len() > 1 && !options.max_grow.is_kept_to(length, asked) {
-        return Err(Why::Apart(length, asked));
-    }
-    let (thick, moved) = match bed.word_count < 7 || options.span {
-        true => (places.no_thick_part(), Vec::new()),
-        false => thick(bed, sent.chain, &places),
+    let placed = Placed::of(sent, options)?;
+    let (thick, moved) = match thick::is_there(bed) && !options.span {
+        true => thick::lifted(bed, placed.target, sent.more),
+        false => (None, Vec::new()),
     };
-    let words = words(bed, sent.chain, &places, &kept, thick, options);
-    let line = room
-        .format(Kind::Bed, &words.join(&b'\t'))
-        .map_err(Why::Refused)?;
+    let line = line(bed, sent.chain, &placed, thick, options);
+    let line = room.format(Kind::Bed, &line).map_err(Why::Refused)?;
     let lost = match options.span {
-        true => lost_in_span(bed, sent.chain),
-        false => lost,
+        true => lost_in_span(bed, sent.more),
+        false => placed.lost,
     };
     Ok(Lifted {
         line: line.to_vec(),
         without: lost.iter().map(LostPart::told).collect(),
         moved,
-        shortened: kept.iter().any(|(_, region)| region.dropped > 0),
+        shortened: placed.kept.iter().any(|(_, region)| region.dropped > 0),
     })
 }
 
-/// The parts that are kept, in the target's order.
-type Kept = Vec<(Part, LiftedRegion)>;
-
-/// The parts that are kept, and those that are lost if that may be.
-fn sorted_out(sent: &Sent, options: &Lifting) -> Result<(Kept, Vec<LostPart>), Why> {
-    let of = sent.parts.len();
-    let (mut kept, mut lost) = (Kept::new(), Vec::new());
-    for (at, (part, region)) in (1..).zip(&sent.parts) {
-        let part = *part;
-        match loss::tested(*region, options) {
-            Ok(region) => kept.push((part, region)),
-            Err(loss) => lost.push(LostPart { at, of, part, loss }),
-        }
-    }
-    match lost.first() {
-        Some(first) if kept.is_empty() || !options.drop_blocks => {
-            Err(Why::Lost(*first, lost.len() - 1))
-        }
-        _ => Ok((kept, lost)),
-    }
-}
-
-/// Where the kept parts stand, all together, on the target and on the query.
-struct Places {
+/// The parts of a line that are kept, in the target's order, those that are lost, and
+/// where the kept ones stand, all together, on the target and on the query.
+struct Placed {
+    kept: Vec<(Part, LiftedRegion)>,
+    lost: Vec<LostPart>,
     target: Part,
     query: Part,
 }
 
-impl Places {
-    fn of(kept: &Kept) -> Places {
-        Places {
-            target: Part::around(kept.iter().map(|(part, _)| *part)),
-            query: Part::around(kept.iter().map(|(_, region)| Part::of_region(region))),
+impl Placed {
+    /// Parts are lost only if that may be, and the others must not grow apart.
+    fn of(sent: &Sent, options: &Lifting) -> Result<Placed, Why> {
+        let of = sent.parts.len();
+        let (mut kept, mut lost) = (Vec::with_capacity(of), Vec::new());
+        for (at, (part, answer)) in (1..).zip(sent.parts.iter().zip(sent.answers)) {
+            let part = *part;
+            match loss::tested(*answer, options) {
+                Ok(region) => kept.push((part, region)),
+                Err(loss) => lost.push(LostPart { at, of, part, loss }),
+            }
         }
-    }
-
-    /// A thick part without a length stands where the line begins.
-    fn no_thick_part(&self) -> Part {
-        Part {
-            start: self.query.start,
-            end: self.query.start,
+        if let Some(first) = lost.first() {
+            if kept.is_empty() || !options.drop_blocks {
+                return Err(Why::Lost(*first, lost.len() - 1));
+            }
         }
+        let target = Part::around(kept.iter().map(|(part, _)| *part));
+        let query = Part::around(kept.iter().map(|(_, region)| Part::of_region(region)));
+        let (length, asked) = (query.length(), target.length());
+        if kept.len() > 1 && !options.max_grow.is_kept_to(length, asked) {
+            return Err(Why::Apart(length, asked));
+        }
+        Ok(Placed {
+            kept,
+            lost,
+            target,
+            query,
+        })
     }
 }
 
-/// The thick part on the query, and what is to be told of it. An end in no pair moves
-/// inward to the next base that is kept.
-fn thick(bed: &Bed, chain: &Held, places: &Places) -> (Part, Vec<String>) {
-    if bed.thick_start == bed.thick_end {
-        return (places.no_thick_part(), Vec::new());
-    }
-    let start = bed.thick_start.max(places.target.start);
-    let end = bed.thick_end.min(places.target.end);
-    let lifted = tenderchock::lift_region(&chain.text, start, end);
-    let Some(region) = lifted.ok().filter(|_| start < end) else {
-        let told = "the thick part keeps no base".to_string();
-        return (places.no_thick_part(), vec![told]);
-    };
-    let is_paired = |position: u64| tenderchock::lift_position(&chain.text, position).is_ok();
-    let ends = [
-        (
-            "thickStart",
-            bed.thick_start,
-            start == bed.thick_start && is_paired(start),
-        ),
-        (
-            "thickEnd",
-            bed.thick_end,
-            end == bed.thick_end && is_paired(end - 1),
-        ),
-    ];
-    let moved = ends.iter().filter(|(_, _, stays)| !stays);
-    let told = moved.map(|(end, at, _)| format!("{end} {at} moves inward, to a base that is kept"));
-    (Part::of_region(&region), told.collect())
-}
+/// Puts a column's word behind the line so far.
+type Column<'l> = &'l dyn Fn(&mut Vec<u8>);
 
-/// The columns of the line on the query.
-fn words(
+/// The line on the query, for the library to write. A thick part without a length stands
+/// where the line begins.
+fn line(
     bed: &Bed,
     chain: &Held,
-    places: &Places,
-    kept: &Kept,
-    thick: Part,
+    placed: &Placed,
+    thick: Option<Part>,
     options: &Lifting,
-) -> Vec<Vec<u8>> {
+) -> Vec<u8> {
     let strand = match chain.minus {
         true => bed.strand.opposite(),
         false => bed.strand,
     };
-    let [red, green, blue] = bed.item_rgb;
-    let mut blocks: Vec<Part> = kept
-        .iter()
-        .map(|(_, region)| Part::of_region(region))
-        .collect();
+    let regions = placed.kept.iter().map(|(_, region)| region);
+    let mut blocks: Vec<Part> = regions.map(Part::of_region).collect();
     blocks.sort_by_key(|block| block.start);
-    let Part { start, end } = places.query;
-    let mut words = vec![
-        chain.q_name.to_vec(),
-        spelt(start),
-        spelt(end),
-        bed.name.to_vec(),
-        spelt(bed.score),
-        vec![strand.letter() as u8],
-        spelt(thick.start),
-        spelt(thick.end),
-        format!("{red},{green},{blue}").into_bytes(),
-        spelt(blocks.len() as u64),
-        list(blocks.iter().map(|block| block.length())),
-        list(blocks.iter().map(|block| block.start - start)),
+    let Part { start, end } = placed.query;
+    let thick = thick.unwrap_or(Part { start, end: start });
+    let columns: [Column; 12] = [
+        &|line| line.extend_from_slice(&chain.q_name),
+        &|line| put(line, start),
+        &|line| put(line, end),
+        &|line| line.extend_from_slice(bed.name),
+        &|line| put(line, bed.score),
+        &|line| line.push(strand.letter() as u8),
+        &|line| put(line, thick.start),
+        &|line| put(line, thick.end),
+        &|line| put_list(line, bed.item_rgb.iter().map(|part| u64::from(*part))),
+        &|line| put(line, blocks.len() as u64),
+        &|line| put_list(line, blocks.iter().map(|block| block.length())),
+        &|line| put_list(line, blocks.iter().map(|block| block.start - start)),
     ];
-    words.truncate(columns(bed, thick.end == end, options));
-    words
+    let mut line = Vec::new();
+    let count = column_count(bed, thick.end == end, options);
+    for (at, column) in columns.iter().take(count).enumerate() {
+        line.extend((at > 0).then_some(b'\t'));
+        column(&mut line);
+    }
+    line
 }
 
 /// As many columns as the line had. A seventh alone says that the thick part ends
 /// where the line does; where that is no longer so, an eighth says where.
-fn columns(bed: &Bed, thick_to_end: bool, options: &Lifting) -> usize {
+fn column_count(bed: &Bed, thick_to_end: bool, options: &Lifting) -> usize {
     match bed.word_count {
         count if options.span => count.min(6) as usize,
         7 if !thick_to_end => 8,
@@ -180,24 +164,25 @@ fn columns(bed: &Bed, thick_to_end: bool, options: &Lifting) -> usize {
     }
 }
 
-fn spelt(number: u64) -> Vec<u8> {
-    number.to_string().into_bytes()
+fn put(line: &mut Vec<u8>, number: u64) {
+    // Nothing can fail: a line grows as it must.
+    let _ = write!(line, "{number}");
 }
 
-fn list(numbers: impl Iterator<Item = u64>) -> Vec<u8> {
-    let numbers: Vec<String> = numbers.map(|number| number.to_string()).collect();
-    numbers.join(",").into_bytes()
+fn put_list(line: &mut Vec<u8>, numbers: impl Iterator<Item = u64>) {
+    for (at, number) in numbers.enumerate() {
+        line.extend((at > 0).then_some(b','));
+        put(line, number);
+    }
 }
 
 /// The blocks that keep nothing in a line that is lifted by its span.
-fn lost_in_span(bed: &Bed, chain: &Held) -> Vec<LostPart> {
-    let blocks = Part::blocks(bed);
-    let of = blocks.len();
-    let lost = |(at, part): (usize, &Part)| {
-        let lifted = tenderchock::lift_region(&chain.text, part.start, part.end);
-        let loss = Loss::Refused(lifted.err()?);
-        let part = *part;
+fn lost_in_span(bed: &Bed, answers: &[Answer]) -> Vec<LostPart> {
+    let of = bed.rows.len();
+    let lost = |(at, (part, answer)): (usize, (Part, &Answer))| {
+        let loss = Loss::Refused(answer.err()?);
         Some(LostPart { at, of, part, loss })
     };
-    (1..).zip(&blocks).filter_map(lost).collect()
+    let blocks = Part::blocks(bed).into_iter().zip(answers);
+    (1..).zip(blocks).filter_map(lost).collect()
 }

@@ -1,57 +1,34 @@
-//! Which chains a line goes through: those in which it keeps bases, by the library's
-//! word, and of several the one that was asked for.
+//! Which chains a line goes through: of several candidates those in which it keeps bases,
+//! and of these the one that was asked for.
 
 use crate::args::Several;
-use crate::chains::Held;
-use crate::part::Part;
+use crate::ready::Through;
 use crate::why::Why;
-use tenderchock::{LiftedRegion, Refusal};
 
-/// A line's parts sent through a chain, each with the library's answer.
-pub struct Sent<'c> {
-    pub chain: &'c Held,
-    pub parts: Vec<(Part, Result<LiftedRegion, Refusal>)>,
-}
-
-impl<'c> Sent<'c> {
-    fn through(chain: &'c Held, parts: &[Part]) -> Sent<'c> {
-        let lifted = |part: &Part| {
-            let region = tenderchock::lift_region(&chain.text, part.start, part.end);
-            (*part, region)
-        };
-        Sent {
-            chain,
-            parts: parts.iter().map(lifted).collect(),
-        }
-    }
-
-    fn keeps_bases(&self) -> bool {
-        self.parts.iter().any(|(_, region)| region.is_ok())
-    }
-}
-
-/// The chains that a line goes through, of those with its target; if it keeps bases
-/// in none, the first.
+/// The candidates that a line goes through: one alone unasked, and if it keeps bases in
+/// none of several, the first. That is as good as any other: the chains of a target have
+/// one size, so a part that none of them keeps is refused by the same number in each.
 pub fn chosen<'c>(
-    named: &'c [Held],
-    parts: &[Part],
+    candidates: Vec<Through<'c>>,
+    keeps_bases: impl Fn(&Through<'c>) -> bool,
     several: Several,
-) -> Result<Vec<Sent<'c>>, Why> {
-    let first = named.first().ok_or(Why::NoChain)?;
-    let mut kept: Vec<Sent> = named
-        .iter()
-        .filter(|held| parts.iter().any(|part| held.span.overlaps(*part)))
-        .map(|held| Sent::through(held, parts))
-        .filter(Sent::keeps_bases)
-        .collect();
+) -> Result<Vec<Through<'c>>, Why> {
+    if candidates.len() < 2 {
+        return Ok(candidates);
+    }
+    let (mut kept, mut not): (Vec<Through>, Vec<Through>) =
+        candidates.into_iter().partition(keeps_bases);
     match (kept.len(), several) {
-        (0, _) => Ok(vec![Sent::through(first, parts)]),
+        (0, _) => {
+            not.truncate(1);
+            Ok(not)
+        }
         (1, _) | (_, Several::All) => Ok(kept),
         (_, Several::None) => Err(Why::Several(
-            kept.iter().map(|sent| sent.chain.id).collect(),
+            kept.iter().map(|through| through.chain.id).collect(),
         )),
         (_, Several::Best) => {
-            kept.sort_by_key(|sent| (u64::MAX - sent.chain.score, sent.chain.id));
+            kept.sort_by_key(|through| (u64::MAX - through.chain.score, through.chain.id));
             kept.truncate(1);
             Ok(kept)
         }
@@ -61,29 +38,37 @@ pub fn chosen<'c>(
 #[cfg(test)]
 mod tests {
     use super::*;
-    use tenderchock::Chain;
+    use crate::chains::tests::chains;
+    use crate::chains::Chains;
+    use crate::part::Part;
 
-    /// Chains of one target, given by score, tStart, tEnd and id.
-    fn chains(each: &[(u64, u64, u64, u64)]) -> Vec<Held> {
-        let held = |(score, start, end, id): &(u64, u64, u64, u64)| {
-            let size = end - start;
-            let text = format!("chain {score} t 100 + {start} {end} q 100 + 0 {size} {id}\n{size}");
-            let chain = Chain::parse(text.as_bytes()).expect("a chain");
-            Held::new(text.as_bytes(), &chain)
+    /// Chains of one target, given by score, tStart, tEnd and id; each has its outer
+    /// quarters as blocks.
+    fn of_target(each: &[(u64, u64, u64, u64)]) -> Chains {
+        let text = |(score, start, end, id): &(u64, u64, u64, u64)| {
+            let (size, quarter) = (end - start, (end - start) / 4);
+            let gap = size - 2 * quarter;
+            format!(
+                "chain {score} t 100 + {start} {end} q 100 + 0 {size} {id}\n{quarter} {gap} {gap}\n{quarter}\n"
+            )
         };
-        each.iter().map(held).collect()
+        chains(&each.iter().map(text).collect::<String>())
     }
 
-    fn ids(named: &[Held], parts: &[(u64, u64)], several: Several) -> Result<Vec<u64>, Vec<u64>> {
-        let parts: Vec<Part> = parts
-            .iter()
-            .map(|(start, end)| Part {
-                start: *start,
-                end: *end,
-            })
-            .collect();
-        match chosen(named, &parts, several) {
-            Ok(sent) => Ok(sent.iter().map(|sent| sent.chain.id).collect()),
+    fn ids(chains: &Chains, parts: &[(u64, u64)], several: Several) -> Result<Vec<u64>, Vec<u64>> {
+        let part = |(start, end): &(u64, u64)| Part {
+            start: *start,
+            end: *end,
+        };
+        let parts: Vec<Part> = parts.iter().map(part).collect();
+        let keeps_bases = |through: &Through| {
+            let text = &through.chain.text;
+            let lifted = |part: &Part| tenderchock::lift_region(text, part.start, part.end);
+            parts.iter().any(|part| lifted(part).is_ok())
+        };
+        let candidates = chains.candidates(b"t", &parts).into_iter();
+        match chosen(candidates.map(Through::new).collect(), keeps_bases, several) {
+            Ok(through) => Ok(through.iter().map(|through| through.chain.id).collect()),
             Err(Why::Several(ids)) => Err(ids),
             Err(_) => Err(Vec::new()),
         }
@@ -91,25 +76,29 @@ mod tests {
 
     #[test]
     fn the_chain_in_which_a_line_keeps_bases_is_chosen() {
-        let named = chains(&[(9, 0, 10, 1), (5, 20, 30, 2), (5, 30, 40, 3)]);
+        let chains = of_target(&[(9, 0, 12, 1), (5, 20, 32, 2), (5, 30, 42, 3)]);
         for (parts, wanted) in [
-            (&[(25, 30)][..], Ok(vec![2])),
-            (&[(5, 8), (12, 15)], Ok(vec![1])),
+            (&[(20, 29)][..], Ok(vec![2])),
+            (&[(0, 3), (12, 15)], Ok(vec![1])),
             (&[(29, 31)], Err(vec![2, 3])),
-            (&[(5, 8), (35, 36)], Err(vec![1, 3])),
-            // In none: the library's refusal by the first is told.
+            (&[(0, 3), (39, 40)], Err(vec![1, 3])),
+            // In one of two candidates, and in none of them.
+            (&[(25, 31)], Err(vec![2, 3])),
+            (&[(5, 6), (24, 26), (40, 41)], Ok(vec![3])),
+            (&[(5, 6), (24, 26)], Ok(vec![1])),
+            // One candidate that keeps nothing, and no candidate.
+            (&[(24, 26)], Ok(vec![2])),
             (&[(12, 15)], Ok(vec![1])),
             (&[(200, 300)], Ok(vec![1])),
         ] {
-            assert_eq!(ids(&named, parts, Several::None), wanted, "{parts:?}");
+            assert_eq!(ids(&chains, parts, Several::None), wanted, "{parts:?}");
         }
-        assert_eq!(ids(&[], &[(0, 1)], Several::None), Err(vec![]));
     }
 
     #[test]
     fn the_best_has_the_greatest_score_then_the_smallest_id() {
-        let named = chains(&[(5, 0, 10, 1), (9, 0, 10, 8), (9, 0, 10, 4), (99, 50, 60, 2)]);
-        assert_eq!(ids(&named, &[(0, 5)], Several::Best), Ok(vec![4]));
-        assert_eq!(ids(&named, &[(0, 5)], Several::All), Ok(vec![1, 8, 4]));
+        let chains = of_target(&[(5, 0, 12, 1), (9, 0, 12, 8), (9, 0, 12, 4), (99, 50, 62, 2)]);
+        assert_eq!(ids(&chains, &[(0, 5)], Several::Best), Ok(vec![4]));
+        assert_eq!(ids(&chains, &[(0, 5)], Several::All), Ok(vec![1, 8, 4]));
     }
 }

@@ -4,6 +4,8 @@ use std::collections::BTreeMap;
 
 use crate::args::LiftFiles;
 use crate::outcome::{self, Trouble};
+use crate::part::Part;
+use crate::ready::Sent;
 use crate::why::Reason;
 use tenderchock::Tally;
 
@@ -42,30 +44,57 @@ pub struct Counts {
     pub near: u64,
 }
 
-/// How a line ended, and its bases that went through no chain.
-pub struct Ended {
-    unmapped: Option<Reason>,
+/// The bases of a line: what it added to the tally, and those that went through no chain.
+#[derive(Clone, Copy, Default)]
+pub struct Bases {
+    tally: Tally,
     not_sent: u64,
 }
 
+impl Bases {
+    /// A line that goes through no chain.
+    pub fn not_sent(parts: &[Part]) -> Bases {
+        Bases {
+            not_sent: parts.iter().map(|part| part.length()).sum(),
+            tally: Tally::default(),
+        }
+    }
+
+    /// As the tally takes each answer: a part that is not inside the target isn't in it.
+    pub fn of(sent: &[Sent]) -> Bases {
+        let mut bases = Bases::default();
+        for sent in sent {
+            for (part, answer) in sent.parts.iter().zip(sent.answers) {
+                let (kept, dropped) = match answer {
+                    Ok(region) => (region.kept, region.dropped),
+                    Err(refusal) if refusal.number == 13 => {
+                        bases.not_sent += part.length();
+                        continue;
+                    }
+                    Err(_) => (0, part.length()),
+                };
+                bases.tally.asked += kept + dropped;
+                bases.tally.kept += kept;
+                bases.tally.dropped += dropped;
+            }
+        }
+        bases
+    }
+}
+
+/// How a line ended: lifted, or not for this reason.
+pub struct Ended {
+    pub unmapped: Option<Reason>,
+    pub bases: Bases,
+}
+
 impl Ended {
-    pub fn lifted(not_sent: u64) -> Ended {
-        Ended {
-            unmapped: None,
-            not_sent,
-        }
-    }
-
-    pub fn unmapped(reason: Reason, not_sent: u64) -> Ended {
-        Ended {
-            unmapped: Some(reason),
-            not_sent,
-        }
-    }
-
     /// A line that is no record has no bases.
     pub fn refused() -> Ended {
-        Ended::unmapped(Reason::Refused, 0)
+        Ended {
+            unmapped: Some(Reason::Refused),
+            bases: Bases::default(),
+        }
     }
 }
 
@@ -78,13 +107,8 @@ impl Counts {
         }
     }
 
-    /// Whether no line is counted yet.
-    pub fn is_empty(&self) -> bool {
-        self.lifted + self.unmapped == 0
-    }
-
-    /// One line; the tally has grown from `before`. A refused line has no chrom.
-    pub fn add(&mut self, chrom: &[u8], ended: &Ended, before: Tally) {
+    /// One line. A refused line has no chrom.
+    pub fn add(&mut self, chrom: &[u8], ended: &Ended) {
         match ended.unmapped {
             None => self.lifted += 1,
             Some(_) => self.unmapped += 1,
@@ -92,14 +116,9 @@ impl Counts {
         let Some(chroms) = &mut self.chroms else {
             return;
         };
-        let grown = Tally {
-            asked: self.tally.asked - before.asked,
-            kept: self.tally.kept - before.kept,
-            dropped: self.tally.dropped - before.dropped,
-        };
         match chroms.get_mut(chrom) {
-            Some(row) => row.add(ended, grown),
-            None => chroms.entry(chrom.to_vec()).or_default().add(ended, grown),
+            Some(row) => row.add(ended),
+            None => chroms.entry(chrom.to_vec()).or_default().add(ended),
         }
     }
 
@@ -181,12 +200,13 @@ impl Counts {
 }
 
 impl Row {
-    fn add(&mut self, ended: &Ended, grown: Tally) {
+    fn add(&mut self, ended: &Ended) {
+        let Bases { tally, not_sent } = ended.bases;
         self.lines += 1;
-        self.not_sent += ended.not_sent;
-        self.tally.asked += grown.asked;
-        self.tally.kept += grown.kept;
-        self.tally.dropped += grown.dropped;
+        self.not_sent += not_sent;
+        self.tally.asked += tally.asked;
+        self.tally.kept += tally.kept;
+        self.tally.dropped += tally.dropped;
         match ended.unmapped {
             None => self.lifted += 1,
             Some(reason) => self.unmapped[reason as usize] += 1,
@@ -214,11 +234,12 @@ mod tests {
     #[test]
     fn every_line_is_lifted_unmapped_or_passed_over() {
         let mut counts = Counts::new(false);
-        assert!(counts.is_empty());
-        counts.add(b"t", &Ended::lifted(0), Tally::default());
-        counts.add(b"t", &Ended::unmapped(Reason::Kept, 0), Tally::default());
-        counts.add(b"", &Ended::refused(), Tally::default());
-        assert!(!counts.is_empty() && counts.balanced(5, 2).is_ok());
+        for unmapped in [None, Some(Reason::Kept)] {
+            let bases = Bases::default();
+            counts.add(b"t", &Ended { unmapped, bases });
+        }
+        counts.add(b"", &Ended::refused());
+        assert!(counts.balanced(5, 2).is_ok());
         for (read, passed_over) in [(4, 2), (6, 2), (5, 1)] {
             assert!(counts.balanced(read, passed_over).is_err());
         }

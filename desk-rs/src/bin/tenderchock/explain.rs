@@ -2,7 +2,7 @@
 
 use crate::fields::{self, Field};
 use crate::hints;
-use crate::input::Text;
+use crate::text::Text;
 use tenderchock::{Kind, Refusal};
 
 /// Most bytes of a word that are shown.
@@ -24,7 +24,7 @@ pub struct Fault<'t> {
 }
 
 impl<'t> Fault<'t> {
-    pub fn new(kind: Kind, text: &'t Text, refusal: Refusal) -> Fault<'t> {
+    pub fn new(kind: Kind, text: &Text<'t>, refusal: Refusal) -> Fault<'t> {
         let (line, place) = text.line_at(refusal.place);
         Fault {
             kind,

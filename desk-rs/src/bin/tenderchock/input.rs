@@ -1,105 +1,15 @@
-//! The texts of a file: the lines of a BED or PSL file, the chains of a chain
-//! file. A text keeps the lines that it stands in, so that places can be told.
+//! The texts of a file: the lines of a BED or PSL file, the chains of a chain file.
 
 use std::io::{self, BufRead, BufReader, Read};
 
 use crate::passing::{is_blank, passing, Passing};
 use crate::source::{shows_foreign, Source};
-use tenderchock::{Kind, Refusal, TEXT_LIMIT};
-
-/// One text, without a line feed at its end.
-#[derive(Debug, Default, PartialEq, Eq)]
-pub struct Text {
-    pub bytes: Vec<u8>,
-    /// For each line: where it starts in the text, and its number in the file.
-    lines: Vec<(usize, u64)>,
-    /// A refusal that stands before any of the library's.
-    fault: Option<Refusal>,
-}
-
-impl Text {
-    /// What the library says of the text, unless it is refused already.
-    pub fn judged<'t, T>(
-        &'t self,
-        judge: impl FnOnce(&'t [u8]) -> Result<T, Refusal>,
-    ) -> Result<T, Refusal> {
-        match self.fault {
-            Some(refusal) => Err(refusal),
-            None => judge(&self.bytes),
-        }
-    }
-
-    fn clear(&mut self) {
-        self.bytes.clear();
-        self.lines.clear();
-        self.fault = None;
-    }
-
-    /// Refuses the text for a place in the line that is added next: a bad fixed word.
-    fn refuse_next(&mut self, place: usize) {
-        let start = match self.is_empty() {
-            true => 0,
-            false => self.bytes.len() + 1,
-        };
-        if start <= TEXT_LIMIT {
-            let place = start + place;
-            self.fault.get_or_insert(Refusal { number: 6, place });
-        }
-    }
-
-    /// The file's line that a place stands in, and the place's column, from 1.
-    pub fn locate(&self, place: usize) -> (u64, usize) {
-        let (start, number) = self.line_of(place);
-        (number, place.saturating_sub(start).saturating_add(1))
-    }
-
-    /// The bytes of the line that a place stands in, and the place within it.
-    pub fn line_at(&self, place: usize) -> (&[u8], usize) {
-        let (start, _) = self.line_of(place);
-        let from = self.bytes.get(start..).unwrap_or_default();
-        let length = from
-            .iter()
-            .position(|byte| *byte == b'\n')
-            .unwrap_or(from.len());
-        (&from[..length], place.saturating_sub(start))
-    }
-
-    /// Whether a place stands in the text's first line.
-    pub fn in_first_line(&self, place: usize) -> bool {
-        self.line_of(place).0 == 0
-    }
-
-    fn line_of(&self, place: usize) -> (usize, u64) {
-        let started = |line: &&(usize, u64)| line.0 <= place;
-        self.lines
-            .iter()
-            .rev()
-            .find(started)
-            .copied()
-            .unwrap_or((0, 1))
-    }
-
-    /// Whether it has no line at all.
-    pub fn is_empty(&self) -> bool {
-        self.lines.is_empty()
-    }
-
-    /// Adds a line. Past the text limit nothing is kept: the text is too long already.
-    fn add(&mut self, number: u64, line: &[u8]) {
-        if self.bytes.len() > TEXT_LIMIT {
-            return;
-        }
-        if !self.is_empty() {
-            self.bytes.push(b'\n');
-        }
-        self.lines.push((self.bytes.len(), number));
-        self.bytes.extend_from_slice(line);
-    }
-}
+use crate::text::{Draft, Text};
+use tenderchock::{Kind, TEXT_LIMIT};
 
 /// What comes next in a file.
 pub enum Item<'t> {
-    Text(&'t Text),
+    Text(Text<'t>),
     PassedOver(PassedOver<'t>),
 }
 
@@ -116,7 +26,7 @@ pub struct Texts<R> {
     source: R,
     kind: Kind,
     line: Vec<u8>,
-    text: Text,
+    text: Draft,
     /// Whether the text's lines go on behind a line that was passed over.
     open: bool,
     /// Whether the line is read already, and belongs to the next text.
@@ -156,7 +66,7 @@ impl<R: BufRead> Texts<R> {
             source,
             kind,
             line: Vec::new(),
-            text: Text::default(),
+            text: Draft::default(),
             open: false,
             held: false,
             any: false,
@@ -188,7 +98,7 @@ impl<R: BufRead> Texts<R> {
             Found::End if self.any => None,
             Found::Text | Found::End => {
                 self.any = true;
-                Some(Item::Text(&self.text))
+                Some(Item::Text(self.text.text()))
             }
         })
     }
@@ -326,13 +236,14 @@ fn part(line: &[u8]) -> Part {
 #[cfg(test)]
 mod tests {
     use super::*;
+    use tenderchock::Refusal;
 
     fn texts(kind: Kind, file: &[u8]) -> (Vec<Vec<u8>>, u64) {
         let mut texts = Texts::new(file, kind);
         let mut all = Vec::new();
         while let Some(item) = texts.next().expect("bytes can be read") {
             if let Item::Text(text) = item {
-                all.push(text.bytes.clone());
+                all.push(text.bytes.to_vec());
             }
         }
         (all, texts.passed_over)
@@ -343,7 +254,7 @@ mod tests {
         let mut texts = Texts::new(file, kind);
         loop {
             match texts.next().expect("bytes can be read") {
-                Some(Item::Text(text)) => return known(text),
+                Some(Item::Text(text)) => return known(&text),
                 Some(Item::PassedOver(_)) => (),
                 None => panic!("no text"),
             }

@@ -6,10 +6,11 @@ use std::path::Path;
 use crate::args::{Input, LiftFiles, Lifting, Telling};
 use crate::chains::Chains;
 use crate::input::{SourceTexts, Texts};
+use crate::lifter::Lifter;
 use crate::lines::Lines;
 use crate::outcome::{self, Outcome, Status, Trouble};
 use crate::output::{commit, Output};
-use crate::report::{walk, Report};
+use crate::report::{self, Report};
 use crate::same_file::{apart, none_is_standard_error, Use};
 use crate::source::Source;
 use crate::target::Target;
@@ -30,9 +31,9 @@ pub fn run(files: &LiftFiles, options: &Lifting, how: Telling) -> Outcome {
         return Ok(status);
     }
     let texts = self::texts(&files.bed, bed)?;
-    let lines = Lines::new(&chains, outputs, options);
+    let lifter = Lifter::new(&chains, outputs, options);
     let mut report = Report::new(&files.bed, how, &mut errors);
-    let status = lift(files, lines, texts, &mut report)?;
+    let status = lift(files, lifter, texts, &mut report)?;
     drop(report);
     errors.flush()?;
     Ok(status)
@@ -45,13 +46,20 @@ fn texts(input: &Input, source: Source) -> Result<SourceTexts, Trouble> {
 /// Lifts a file; then the outputs take their places.
 fn lift(
     files: &LiftFiles,
-    mut lines: Lines,
+    mut lifter: Lifter,
     mut texts: SourceTexts,
     report: &mut Report,
 ) -> Outcome {
-    walk(&files.bed, &mut texts, report, |report, item| {
-        lines.item(report, item)
-    })?;
+    let read = report::read(&files.bed, &mut texts, report, |report, item| {
+        lifter.item(report, item)
+    });
+    match read {
+        Err(trouble) if !trouble.is_of_input() => return Err(trouble),
+        // What was read is told, whatever came behind it.
+        _ => lifter.work_off(report)?,
+    }
+    read?;
+    report.summary(texts.passed_over, texts.foreign)?;
     if texts.foreign {
         report.sum_up("nothing is lifted")?;
         return Ok(Status::Refused);
@@ -60,7 +68,7 @@ fn lift(
         counts,
         mut outputs,
         ..
-    } = lines;
+    } = lifter.lines;
     counts.balanced(texts.lines, texts.passed_over)?;
     if let Some(summary) = &mut outputs.summary {
         summary.put(counts.table().as_bytes())?;

@@ -3,20 +3,18 @@
 
 use crate::args::Lifting;
 use crate::blocks::{self, Lifted};
-use crate::chains::Chains;
-use crate::choice::{chosen, Sent};
-use crate::counts::{Counts, Ended};
-use crate::input::{Item, Text};
+use crate::counts::{Bases, Counts, Ended};
 use crate::lift::Outputs;
 use crate::outcome::Trouble;
-use crate::part::Part;
 use crate::ratio::Ratio;
-use crate::report::{Report, Verdict};
+use crate::ready::{Line, Ready, Sent};
+use crate::report::Report;
+use crate::run::Runs;
+use crate::text::Text;
 use crate::why::Why;
 use tenderchock::{Bed, Refusal, Room, TEXT_LIMIT};
 
 pub struct Lines<'r> {
-    chains: &'r Chains,
     pub outputs: Outputs,
     options: &'r Lifting,
     pub counts: Counts,
@@ -24,9 +22,8 @@ pub struct Lines<'r> {
 }
 
 impl<'r> Lines<'r> {
-    pub fn new(chains: &'r Chains, outputs: Outputs, options: &'r Lifting) -> Lines<'r> {
+    pub fn new(outputs: Outputs, options: &'r Lifting) -> Lines<'r> {
         Lines {
-            chains,
             counts: Counts::new(outputs.has_summary()),
             outputs,
             options,
@@ -34,95 +31,63 @@ impl<'r> Lines<'r> {
         }
     }
 
-    pub fn item(&mut self, report: &mut Report, item: Item) -> Result<(), Trouble> {
-        match item {
-            Item::Text(text) => self.line(report, text),
-            Item::PassedOver(passed) if self.options.header && self.counts.is_empty() => {
-                self.outputs.out.put(passed.line)?;
-                self.outputs.out.put(b"\n")
-            }
-            Item::PassedOver(_) => Ok(()),
-        }
-    }
-
-    fn line(&mut self, report: &mut Report, text: &Text) -> Result<(), Trouble> {
-        let before = self.counts.tally;
-        let room = &mut self.room;
-        match text.judged(|bytes| Bed::parse_in(room, bytes)) {
-            Ok(bed) => {
-                let ended = match report.accept(text)? {
-                    Verdict::Taken => self.send(report, text, &bed)?,
-                    Verdict::Noted(note) => {
-                        let parts = blocks::parts(&bed, self.options);
-                        self.unmapped(&bed, text, &Why::Noted(note), bases(&parts))?
-                    }
-                };
-                self.counts.add(bed.chrom, &ended, before);
-            }
-            Err(refusal) => {
-                report.refuse(text, refusal)?;
+    /// A line whose turn has come; the answers for it are those of this run.
+    pub fn tell(&mut self, report: &mut Report, line: &Ready, run: &Runs) -> Result<(), Trouble> {
+        match line {
+            Ready::PassedOver(number) => report.note_passed_over(*number)?,
+            Ready::Refused(text, refusal) => {
+                report.refuse(text, *refusal)?;
                 // A file without a text has no line to put anywhere.
                 if !text.is_empty() {
-                    self.put_refused(text, refusal)?;
-                    self.counts.add(b"", &Ended::refused(), before);
+                    self.put_refused(text, *refusal)?;
+                    self.counts.add(b"", &Ended::refused());
                 }
+            }
+            Ready::Line(text, line) => {
+                report.accept(text)?;
+                let ended = self.line(report, text, line, run)?;
+                self.counts.add(line.bed.chrom, &ended);
             }
         }
         Ok(())
     }
 
-    /// Sends a line through its chains.
-    fn send(&mut self, report: &mut Report, text: &Text, bed: &Bed) -> Result<Ended, Trouble> {
-        let parts = blocks::parts(bed, self.options);
-        let named = self.chains.named(bed.chrom);
-        let sent = chosen(named, &parts, self.options.several)
-            .and_then(|sent| Ok((self.tally(&sent).map_err(Why::Refused)?, sent)));
-        let (not_sent, sent) = match sent {
-            Ok(sent) => sent,
-            Err(why) => return self.unmapped(bed, text, &why, bases(&parts)),
+    fn line(
+        &mut self,
+        report: &mut Report,
+        text: &Text,
+        line: &Line,
+        run: &Runs,
+    ) -> Result<Ended, Trouble> {
+        let bed = &line.bed;
+        let sent: Vec<Sent> = match &line.through {
+            Ok(chains) => chains
+                .iter()
+                .map(|one| run.sent(&line.parts, one))
+                .collect(),
+            Err(why) => return self.unmapped(bed, text, why, Bases::not_sent(&line.parts)),
         };
-        let mut through = Through::default();
-        for sent in &sent {
-            match blocks::lifted(bed, sent, self.options, &mut self.room) {
-                Ok(lifted) => through.lines.push(lifted),
-                Err(why) => through.not.push((sent, why)),
-            }
-        }
-        let notes = through.notes(bed.chrom);
-        match (through.not.first(), notes.first()) {
-            (Some((_, why)), _) if through.lines.is_empty() => {
+        let bases = Bases::of(&sent);
+        let came = Came::of(bed, &sent, self.options, &mut self.room);
+        let notes = came.notes(bed.chrom);
+        match (came.not.first(), notes.first()) {
+            (Some((_, why)), _) if came.lines.is_empty() => {
                 self.counts.near += u64::from(self.is_near(bed, &sent));
-                self.unmapped(bed, text, why, not_sent)
+                self.unmapped(bed, text, why, bases)
             }
             (_, Some(note)) if report.is_strict() => {
-                self.unmapped(bed, text, &Why::Noted(note.clone()), not_sent)
+                self.unmapped(bed, text, &Why::Noted(note.clone()), bases)
             }
             _ => {
                 let (number, _) = text.locate(0);
                 for note in &notes {
                     report.note(number, 1, note)?;
                 }
-                self.put_lifted(report, number, bed, &through.lines)?;
-                Ok(Ended::lifted(not_sent))
+                self.put_lifted(report, number, bed, &came.lines)?;
+                let unmapped = None;
+                Ok(Ended { unmapped, bases })
             }
         }
-    }
-
-    /// Tallies each part in each chain; answers the bases that the tally doesn't hold.
-    fn tally(&mut self, sent: &[Sent]) -> Result<u64, Refusal> {
-        let mut tally = self.counts.tally;
-        let mut not_sent = 0;
-        for sent in sent {
-            for (part, _) in &sent.parts {
-                match tally.add(&sent.chain.text, part.start, part.end) {
-                    Err(refusal) if refusal.number == 13 => not_sent += part.length(),
-                    Err(refusal) if refusal.number != 12 => return Err(refusal),
-                    _ => (),
-                }
-            }
-        }
-        self.counts.tally = tally;
-        Ok(not_sent)
     }
 
     /// Whether a line that isn't lifted would be if it had to keep liftOver's share.
@@ -164,10 +129,11 @@ impl<'r> Lines<'r> {
         bed: &Bed,
         text: &Text,
         why: &Why,
-        not_sent: u64,
+        bases: Bases,
     ) -> Result<Ended, Trouble> {
-        self.put_unmapped(&why.told(bed.chrom), &text.bytes)?;
-        Ok(Ended::unmapped(why.reason(), not_sent))
+        self.put_unmapped(&why.told(bed.chrom), text.bytes)?;
+        let unmapped = Some(why.reason());
+        Ok(Ended { unmapped, bases })
     }
 
     /// A line that is refused before it is sent. One over the text limit is cut.
@@ -179,7 +145,7 @@ impl<'r> Lines<'r> {
         let (number, (_, column)) = (refusal.number, text.locate(refusal.place));
         let meaning = refusal.meaning();
         let told = format!("refused by {number} at column {column}: {meaning}{cut}");
-        self.put_unmapped(&told, &text.bytes)
+        self.put_unmapped(&told, text.bytes)
     }
 
     fn put_unmapped(&mut self, told: &str, line: &[u8]) -> Result<(), Trouble> {
@@ -190,14 +156,25 @@ impl<'r> Lines<'r> {
     }
 }
 
-/// A line through its chains: the lifted lines, and where it isn't lifted.
+/// What a line came to in its chains: the lifted lines, and where it isn't lifted.
 #[derive(Default)]
-struct Through<'s> {
+struct Came<'s> {
     lines: Vec<Lifted>,
     not: Vec<(&'s Sent<'s>, Why)>,
 }
 
-impl Through<'_> {
+impl<'s> Came<'s> {
+    fn of(bed: &Bed, sent: &'s [Sent<'s>], options: &Lifting, room: &mut Room) -> Came<'s> {
+        let mut came = Came::default();
+        for sent in sent {
+            match blocks::lifted(bed, sent, options, room) {
+                Ok(lifted) => came.lines.push(lifted),
+                Err(why) => came.not.push((sent, why)),
+            }
+        }
+        came
+    }
+
     /// The notes on a line that is lifted; blocks left out are told elsewhere.
     fn notes(&self, chrom: &[u8]) -> Vec<String> {
         let not = self.not.iter().map(|(sent, why)| {
@@ -207,8 +184,4 @@ impl Through<'_> {
         let moved = self.lines.iter().flat_map(|lifted| &lifted.moved);
         not.chain(moved.cloned()).collect()
     }
-}
-
-fn bases(parts: &[Part]) -> u64 {
-    parts.iter().map(|part| part.length()).sum()
 }

@@ -5,11 +5,12 @@ use std::io::{self, BufRead, Write};
 use crate::args::{Input, Telling};
 use crate::explain::{self, Told};
 use crate::flood::{Flood, Sort};
-use crate::input::{Item, PassedOver, Text, Texts};
+use crate::input::{Item, Texts};
 use crate::notes;
 use crate::outcome::{Outcome, Status, Trouble};
 use crate::progress::Progress;
 use crate::source::Source;
+use crate::text::Text;
 use tenderchock::{Kind, Refusal};
 
 /// The report on one file.
@@ -28,8 +29,8 @@ pub struct Report<'w> {
 /// Whether a text that the library accepts is taken.
 pub enum Verdict {
     Taken,
-    /// A note counts as a refusal, this one.
-    Noted(String),
+    /// A note counts as a refusal.
+    Noted,
 }
 
 impl<'w> Report<'w> {
@@ -49,20 +50,14 @@ impl<'w> Report<'w> {
 
     /// Counts a text that the library accepts, and notes what looks odd.
     pub fn accept(&mut self, text: &Text) -> io::Result<Verdict> {
-        let mut noted = notes::of_text(self.kind, &text.bytes).into_iter();
-        let Some(first) = noted.next() else {
-            self.accepted += 1;
-            return Ok(Verdict::Taken);
-        };
-        let (line, column) = text.locate(first.place);
-        self.note(line, column, &first.told)?;
-        for more in noted {
-            let (line, column) = text.locate(more.place);
-            self.note(line, column, &more.told)?;
+        let notes = notes::of_text(self.kind, text.bytes);
+        for note in &notes {
+            let (line, column) = text.locate(note.place);
+            self.note(line, column, &note.told)?;
         }
-        if self.how.strict {
+        if self.how.strict && !notes.is_empty() {
             self.refused += 1;
-            return Ok(Verdict::Noted(first.told));
+            return Ok(Verdict::Noted);
         }
         self.accepted += 1;
         Ok(Verdict::Taken)
@@ -107,17 +102,10 @@ impl<'w> Report<'w> {
         self.tell(&told)
     }
 
-    /// A line passed over that may be a record is noted.
-    fn pass_over(&mut self, passed: &PassedOver) -> io::Result<()> {
-        if passed.noted {
-            self.refused += u64::from(self.how.strict);
-            self.note(
-                passed.number,
-                1,
-                "passed over; is it a record behind a `#`?",
-            )?;
-        }
-        Ok(())
+    /// A note on a line passed over that may be a record.
+    pub fn note_passed_over(&mut self, line: u64) -> io::Result<()> {
+        self.refused += u64::from(self.how.strict);
+        self.note(line, 1, "passed over; is it a record behind a `#`?")
     }
 
     /// Whether a note counts as a refusal.
@@ -125,12 +113,20 @@ impl<'w> Report<'w> {
         self.how.strict
     }
 
+    /// The note that an accepted text is refused for, before anything is told of it.
+    pub fn refusing_note(&self, text: &Text) -> Option<String> {
+        let notes = || notes::of_text(self.kind, text.bytes);
+        let first = self.how.strict.then(notes)?.into_iter().next();
+        first.map(|note| note.told)
+    }
+
     /// What is told so far goes out.
     pub fn flush(&mut self) -> io::Result<()> {
         self.out.flush()
     }
 
-    fn summary(&mut self, passed_over: u64, foreign: bool) -> io::Result<()> {
+    /// What was not told, and the counts.
+    pub fn summary(&mut self, passed_over: u64, foreign: bool) -> io::Result<()> {
         for rest in self.flood.rest(&self.file) {
             self.tell(&rest)?;
         }
@@ -189,15 +185,12 @@ pub fn file(
     input: &Input,
     source: Result<Source, Trouble>,
     report: &mut Report,
-    mut each: impl FnMut(&mut Report, &Text) -> Result<(), Trouble>,
+    each: impl FnMut(&mut Report, &Text) -> Result<(), Trouble>,
 ) -> Outcome {
     let walked = source.and_then(|source| {
         let texts = Texts::of(source, input.kind);
         let mut texts = texts.map_err(|error| Trouble::Input(input.name(), error))?;
-        walk(input, &mut texts, report, |report, item| match item {
-            Item::Text(text) => each(report, text),
-            Item::PassedOver(_) => Ok(()),
-        })
+        walk(input, &mut texts, report, each)
     });
     match walked {
         Err(trouble) if trouble.is_of_input() => {
@@ -210,25 +203,35 @@ pub fn file(
     }
 }
 
-/// Sends each text of a file to `each`, which accepts or refuses it, and each line
-/// that is passed over; then sums up.
+/// Sends each text of a file to `each`, which accepts or refuses it; then sums up.
 pub fn walk<R: BufRead>(
     input: &Input,
     texts: &mut Texts<R>,
     report: &mut Report,
-    mut each: impl FnMut(&mut Report, Item) -> Result<(), Trouble>,
+    mut each: impl FnMut(&mut Report, &Text) -> Result<(), Trouble>,
 ) -> Outcome {
+    read(input, texts, report, |report, item| match item {
+        Item::Text(text) => each(report, &text),
+        Item::PassedOver(passed) if passed.noted => Ok(report.note_passed_over(passed.number)?),
+        Item::PassedOver(_) => Ok(()),
+    })?;
+    report.summary(texts.passed_over, texts.foreign)?;
+    Ok(Status::of_refused(report.refused))
+}
+
+/// Sends each text of a file, and each line that is passed over, to `each`.
+pub fn read<R: BufRead>(
+    input: &Input,
+    texts: &mut Texts<R>,
+    report: &mut Report,
+    mut each: impl FnMut(&mut Report, Item) -> Result<(), Trouble>,
+) -> Result<(), Trouble> {
     loop {
         let next = texts.next();
         let Some(item) = next.map_err(|error| Trouble::Input(input.name(), error))? else {
-            break;
+            return Ok(());
         };
-        if let Item::PassedOver(passed) = &item {
-            report.pass_over(passed)?;
-        }
         each(report, item)?;
         report.progress.show(&report.file, texts.lines);
     }
-    report.summary(texts.passed_over, texts.foreign)?;
-    Ok(Status::of_refused(report.refused))
 }

@@ -10,7 +10,7 @@ const SIZE: (u64, u64) = (1, LIMIT);
 pub struct Chain {
     score: u64,
     t_name: Word,
-    t_size: u64,
+    pub(super) t_size: u64,
     t_start: u64,
     t_end: u64,
     q_name: Word,
@@ -19,7 +19,21 @@ pub struct Chain {
     q_start: u64,
     q_end: u64,
     id: u64,
-    block_count: usize,
+    pub(super) block_count: usize,
+}
+
+impl Chain {
+    /// A query region on the forward strand; what is none gives any numbers.
+    #[inline(always)]
+    pub(super) fn forward(&self, start: u64, end: u64) -> (u64, u64) {
+        match self.q_strand {
+            b'-' => (
+                self.q_size.wrapping_sub(end),
+                self.q_size.wrapping_sub(start),
+            ),
+            _ => (start, end),
+        }
+    }
 }
 
 impl Record for Chain {
@@ -80,7 +94,7 @@ impl Record for Chain {
     }
 }
 
-fn read_text(text: &[u8], rows: &mut Rows) -> Answer<Chain> {
+pub(super) fn read_text(text: &[u8], rows: &mut Rows) -> Answer<Chain> {
     check_text(text)?;
     let (mut chain, header_end) = read_header(text)?;
     let end = read_blocks(text, header_end, &mut chain, rows)?;
@@ -163,9 +177,6 @@ pub fn lift_region(text: &[u8], start: u64, end: u64, room: &mut Room) -> Answer
     let after = (last.target + last.size).saturating_sub(end);
     let kept = sizes - before - after;
     let (q_start, q_end) = (first.query + before, last.query + last.size - after);
-    let (q_start, q_end) = match chain.q_strand {
-        b'-' => (chain.q_size - q_end, chain.q_size - q_start),
-        _ => (q_start, q_end),
-    };
+    let (q_start, q_end) = chain.forward(q_start, q_end);
     Ok([kept, end - start - kept, q_start, q_end])
 }

@@ -2,6 +2,7 @@
 //! words, numbers read in place, no allocation. The checks and their order are
 //! the ledger's, and a refusal leaves the lent rows and bytes as they were.
 
+mod batch;
 mod bed;
 mod chain;
 mod numbers;
@@ -9,6 +10,7 @@ mod psl;
 mod standard;
 mod words;
 
+pub use batch::lift_batch;
 pub use bed::Bed;
 pub use chain::{lift_region, Chain};
 pub use numbers::{read as numbers, room as numbers_room, Numbers};
@@ -37,6 +39,7 @@ pub type Rows = [Row; BLOCK_LIMIT];
 /// Working room, used again for each text.
 pub struct Room {
     rows: Rows,
+    columns: batch::Columns,
     bytes: standard::Bytes,
 }
 
@@ -44,6 +47,7 @@ impl Room {
     pub fn new() -> Room {
         Room {
             rows: [Row::default(); BLOCK_LIMIT],
+            columns: batch::Columns::new(),
             bytes: [0; TEXT_LIMIT],
         }
     }

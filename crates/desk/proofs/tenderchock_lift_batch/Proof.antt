@@ -1,0 +1,29 @@
+-- Refused, or answered with the tally kept. Assumes nothing.
+use Rattle.desk.proofs.BatchLaws.{batch-refused, batch-told}
+use borrow.Author.Needs.{needs}
+use Rattle.desk.proofs.tenderchock_lift_batch.Statement.{statement}
+use Rattle.desk.proofs.tenderchock_lift_batch.Tie as tie
+
+returns : tie.Need-returns
+returns c = search batch-refused
+
+returns-2 : tie.Need-returns-2
+returns-2 c = search batch-told
+
+pub tenderchock-lift-batch-spec : {M : Type 1} → statement M
+tenderchock-lift-batch-spec =
+    tie.close
+    (tie.spec
+    (λ c κs. search needs)
+    (λ c κs. search needs)
+    (λ c. search needs)
+    (λ c κs. search needs)
+    (λ c. search needs)
+    (λ c κs. search needs)
+    (λ c κs. search needs)
+    (λ c. search needs)
+    (λ c. search needs)
+    returns
+    (λ c. search needs)
+    (λ c. search needs)
+    returns-2)
