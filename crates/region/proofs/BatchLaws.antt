@@ -27,8 +27,8 @@ use Rattle.region.specs.declared.Batched.{Batched}
 use Rattle.region.specs.Regions.{notLifted}
 use Rattle.region.specs.Reaches.{Found}
 use Rattle.region.specs.Tallies.{tallyStep, Sent, sentThrough}
-use Rattle.region.specs.Steps.{stepReady}
-use Rattle.region.specs.Batches.{answerRow, stepOf, answerRows, sentAs, sentIf, sentBatch, batchCheck, noRoom, refusedRows, AnsweredAll, BatchDone}
+use Rattle.region.specs.Steps.{stepReady, noRoom, refusedRows, AnsweredAll}
+use Rattle.region.specs.Batches.{answerRow, stepOf, answerRows, sentAs, sentIf, sentBatch, batchCheck, BatchDone}
 use Rattle.region.proofs.TallyLaws.{ready-step}
 
 -- ---- the ways out of `answer_row`

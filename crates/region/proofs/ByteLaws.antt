@@ -37,8 +37,8 @@ use Rattle.region.specs.declared.Tallied.{Tallied}
 use Rattle.region.specs.declared.Batched.{Batched}
 use Rattle.region.specs.Tallies.{tallyStep, Sent, sentThrough}
 use Rattle.region.specs.Reaches.{Found}
-use Rattle.region.specs.Steps.{stepReady}
-use Rattle.region.specs.Batches.{answerRow, stepOf, answerRows, sentAs, sentIf, noRoom, regionSize, rowSize, regionsFrom, regionsIn, rowsBytes, roomInBytes, sentBytes, sentText, textBatchCheck, RowsPut, TextBatch}
+use Rattle.region.specs.Steps.{stepReady, noRoom, RowsPut}
+use Rattle.region.specs.Batches.{answerRow, stepOf, answerRows, sentAs, sentIf, regionSize, rowSize, regionsFrom, regionsIn, rowsBytes, roomInBytes, sentBytes, sentText, textBatchCheck, TextBatch}
 use Rattle.region.proofs.TallyLaws.{ready-step}
 
 minus-none : (m : ℕ) → m - 0 ≡ m

@@ -4,10 +4,9 @@ use mathlib.Core.Path.{_≡_}
 use mathlib.Core.Bool.{Bool, true, false, _&&_}
 use mathlib.Core.List.{List, [], _∷_, _++_, map}
 use lib.ListN.{length, drop, getD}
-use lib.Seq.{sets}
 use lib.Dec.{leb, eqb}
 use Rattle.ledger.specs.declared.Row.{Row}
-use Rattle.ledger.specs.declared.Reason.the-variants.{BlockRules, NoRoom}
+use Rattle.ledger.specs.declared.Reason.the-variants.{NoRoom}
 use Rattle.ledger.specs.Reasons.{reasonNumber}
 use Rattle.text.specs.declared.Check.{Check}
 use Rattle.text.specs.declared.Check.the-variants as check
@@ -22,7 +21,6 @@ use Rattle.region.specs.declared.RegionAnswer.the-variants.{Lifted, Refu
 use Rattle.region.specs.declared.Tally.{Tally}
 use Rattle.region.specs.declared.Tallied.{Tallied}
 use Rattle.region.specs.declared.Batched.{Batched}
-use Rattle.region.specs.Regions.{notLifted}
 use Rattle.region.specs.Tallies.{tallyStep, Sent, sentThrough}
 
 -- A ROW of answers, five numbers: 0, kept, dropped, start and end of the query region; or the refusal's number and four zeros
@@ -112,22 +110,3 @@ pub record TextBatch (s : List ℕ) (t : Tally) (regions before after : List ℕ
   pub check : r .check ≡ textBatchCheck s regions (length before)
   pub tally : r .tally ≡ sentThrough t (sentText s regions (length before))
   pub answers : after ≡ rowsBytes (answerRows t (sentText s regions (length before))) ++ drop (length (rowsBytes (answerRows t (sentText s regions (length before))))) before
-
--- ---- steps of the code
-abbrev pub noRoom : Tally → Batched
-noRoom t = record { tally = t; check = require false NoRoom 0 check.Holds }
-
--- so many regions through no accepted chain
-unfoldable pub refusedRows : ℕ → List (List ℕ)
-refusedRows zero = []
-refusedRows (suc n) = answerRow (notLifted BlockRules) ∷ refusedRows n
-
--- all regions answered: the tally after them, and their rows before the rest
-pub record AnsweredAll (t : Tally) (c : Chain) (rows : List Row) (regions before after : List (List ℕ)) (u : Tally) : Type 0 where
-  pub tally : u ≡ sentThrough t (map (sentAs c rows) regions)
-  pub answers : after ≡ answerRows t (map (sentAs c rows) regions) ++ drop (length regions) before
-
--- the same on bytes, as far as they reach
-pub record RowsPut (t : Tally) (c : Chain) (rows : List Row) (regions before after : List ℕ) (u : Tally) : Type 0 where
-  pub tally : u ≡ sentThrough t (map (sentAs c rows) (regionsIn regions))
-  pub stored : after ≡ sets before 0 (rowsBytes (answerRows t (map (sentAs c rows) (regionsIn regions))))

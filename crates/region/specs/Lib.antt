@@ -2,5 +2,5 @@ pub mod Regions
 pub mod Reaches
 pub mod Searches
 pub mod Tallies
-pub mod Steps
 pub mod Batches
+pub mod Steps

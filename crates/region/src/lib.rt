@@ -18,8 +18,8 @@ ghost use Rattle.region.specs.Regions.{one, notLifted, liftRegion, textL
 ghost use Rattle.region.specs.Reaches.{lowOf, highOf, Reached, noReach, Found, answerOf};
 ghost use Rattle.region.specs.Searches.{Rising, LastBelow, BlockPast, Meets, SizesFrom, Summable, Summed, Layable, Laid, Indexed};
 ghost use Rattle.region.specs.Tallies.{goodTally, tallyStep};
-ghost use Rattle.region.specs.Steps.{admission, Growable, grownBy, stepReady};
-ghost use Rattle.region.specs.Batches.{answerRow, refusedRows, AnsweredAll, noRoom, BatchDone, regionSize, rowSize, roomInBytes, RowsPut, TextBatch};
+ghost use Rattle.region.specs.Steps.{admission, Growable, grownBy, stepReady, refusedRows, AnsweredAll, noRoom, RowsPut};
+ghost use Rattle.region.specs.Batches.{answerRow, BatchDone, regionSize, rowSize, roomInBytes, TextBatch};
 use chain::Chain;
 use chain::ChainAnswer;
 use ledger::Reason;

@@ -3,7 +3,7 @@ use mathlib.Core.Path.{_≡_}
 use mathlib.Core.List.{_++_}
 use Prim.Native.Nat.{_-_, _≤_}
 use lib.ListN.{length, take, drop, length-set}
-use Rattle.region.specs.Batches.{refusedRows}
+use Rattle.region.specs.Steps.{refusedRows}
 use Rattle.region.proofs.BatchLaws.{refused-first, refused-row, refused-next, refused-done}
 use borrow.Author.Needs.{needs}
 use Rattle.region.proofs.refuse_all.Statement.{statement}
