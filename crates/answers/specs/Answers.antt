@@ -1,7 +1,7 @@
 -- What an entry for another language answers (docs/DESK.md, "Answers"), and what the lent bytes hold then.
 use Prim.Native.Nat.{ℕ, _+_, _*_, min}
 use mathlib.Core.Path.{_≡_}
-use mathlib.Core.Bool.{Bool, true, false}
+use mathlib.Core.Bool.{cond}
 use mathlib.Core.List.{List, [], _++_}
 use lib.ListN.{length, drop}
 use lib.Dec.{leb}
@@ -39,10 +39,6 @@ refuses x = record { answer = refusalCode x; bytes = [] }
 abbrev pub refusesBy : Reason → ℕ → Outcome
 refusesBy why place = refuses (record { reason = why; place = place })
 
-abbrev pub pickOutcome : Bool → Outcome → Outcome → Outcome
-pickOutcome true a b = a
-pickOutcome false a b = b
-
 -- what an entry promises of its answer and of what was lent to it
 pub record Answered (o : Outcome) (before after : List ℕ) (r : ℕ) : Type 0 where
   pub is : r ≡ o .answer
@@ -50,7 +46,7 @@ pub record Answered (o : Outcome) (before after : List ℕ) (r : ℕ) : Type 0 w
 
 -- bytes into so much room, or 11 at the text's end
 unfoldable pub roomed : ℕ → ℕ → ℕ → List ℕ → Outcome
-roomed end room count bytes = pickOutcome (leb (length bytes) room) (gives count bytes) (refusesBy NoRoom end)
+roomed end room count bytes = cond (leb (length bytes) room) (gives count bytes) (refusesBy NoRoom end)
 
 -- numbers, 8 bytes each, the lowest first; the count is how many
 unfoldable pub numbered : ℕ → ℕ → List ℕ → Outcome

@@ -1,6 +1,6 @@
 -- Writing a BED record: what each stage shows, on plain values. Assumes nothing.
 use mathlib.Core.Path.{_≡_, refl, sym, _∙_}
-use mathlib.Core.Bool.{Bool, true, false}
+use mathlib.Core.Bool.{Bool, true, false, cond}
 use mathlib.Core.List.{List}
 use Prim.Native.Nat.{ℕ, _-_, _*_, _≤_, min}
 use native.Mathlib.Omega.{arith}
@@ -29,7 +29,7 @@ use Rattle.blocks.specs.Blocks.{rowsOf, subtracted, rowNumbersFit}
 use Rattle.bed.specs.declared.Bed.{Bed}
 use Rattle.bed.specs.Table.{bedColumns}
 use Rattle.bed.specs.Records.{isWordCount}
-use Rattle.bed.specs.Tests.{pickTest, ifThere, namesFit, fieldsFit, strandFits}
+use Rattle.bed.specs.Tests.{ifThere, namesFit, fieldsFit, strandFits}
 use Rattle.bed.specs.Write.{namesShow, writeCheck, bedWords, bedText, bedValues, bedWrite, BedWrote, RowsThere, ListsPut, Writable}
 use Rattle.bed.proofs.ColumnLaws.{bedCodes, codes-same, codes-few, count-most}
 use Rattle.columns.specs.Names.{NamesPut, namesIn, lengthFits}
@@ -88,7 +88,7 @@ module _ (r : Bed) (chrom name ts zs : List ℕ) (w : Writable r chrom name ts z
 name-short : (n m : ℕ) → ifThere n 3 (lengthFits m) (eqb m 0) ≡ true → m ≤ nameLimit
 name-short n m h = go (ltb 3 n) h
   where
-    go : (t : Bool) → pickTest t (lengthFits m) (eqb m 0) ≡ true → m ≤ nameLimit
+    go : (t : Bool) → cond t (lengthFits m) (eqb m 0) ≡ true → m ≤ nameLimit
     go true k = leb-true m nameLimit (both (leb 1 m) (leb m nameLimit) k .1)
     go false k = omega (arith, eqb-true m 0 k)
 

@@ -1,7 +1,7 @@
 -- Reading a BED line: the checks in the ledger's order. Each stage names what is tested from there on; the last one, `bedRead`, is the reader.
 use Prim.Native.Nat.{ℕ, _-_, _*_, _≤_, _<_}
 use mathlib.Core.Path.{_≡_}
-use mathlib.Core.Bool.{Bool, true, _&&_}
+use mathlib.Core.Bool.{Bool, true, _&&_, cond}
 use mathlib.Core.List.{List}
 use lib.ListN.{length, take, drop, getD, set}
 use lib.Seq.{sets}
@@ -24,7 +24,7 @@ use Rattle.bed.specs.declared.Sure.{Sure}
 use Rattle.bed.specs.declared.BedAnswer.{BedAnswer}
 use Rattle.bed.specs.declared.BedAnswer.the-variants.{Accepted, Refused}
 use Rattle.bed.specs.Table.{bedColumns}
-use Rattle.bed.specs.Records.{isWordCount, pickNumber, pickList, bedRecord, bedSizes, bedStarts, bedTargets, bedQueries}
+use Rattle.bed.specs.Records.{isWordCount, bedRecord, bedSizes, bedStarts, bedTargets, bedQueries}
 
 -- where a check holds go on, else stop with its refusal
 abbrev pub thenCheck : Check → BedAnswer → BedAnswer
@@ -44,7 +44,7 @@ abbrev pub thickFits : Bed → Bool
 thickFits r = leb (r .chromStart) (r .thickStart) && (leb (r .thickStart) (r .thickEnd) && leb (r .thickEnd) (r .chromEnd))
 
 abbrev pub thickPlace : ℕ → List ℕ → ℕ
-thickPlace n vs = pickNumber (leb 8 n) (getD vs 15 0) (getD vs 13 0)
+thickPlace n vs = cond (leb 8 n) (getD vs 15 0) (getD vs 13 0)
 
 -- the spans (7): chromStart < chromEnd, at chromEnd; then the thick span, at thickEnd, or with 7 words at thickStart
 unfoldable pub spanCheck : Bed → List ℕ → Check
@@ -102,7 +102,7 @@ pub record BedRead (s ts ts′ qs qs′ zs zs′ : List ℕ) (r : BedAnswer) : T
 
 -- working room for two lists of b numbers each: with the one block of a line without block columns
 abbrev pub withDefault : ℕ → Bed → List ℕ → List ℕ
-withDefault b r lists = pickList (eqb (r .words) 12) lists (set (set lists 0 (r .chromEnd - r .chromStart)) b 0)
+withDefault b r lists = cond (eqb (r .words) 12) lists (set (set lists 0 (r .chromEnd - r .chromStart)) b 0)
 
 -- it holds the lists of the block columns: sizes at its front, starts after the room for b numbers
 pub record Listed (b : ℕ) (s : List ℕ) (r : Bed) (lists : List ℕ) : Type 0 where

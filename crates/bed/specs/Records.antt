@@ -1,6 +1,6 @@
 -- The record of a BED line: what its columns say, and what columns left out hold.
 use Prim.Native.Nat.{ℕ, _+_, _-_, _*_}
-use mathlib.Core.Bool.{Bool, true, false, _&&_, _||_}
+use mathlib.Core.Bool.{Bool, _&&_, _||_, cond}
 use mathlib.Core.List.{List, [], _∷_}
 use lib.ListN.{getD}
 use lib.Dec.{leb, ltb, eqb}
@@ -18,16 +18,12 @@ use Rattle.bed.specs.declared.Bed.{Bed}
 abbrev pub isWordCount : ℕ → Bool
 isWordCount n = leb 3 n && (leb n 9 || eqb n 12)
 
-abbrev pub pickNumber : Bool → ℕ → ℕ → ℕ
-pickNumber true a b = a
-pickNumber false a b = b
-
 -- the values of a reader: two numbers a column, its value and where its word starts. Of a column left out, past the n words, a default
 abbrev pub valueOr : ℕ → List ℕ → ℕ → ℕ → ℕ
-valueOr n vs k d = pickNumber (ltb k n) (getD vs (2 * k) 0) d
+valueOr n vs k d = cond (ltb k n) (getD vs (2 * k) 0) d
 
 abbrev pub placeOr : ℕ → List ℕ → ℕ → ℕ → ℕ
-placeOr n vs k d = pickNumber (ltb k n) (getD vs (2 * k + 1) 0) d
+placeOr n vs k d = cond (ltb k n) (getD vs (2 * k + 1) 0) d
 
 -- the record of a line of n words whose columns hold vs, in a text of a length. Left out: an empty name at the text's end, score 0, strand `.`, thick the
 -- whole span, colour 0, one block
@@ -46,16 +42,12 @@ bedRecord n len vs = record {
   blockCount = valueOr n vs 9 1;
 }
 
-abbrev pub pickList : Bool → List ℕ → List ℕ → List ℕ
-pickList true a b = a
-pickList false a b = b
-
 -- the sizes and the starts of the blocks, from chromStart on; where the block columns are left out, one block, the span
 unfoldable pub bedSizes : List ℕ → Bed → List ℕ
-bedSizes s r = pickList (eqb (r .words) 12) (valuesOf (bytesOf s (wordAt s 0 10))) ((r .chromEnd - r .chromStart) ∷ [])
+bedSizes s r = cond (eqb (r .words) 12) (valuesOf (bytesOf s (wordAt s 0 10))) ((r .chromEnd - r .chromStart) ∷ [])
 
 unfoldable pub bedStarts : List ℕ → Bed → List ℕ
-bedStarts s r = pickList (eqb (r .words) 12) (valuesOf (bytesOf s (wordAt s 0 11))) (0 ∷ [])
+bedStarts s r = cond (eqb (r .words) 12) (valuesOf (bytesOf s (wordAt s 0 11))) (0 ∷ [])
 
 -- the rows: chromStart plus block start; the sum of the earlier sizes; the size
 unfoldable pub bedTargets : List ℕ → Bed → List ℕ

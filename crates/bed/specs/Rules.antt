@@ -2,10 +2,9 @@
 use Prim.Native.Nat.{ℕ, suc, _-_, _*_, _≤_, _<_}
 use mathlib.Core.Path.{_≡_}
 use mathlib.Core.List.{List, [], _∷_}
-use mathlib.Core.Bool.{Bool, true, false}
+use mathlib.Core.Bool.{cond}
 use lib.Dec.{ltb}
 use lib.ListN.{length, take, getD}
-use Rattle.ledger.specs.declared.Part.{Part}
 use Rattle.ledger.specs.declared.Strand.the-variants.{Dot}
 use Rattle.ledger.specs.Limits.{textLimit, nameLimit, blockLimit, largestPosition, bedScoreLimit, colourLimit}
 use Rattle.ledger.specs.Strands.{strandLetter}
@@ -124,10 +123,6 @@ named r chrom name = record {
   blockCount = r .blockCount;
 }
 
-abbrev pub pickPart : Bool → Part → Part → Part
-pickPart true a b = a
-pickPart false a b = b
-
 -- the record with its names where they stand in a text: what the reader makes of the record's standard text
 unfoldable pub placed : List ℕ → Bed → Bed
 placed s r = record {
@@ -135,7 +130,7 @@ placed s r = record {
   chrom = partOf (wordAt s 0 0);
   chromStart = r .chromStart;
   chromEnd = r .chromEnd;
-  name = pickPart (ltb 3 (r .words)) (partOf (wordAt s 0 3)) (record { start = length s; length = 0 });
+  name = cond (ltb 3 (r .words)) (partOf (wordAt s 0 3)) (record { start = length s; length = 0 });
   score = r .score;
   strand = r .strand;
   thickStart = r .thickStart;

@@ -1,6 +1,6 @@
 -- The rules of a BED record with its rows, as tests. The record checker asks for all of them; the writer asks for them in its order.
 use Prim.Native.Nat.{ℕ, suc, _*_}
-use mathlib.Core.Bool.{Bool, true, false, _&&_}
+use mathlib.Core.Bool.{Bool, true, false, _&&_, cond}
 use mathlib.Core.List.{List}
 use lib.ListN.{length, take}
 use lib.Dec.{leb, ltb, eqb}
@@ -13,13 +13,9 @@ use Rattle.bed.specs.Records.{isWordCount}
 use Rattle.bed.specs.Read.{thickFits}
 use Rattle.columns.specs.Names.{lengthFits}
 
-abbrev pub pickTest : Bool → Bool → Bool → Bool
-pickTest true a b = a
-pickTest false a b = b
-
 -- of column k, counted from 0: a test where it is there, and another where it is left out, past the word count
 abbrev pub ifThere : ℕ → ℕ → Bool → Bool → Bool
-ifThere n k there left = pickTest (ltb k n) there left
+ifThere n k there left = cond (ltb k n) there left
 
 -- the two names by their lengths; a name left out is empty
 unfoldable pub namesFit : ℕ → ℕ → ℕ → Bool

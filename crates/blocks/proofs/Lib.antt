@@ -3,3 +3,6 @@ pub mod GapLaws
 pub mod RuleLaws
 pub mod TakeLaws
 pub mod TableLaws
+pub mod UseLaws
+pub mod StrandLaws
+pub mod StoreLaws

@@ -1,3 +1,5 @@
 pub mod Blocks
 pub mod Rules
 pub mod Rows
+pub mod Strands
+pub mod Readers

@@ -2,7 +2,8 @@
 use Prim.Native.Nat.{ℕ, _+_, _-_, _≤_, _<_}
 use mathlib.Core.Path.{_≡_}
 use mathlib.Core.List.{List}
-use lib.ListN.{getD}
+use lib.ListN.{length, getD}
+use Rattle.ledger.specs.Limits.{blockLimit, largestPosition}
 
 -- n blocks with starts ss and sizes zs fill the span from first to last
 pub record Fills (first last n : ℕ) (ss zs : List ℕ) : Type 0 where
@@ -20,3 +21,14 @@ pub record Sums (n : ℕ) (qs zs : List ℕ) : Type 0 where
 pub record Ranged (least most n : ℕ) (vs : List ℕ) : Type 0 where
   pub low : (i : ℕ) → i < n → least ≤ getD vs i 0
   pub high : (i : ℕ) → i < n → getD vs i 0 ≤ most
+
+-- the first n rows of three slices are in use: what the records of all formats share
+pub record RowsInUse (n : ℕ) (ts qs zs : List ℕ) : Type 0 where
+  pub someBlock : 1 ≤ n
+  pub fewBlocks : n ≤ blockLimit
+  pub targetRows : n ≤ length ts
+  pub queryRows : n ≤ length qs
+  pub sizeRows : n ≤ length zs
+  pub targetRange : Ranged 0 largestPosition n ts
+  pub queryRange : Ranged 0 largestPosition n qs
+  pub sizeRange : Ranged 1 largestPosition n zs

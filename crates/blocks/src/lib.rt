@@ -5,21 +5,16 @@ ghost use lib.ListN.{length, take};
 ghost use lib.Seq.{sets};
 ghost use Rattle.ledger.specs.Limits.{blockLimit, largestNumber};
 ghost use Rattle.blocks.specs.Blocks.{blocksFill, areSums, sumsWithin, shiftedWithin, subtracted, capped, sumOf, gapCount, gapBases, allBetween, rowNumbersFit, spanFits, countFits, rowsOf};
-
-// How many of the first so many rows a slice of some length has.
-fn reach(len: usize, count: usize) -> usize
-    ensures { λ r. ⌜ r ≡ min count len ⌝ }
-{
-    if len < count { len } else { count }
-}
+ghost use Rattle.blocks.specs.Strands.{strandStart, strandEnd};
+use ledger::Strand;
 
 // Whether the first so many blocks fill the span from first to last: in order, touching allowed. Where one slice ends before
 // the other, they do not.
 pub fn blocks_fill(starts: &[u64], sizes: &[u64], count: usize, first: u64, last: u64) -> bool
     ensures { λ r. ⌜ r ≡ blocksFill first last (take count (now (starts .entry))) (take count (now (sizes .entry))) ⌝ }
 {
-    let n = reach(starts.len(), count);
-    if reach(sizes.len(), count) != n {
+    let n = ledger::least(count, starts.len());
+    if ledger::least(count, sizes.len()) != n {
         return false;
     }
     if n == 0 {
@@ -53,8 +48,8 @@ pub fn blocks_fill(starts: &[u64], sizes: &[u64], count: usize, first: u64, last
 pub fn are_sums(queries: &[u64], sizes: &[u64], count: usize) -> bool
     ensures { λ r. ⌜ r ≡ areSums 0 (take count (now (queries .entry))) (take count (now (sizes .entry))) ⌝ }
 {
-    let n = reach(queries.len(), count);
-    if reach(sizes.len(), count) != n {
+    let n = ledger::least(count, queries.len());
+    if ledger::least(count, sizes.len()) != n {
         return false;
     }
     if n == 0 {
@@ -85,7 +80,7 @@ pub fn are_sums(queries: &[u64], sizes: &[u64], count: usize) -> bool
 pub fn all_between(values: &[u64], count: usize, least: u64, most: u64) -> bool
     ensures { λ r. ⌜ r ≡ allBetween least most (take count (now (values .entry))) ⌝ }
 {
-    let n = reach(values.len(), count);
+    let n = ledger::least(count, values.len());
     let mut i = 0;
     while i < n {
         if values[i] < least {
@@ -120,8 +115,8 @@ pub fn span_fits(start: u64, end: u64, size: u64) -> bool
 pub fn copy_numbers(from: &[u64], count: usize, to: &mut [u64])
     ensures { λ _. ⌜ now (to .exit) ≡ sets (now (to .entry)) 0 (take count (now (from .entry))) ⌝ }
 {
-    let n = reach(from.len(), count);
-    let m = reach(to.len(), n);
+    let n = ledger::least(count, from.len());
+    let m = ledger::least(n, to.len());
     let mut i = 0;
     while i < m {
         to[i] = from[i];
@@ -134,7 +129,7 @@ pub fn copy_numbers(from: &[u64], count: usize, to: &mut [u64])
 pub fn put_sums(sizes: &[u64], count: usize, to: &mut [u64])
     ensures { λ _. ⌜ now (to .exit) ≡ sets (now (to .entry)) 0 (sumsWithin largestNumber 0 (take count (now (sizes .entry)))) ⌝ }
 {
-    let n = reach(sizes.len(), count);
+    let n = ledger::least(count, sizes.len());
     let mut sum: u64 = 0;
     let mut i = 0;
     while i < n {
@@ -152,7 +147,7 @@ pub fn put_sums(sizes: &[u64], count: usize, to: &mut [u64])
 pub fn put_shifted(from: &[u64], count: usize, by: u64, to: &mut [u64])
     ensures { λ _. ⌜ now (to .exit) ≡ sets (now (to .entry)) 0 (shiftedWithin largestNumber by (take count (now (from .entry)))) ⌝ }
 {
-    let n = reach(from.len(), count);
+    let n = ledger::least(count, from.len());
     let mut i = 0;
     while i < n {
         let x = from[i];
@@ -161,6 +156,28 @@ pub fn put_shifted(from: &[u64], count: usize, by: u64, to: &mut [u64])
         }
         numbers::store(to, i, by + x);
         i += 1;
+    }
+}
+
+// Where a span starts, and ends, that is told on a strand of a sequence of some size: on the forward strand it is told as
+// it is, on the other by its distance from the far end. The same conversion leads back.
+pub fn strand_start(strand: Strand, size: u64, start: u64, end: u64) -> u64
+    ensures { λ r. ⌜ r ≡ strandStart strand size start end ⌝ }
+{
+    match strand {
+        Strand::Plus => start,
+        Strand::Minus => less(size, end),
+        Strand::Dot => start,
+    }
+}
+
+pub fn strand_end(strand: Strand, size: u64, start: u64, end: u64) -> u64
+    ensures { λ r. ⌜ r ≡ strandEnd strand size start end ⌝ }
+{
+    match strand {
+        Strand::Plus => end,
+        Strand::Minus => less(size, start),
+        Strand::Dot => end,
     }
 }
 
@@ -175,7 +192,7 @@ pub fn less(x: u64, by: u64) -> u64
 pub fn put_subtracted(from: &[u64], count: usize, by: u64, to: &mut [u64])
     ensures { λ _. ⌜ now (to .exit) ≡ sets (now (to .entry)) 0 (subtracted by (take count (now (from .entry)))) ⌝ }
 {
-    let n = reach(from.len(), count);
+    let n = ledger::least(count, from.len());
     let mut i = 0;
     while i < n {
         numbers::store(to, i, less(from[i], by));
@@ -232,7 +249,7 @@ fn add(a: u64, b: u64) -> u64
 pub fn sum_of(values: &[u64], count: usize) -> u64
     ensures { λ r. ⌜ r ≡ capped (sumOf (take count (now (values .entry)))) ⌝ }
 {
-    let n = reach(values.len(), count);
+    let n = ledger::least(count, values.len());
     let mut sum: u64 = 0;
     let mut i = 0;
     while i < n {
@@ -263,7 +280,7 @@ fn one(gap: u64) -> u64
 pub fn gap_count(starts: &[u64], sizes: &[u64], count: usize) -> u64
     ensures { λ r. ⌜ r ≡ gapCount (take count (now (starts .entry))) (take count (now (sizes .entry))) ⌝ }
 {
-    let n = reach(starts.len(), reach(sizes.len(), count));
+    let n = ledger::least(ledger::least(count, sizes.len()), starts.len());
     if n == 0 {
         return 0;
     }
@@ -285,7 +302,7 @@ pub fn gap_count(starts: &[u64], sizes: &[u64], count: usize) -> u64
 pub fn gap_bases(starts: &[u64], sizes: &[u64], count: usize) -> u64
     ensures { λ r. ⌜ r ≡ capped (gapBases (take count (now (starts .entry))) (take count (now (sizes .entry)))) ⌝ }
 {
-    let n = reach(starts.len(), reach(sizes.len(), count));
+    let n = ledger::least(ledger::least(count, sizes.len()), starts.len());
     if n == 0 {
         return 0;
     }

@@ -1,6 +1,6 @@
 -- The bytes of the answers.
 use Prim.Native.Nat.{ℕ, zero, suc, _+_, min}
-use mathlib.Core.Bool.{Bool, true, false}
+use mathlib.Core.Bool.{Bool, true, false, cond}
 use mathlib.Core.List.{List, [], _∷_, _++_}
 use lib.ListN.{length, getD, take}
 use lib.Dec.{eqb}
@@ -14,7 +14,7 @@ use Rattle.text.specs.declared.Check.the-variants.{Holds}
 use Rattle.text.specs.declared.Check.the-variants as check
 use Rattle.writing.specs.declared.Writing.{Writing}
 use Rattle.writing.specs.declared.Writing.the-variants.{Written, Refused}
-use Rattle.writing.specs.Digits.{digits, pickBytes}
+use Rattle.writing.specs.Digits.{digits}
 
 -- a label and a number
 abbrev pub labelled : List ℕ → ℕ → List ℕ
@@ -64,7 +64,7 @@ spacedText (v ∷ vs) = labelled (32 ∷ []) v ++ spacedText vs
 
 -- a tab or a line feed by its escape, any other byte as it is
 unfoldable pub shownByte : ℕ → List ℕ
-shownByte b = pickBytes (eqb b 9) (92 ∷ 116 ∷ []) (pickBytes (eqb b 10) (92 ∷ 110 ∷ []) (b ∷ []))
+shownByte b = cond (eqb b 9) (92 ∷ 116 ∷ []) (cond (eqb b 10) (92 ∷ 110 ∷ []) (b ∷ []))
 
 unfoldable pub shownText : List ℕ → List ℕ
 shownText [] = []

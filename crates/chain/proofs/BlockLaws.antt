@@ -1,6 +1,6 @@
 -- From the table of a block line's columns to its numbers. Assumes nothing.
 use mathlib.Core.Path.{_≡_, refl, sym, _∙_}
-use mathlib.Core.Bool.{Bool, true, false, _||_}
+use mathlib.Core.Bool.{Bool, true, false, _||_, cond}
 use mathlib.Core.List.{List, [], _∷_, map}
 use Prim.Native.Nat.{ℕ, zero, suc, _*_, _≤_}
 use native.Mathlib.Omega.{arith}
@@ -32,7 +32,7 @@ use Rattle.chain.specs.declared.Block.the-variants.{Last, Gap}
 use Rattle.chain.specs.declared.Block.the-variants as block
 use Rattle.chain.specs.Table.{blockColumns}
 use Rattle.chain.specs.Records.{lineValues, sizeAt, targetGap, queryGap}
-use Rattle.chain.specs.Read.{isBlockCount, blockWords, limitCheck, firstOf, lineCheck, blockOne, pickBlock, checkBlock, readBlock, blockIs, blockNumbers, blockLine, blockSize, blockTargetGap, blockQueryGap, LineCounted, NumbersRead, BlockRead}
+use Rattle.chain.specs.Read.{isBlockCount, blockWords, limitCheck, firstOf, lineCheck, blockOne, checkBlock, readBlock, blockIs, blockNumbers, blockLine, blockSize, blockTargetGap, blockQueryGap, LineCounted, NumbersRead, BlockRead}
 use Rattle.columns.proofs.TableLaws as table
 use Rattle.text.proofs.CheckLaws.{words-hold}
 
@@ -151,15 +151,15 @@ module _ (s : List ℕ) (line n : ℕ) (counted : LineCounted s line n) (b′ d 
     abbrev us : List ℕ
     us = valuesFrom (take n blockColumns) 0 s line
 
-    size-in : (t : Bool) → getD us 0 0 ≤ largestPosition → blockSize (pickBlock t (Last (getD us 0 0)) (Gap (getD us 0 0) (getD us 2 0) (getD us 4 0))) ≤ largestPosition
+    size-in : (t : Bool) → getD us 0 0 ≤ largestPosition → blockSize (cond t (Last (getD us 0 0)) (Gap (getD us 0 0) (getD us 2 0) (getD us 4 0))) ≤ largestPosition
     size-in true h = h
     size-in false h = h
 
-    target-in : (t : Bool) → getD us 2 0 ≤ largestPosition → blockTargetGap (pickBlock t (Last (getD us 0 0)) (Gap (getD us 0 0) (getD us 2 0) (getD us 4 0))) ≤ largestPosition
+    target-in : (t : Bool) → getD us 2 0 ≤ largestPosition → blockTargetGap (cond t (Last (getD us 0 0)) (Gap (getD us 0 0) (getD us 2 0) (getD us 4 0))) ≤ largestPosition
     target-in true h = omega arith
     target-in false h = h
 
-    query-in : (t : Bool) → getD us 4 0 ≤ largestPosition → blockQueryGap (pickBlock t (Last (getD us 0 0)) (Gap (getD us 0 0) (getD us 2 0) (getD us 4 0))) ≤ largestPosition
+    query-in : (t : Bool) → getD us 4 0 ≤ largestPosition → blockQueryGap (cond t (Last (getD us 0 0)) (Gap (getD us 0 0) (getD us 2 0) (getD us 4 0))) ≤ largestPosition
     query-in true h = omega arith
     query-in false h = h
 
@@ -259,7 +259,7 @@ module _ (s : List ℕ) (line : ℕ) where
   unfolding blockLine blockNumbers sizeAt targetGap queryGap lineValues
   gap-holds z dt dq e = go (blockWords s line (wordCount s line)) (columnsFrom (take (wordCount s line) blockColumns) 0 s line) (eqb (wordCount s line) 1) e
     where
-      go : (c : Check) (d : Columns) (t : Bool) → checkBlock c (readBlock d (pickBlock t (Last (getD (vals s line) 0 0)) (Gap (getD (vals s line) 0 0) (getD (vals s line) 2 0) (getD (vals s line) 4 0)))) ≡ Gap z dt dq → (getD (vals s line) 0 0 ≡ z) × (getD (vals s line) 2 0 ≡ dt) × (getD (vals s line) 4 0 ≡ dq)
+      go : (c : Check) (d : Columns) (t : Bool) → checkBlock c (readBlock d (cond t (Last (getD (vals s line) 0 0)) (Gap (getD (vals s line) 0 0) (getD (vals s line) 2 0) (getD (vals s line) 4 0)))) ≡ Gap z dt dq → (getD (vals s line) 0 0 ≡ z) × (getD (vals s line) 2 0 ≡ dt) × (getD (vals s line) 4 0 ≡ dq)
       go Holds (Next f) false k = (cc, cc, cc)
       go Holds (Next f) true k = absurd (let q : _≡_ {A = ℕ} 0 1 = cc in omega arith)
       go Holds (columns.Refused x) t k = absurd (let q : _≡_ {A = ℕ} 0 1 = cc in omega arith)
@@ -269,7 +269,7 @@ module _ (s : List ℕ) (line : ℕ) where
   unfolding blockLine blockNumbers sizeAt lineValues
   last-holds z e = go (blockWords s line (wordCount s line)) (columnsFrom (take (wordCount s line) blockColumns) 0 s line) (eqb (wordCount s line) 1) e
     where
-      go : (c : Check) (d : Columns) (t : Bool) → checkBlock c (readBlock d (pickBlock t (Last (getD (vals s line) 0 0)) (Gap (getD (vals s line) 0 0) (getD (vals s line) 2 0) (getD (vals s line) 4 0)))) ≡ Last z → getD (vals s line) 0 0 ≡ z
+      go : (c : Check) (d : Columns) (t : Bool) → checkBlock c (readBlock d (cond t (Last (getD (vals s line) 0 0)) (Gap (getD (vals s line) 0 0) (getD (vals s line) 2 0) (getD (vals s line) 4 0)))) ≡ Last z → getD (vals s line) 0 0 ≡ z
       go Holds (Next f) true k = cc
       go Holds (Next f) false k = absurd (let q : _≡_ {A = ℕ} 0 1 = cc in omega arith)
       go Holds (columns.Refused x) t k = absurd (let q : _≡_ {A = ℕ} 0 1 = cc in omega arith)

@@ -1,6 +1,6 @@
 -- Block lines: what one says where it is read, and that it is read where it says so; then the walk over all of them. Assumes nothing.
 use mathlib.Core.Path.{_≡_, refl, sym, ap, _∙_}
-use mathlib.Core.Bool.{Bool, true, false}
+use mathlib.Core.Bool.{Bool, true, false, cond}
 use mathlib.Core.List.{List, [], _∷_}
 use Prim.Native.Nat.{ℕ, zero, suc, _+_, _-_, _≤_, _<_}
 use native.Mathlib.Omega.{arith}
@@ -35,7 +35,7 @@ use Rattle.chain.specs.declared.Lines.the-variants.{Ended}
 use Rattle.chain.specs.declared.Lines.the-variants as lines
 use Rattle.chain.specs.Table.{blockColumns}
 use Rattle.chain.specs.Records.{targetsFrom, queriesFrom, sizesFrom}
-use Rattle.chain.specs.Read.{blockWords, checkBlock, readBlock, blockIs, blockNumbers, blockLine, pickLines, thenBlock, endingAt, linesFrom}
+use Rattle.chain.specs.Read.{blockWords, checkBlock, readBlock, blockIs, blockNumbers, blockLine, thenBlock, endingAt, linesFrom}
 use Rattle.chain.specs.Rules.{BlockLines, last-line, more-lines}
 use Rattle.chain.proofs.BlockLaws.{count-split, words-good, gap-holds, last-holds}
 use Rattle.chain.proofs.WalkLaws.{from-last, from-gap}
@@ -178,13 +178,13 @@ pub walk-says : (s : List ℕ) (k : ℕ) → k ≤ blockLimit → (line t q : �
 unfolding linesFrom
 walk-says s zero fits line t q e w l = absurd (go (ltb line (length s)) _ _ w)
   where
-    go : (b : Bool) (x y : Refusal) → pickLines b (lines.Refused x) (lines.Refused y) ≡ Ended e → ⊥
+    go : (b : Bool) (x y : Refusal) → cond b (lines.Refused x) (lines.Refused y) ≡ Ended e → ⊥
     go true x y k = let z : _≡_ {A = ℕ} 0 1 = cc in omega arith
     go false x y k = let z : _≡_ {A = ℕ} 0 1 = cc in omega arith
 walk-says s (suc k) fits line t q e w l = go (ltb line (length s)) (blockLine s line) _ refl refl w (λ z dt dq v. walk-says s k (omega arith) (nextLine s line) (t + z + dt) (q + z + dq) e v l)
   where
     go : (b : Bool) (x : Block) (y : Refusal) → ltb line (length s) ≡ b → blockLine s line ≡ x
-        → pickLines b (thenBlock x (λ z. Ended (endingAt line (blockLimit - k) (t + z) (q + z))) (λ z dt dq. linesFrom k s (nextLine s line) (t + z + dt) (q + z + dq))) (lines.Refused y) ≡ Ended e
+        → cond b (thenBlock x (λ z. Ended (endingAt line (blockLimit - k) (t + z) (q + z))) (λ z dt dq. linesFrom k s (nextLine s line) (t + z + dt) (q + z + dq))) (lines.Refused y) ≡ Ended e
         → ((z dt dq : ℕ) → linesFrom k s (nextLine s line) (t + z + dt) (q + z + dq) ≡ Ended e → Ends (e .target) (e .query) s k (nextLine s line) (t + z + dt) (q + z + dq) (e .count))
         → Ends (e .target) (e .query) s (suc k) line t q (e .count)
     go true (Last z) y p g v ih =

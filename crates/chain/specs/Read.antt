@@ -1,7 +1,7 @@
 -- Reading a chain: the checks in the ledger's order. Each stage names what is tested from there on; the last one, `chainRead`, is the reader.
 use Prim.Native.Nat.{ℕ, zero, suc, _+_, _-_, _*_, _≤_, _<_}
 use mathlib.Core.Path.{_≡_}
-use mathlib.Core.Bool.{Bool, true, false, _&&_, _||_}
+use mathlib.Core.Bool.{Bool, true, _&&_, _||_, cond}
 use mathlib.Core.List.{List}
 use lib.ListN.{length, take, drop, getD}
 use lib.Seq.{sets}
@@ -76,10 +76,6 @@ firstOf (check.Refused x) c = check.Refused x
 unfoldable pub lineCheck : List ℕ → ℕ → ℕ → ℕ → Check
 lineCheck s line n k = firstOf (limitCheck line k) (blockWords s line n)
 
-abbrev pub pickBlock : Bool → Block → Block → Block
-pickBlock true a b = a
-pickBlock false a b = b
-
 abbrev pub checkBlock : Check → Block → Block
 checkBlock Holds rest = rest
 checkBlock (check.Refused x) rest = block.Refused x
@@ -90,7 +86,7 @@ readBlock (columns.Refused x) rest = block.Refused x
 
 -- the block that the values vs of a line of n words say: a size alone is the last
 abbrev pub blockIs : ℕ → List ℕ → Block
-blockIs n vs = pickBlock (eqb n 1) (Last (getD vs 0 0)) (Gap (getD vs 0 0) (getD vs 2 0) (getD vs 4 0))
+blockIs n vs = cond (eqb n 1) (Last (getD vs 0 0)) (Gap (getD vs 0 0) (getD vs 2 0) (getD vs 4 0))
 
 -- after the number of words of a block line: its columns (4, 5)
 unfoldable pub blockNumbers : List ℕ → ℕ → ℕ → Block
@@ -100,10 +96,6 @@ blockNumbers s line n = readBlock (columnsFrom (take n blockColumns) 0 s line) (
 unfoldable pub blockLine : List ℕ → ℕ → Block
 blockLine s line = checkBlock (blockWords s line (wordCount s line)) (blockNumbers s line (wordCount s line))
 
-abbrev pub pickLines : Bool → Lines → Lines → Lines
-pickLines true a b = a
-pickLines false a b = b
-
 abbrev pub thenBlock : Block → (ℕ → Lines) → (ℕ → ℕ → ℕ → Lines) → Lines
 thenBlock (Last z) last more = last z
 thenBlock (Gap z dt dq) last more = more z dt dq
@@ -111,7 +103,7 @@ thenBlock (block.Refused x) last more = lines.Refused x
 
 -- where no line begins the text ends too early (2)
 abbrev pub ifLine : List ℕ → ℕ → Lines → Lines
-ifLine s line rest = pickLines (ltb line (length s)) rest (lines.Refused (record { reason = WrongCount; place = length s }))
+ifLine s line rest = cond (ltb line (length s)) rest (lines.Refused (record { reason = WrongCount; place = length s }))
 
 -- the last line's place, the number of blocks, and where the last block ends on the target and on the query
 abbrev pub endingAt : ℕ → ℕ → ℕ → ℕ → Ending

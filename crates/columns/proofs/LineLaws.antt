@@ -3,6 +3,7 @@ use mathlib.Core.Path.{_≡_, refl, sym}
 use mathlib.Core.List.{List, [], _∷_, _++_, append-assoc, map}
 use Prim.Native.Nat.{ℕ, zero, suc, _+_, _-_, _*_, _≤_, _<_, min}
 use native.Mathlib.Numerals.{add-one}
+use native.Mathlib.Omega.{arith}
 use lib.ListN.{length, take, drop, getD, drop-of-length-le, List·getD-eq-default}
 use lib.Seq.{drop-cons}
 use Rattle.ledger.specs.Limits.{largestPlace}
@@ -11,7 +12,7 @@ use Rattle.writing.proofs.PutLaws.{put-then, put-none, Completes, completes-ste
 use Rattle.kinds.specs.declared.Kind.{Kind}
 use Rattle.kinds.specs.Kinds.{kindOf, baseAfter}
 use Rattle.kinds.specs.Words.{wordOf}
-use Rattle.columns.specs.Columns.{columnLimit, tableOf}
+use Rattle.columns.specs.Columns.{columnLimit, tableOf, valueOf, placeOf}
 use Rattle.columns.specs.Lines.{gapOf, lineFrom, lineText, fedLine}
 use Rattle.columns.proofs.ReadLaws.{codes-in}
 
@@ -46,3 +47,27 @@ pub line-fed : (codes t vs ls : List ℕ) (n sep at p r : ℕ) (b b₁ b₂ : Li
     → Put (fedLine (tableOf codes) sep t vs ls) at b b₂ r
 unfolding fedLine
 line-fed codes t vs ls n sep at p r b b₁ b₂ e f g = put-then (rw (codes-in n codes e) at f) g
+
+-- the two numbers of a column, and where there is no such column
+module _ (vs : List ℕ) (k : ℕ) where
+  pub value-past : length vs ≤ k → 0 ≡ valueOf vs k
+  value-past h = value-none vs (2 * k) (omega arith)
+
+  pub value-short : length vs - k ≤ k → 0 ≡ valueOf vs k
+  value-short h = value-none vs (2 * k) (omega arith)
+
+  pub value-is : (r : ℕ) → r ≡ getD vs (k + k) 0 → r ≡ valueOf vs k
+  value-is r e =
+      let q : k + k ≡ 2 * k = omega arith in
+      rw q at e
+
+  pub place-past : length vs ≤ k → 0 ≡ placeOf vs k
+  place-past h = value-none vs (2 * k + 1) (omega arith)
+
+  pub place-short : length vs - k ≤ k + 1 → 0 ≡ placeOf vs k
+  place-short h = value-none vs (2 * k + 1) (omega arith)
+
+  pub place-is : (r : ℕ) → r ≡ getD vs (k + k + 1) 0 → r ≡ placeOf vs k
+  place-is r e =
+      let q : k + k + 1 ≡ 2 * k + 1 = omega arith in
+      rw q at e

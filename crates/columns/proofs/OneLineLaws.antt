@@ -6,11 +6,12 @@ use native.Mathlib.Omega.{arith}
 use lib.ListN.{length, take, length-take}
 use lib.Dec.{leb}
 use borrow.Author.Tests.{le-leb, leb-true}
-use Rattle.ledger.specs.declared.Refusal.{Refusal}
-use Rattle.text.specs.declared.Check.{Check}
-use Rattle.text.specs.declared.Check.the-variants.{Holds}
-use Rattle.text.specs.declared.Check.the-variants as check
-use Rattle.text.specs.Checks.{textCheck, lastLineCheck, wordsCheck}
+use Rattle.ledger.specs.declared.Fault.{Fault}
+use Rattle.text.specs.declared.Stage.{Stage}
+use Rattle.text.specs.declared.Stage.the-variants.{Passes}
+use Rattle.text.specs.declared.Stage.the-variants as stage
+use Rattle.text.specs.Checks.{thenCheck, textCheck, lastLineCheck, wordsCheck}
+use Rattle.text.proofs.StageLaws.{went}
 use Rattle.text.specs.declared.Extent.{Extent}
 use Rattle.text.specs.Words.{wordCount, nextWord}
 use Rattle.text.specs.Pieces.{wordsOf, lineOf}
@@ -20,54 +21,39 @@ use Rattle.text.proofs.CheckLaws.{words-good, words-hold, text-of, text-is, one
 use Rattle.kinds.specs.declared.Kind.{Kind}
 use Rattle.kinds.specs.Kinds.{kindOf}
 use Rattle.columns.specs.declared.Columns.{Columns}
-use Rattle.columns.specs.declared.Columns.the-variants.{Next, Refused}
-use Rattle.columns.specs.Columns.{columnLimit, tableOf, columnsFrom, valuesFrom, ColumnsRead, ColumnsWalked}
+use Rattle.columns.specs.declared.Columns.the-variants.{Next}
+use Rattle.columns.specs.declared.Columns.the-variants as columns
+use Rattle.columns.specs.Columns.{columnLimit, tableOf, columnsFrom, valuesFrom, ColumnsWalked}
 use Rattle.columns.specs.Spells.{firsts}
-use Rattle.columns.specs.OneLine.{countCheck, thenLine, thenLast, lineRead, OneLine, CountedRead, LineRead, WordsWalked, LineWalked}
+use Rattle.columns.specs.OneLine.{countCheck, thenLast, lineRead, OneLine, WordsWalked, LineWalked}
 use Rattle.columns.proofs.SpellsLaws.{columns-spell, spells-read}
 use Rattle.columns.proofs.Meant.{listsIn}
 use Rattle.columns.proofs.WalkLaws.{walk-through}
 
 -- the number of words
-pub count-checked : (s : List ℕ) (line n count : ℕ) (c : Check) → count ≡ wordCount s line → c ≡ wordsCheck s line count n (leb n count) → c ≡ countCheck s line n
+pub count-checked : (s : List ℕ) (line n count : ℕ) (c : Stage) → count ≡ wordCount s line → c ≡ wordsCheck s line count n (leb n count) → c ≡ countCheck s line n
 unfolding countCheck
 count-checked s line n count c e h = rw (← e) h
 
-pub count-of : (s : List ℕ) (line n : ℕ) → countCheck s line n ≡ Holds → wordCount s line ≡ n
+pub count-of : (s : List ℕ) (line n : ℕ) → countCheck s line n ≡ Passes → wordCount s line ≡ n
 unfolding countCheck
 count-of s line n e =
     let a = words-hold s line (wordCount s line) n (leb n (wordCount s line)) e in
     omega (arith, a .0, leb-true n (wordCount s line) (a .1))
 
-pub count-is : (s : List ℕ) (line n : ℕ) → wordCount s line ≡ n → countCheck s line n ≡ Holds
+pub count-is : (s : List ℕ) (line n : ℕ) → wordCount s line ≡ n → countCheck s line n ≡ Passes
 unfolding countCheck
 count-is s line n e = sym (words-good s line (wordCount s line) n (leb n (wordCount s line)) (omega arith) (le-leb n (wordCount s line) (omega arith)))
 
 -- what was found, where the number of words is good
-module _ (s : List ℕ) (n : ℕ) (found : Columns) (c : Check) (ec : c ≡ countCheck s 0 n) where
-  pub first-refused : (y : Refusal) → c ≡ check.Refused y → Refused y ≡ thenLine (countCheck s 0 n) found
+module _ (s : List ℕ) (n : ℕ) (found : Columns) (c : Stage) (ec : c ≡ countCheck s 0 n) where
+  pub first-refused : (y : Fault) → c ≡ stage.Faulty y → columns.Faulty y ≡ thenCheck columns.Faulty (countCheck s 0 n) found
   first-refused y q = rw (← ec, q)
 
-  pub first-good : c ≡ Holds → found ≡ thenLine (countCheck s 0 n) found
+  pub first-good : c ≡ Passes → found ≡ thenCheck columns.Faulty (countCheck s 0 n) found
   first-good q = rw (← ec, q)
 
--- the columns, then the surplus line
-module _ (cs : List Kind) (s : List ℕ) (x : Columns) (o o′ l l′ : List ℕ) (first : ColumnsRead cs s 0 o o′ l l′ x) where
-  pub counted-refused : (out lists : List ℕ) (y : Refusal) → x ≡ Refused y → CountedRead cs s out out lists lists (Refused y)
-  counted-refused out lists y q = record { result = rw (← (first .result), q); stored = refl; held = refl }
-
-  module _ (e : ℕ) (q : x ≡ Next e) (c : Check) (ec : c ≡ lastLineCheck s 0) where
-    pub counted-surplus : (out lists : List ℕ) (y : Refusal) → c ≡ check.Refused y → CountedRead cs s out out lists lists (Refused y)
-    counted-surplus out lists y h = record { result = rw (← (first .result), q, ← ec, h); stored = refl; held = refl }
-
-    pub counted-read : (out out′ lists lists′ : List ℕ) (r : Columns) → c ≡ Holds → ColumnsRead cs s 0 out out′ lists lists′ r → CountedRead cs s out out′ lists lists′ r
-    counted-read out out′ lists lists′ r h g =
-        let z : r ≡ Next e = g .result ∙ sym (first .result) ∙ q in
-        record { result = rw (← (first .result), q, ← ec, h) z; stored = g .stored; held = g .held }
-
-pub ruleset counteds = (counted-refused, counted-surplus, counted-read)
-
--- the whole line
+-- as many columns as codes
 table-length : (codes : List ℕ) (n : ℕ) → n ≡ min columnLimit (length codes) → n ≡ length (tableOf codes)
 unfolding tableOf
 table-length codes n e = e ∙ sym (map-length (take columnLimit codes) ∙ length-take columnLimit codes)
@@ -76,32 +62,13 @@ table-length codes n e = e ∙ sym (map-length (take columnLimit codes) ∙ leng
     map-length [] = refl
     map-length (x ∷ xs) = ap suc (map-length xs)
 
-module _ (codes s out lists : List ℕ) (t : Check) (et : t ≡ textCheck s) where
-  pub line-text : (x : Refusal) → t ≡ check.Refused x → LineRead (tableOf codes) s out out lists lists (Refused x)
-  unfolding lineRead
-  line-text x q = record { result = rw (← et, q); stored = refl; held = refl }
-
-  module _ (q : t ≡ Holds) (n : ℕ) (en : n ≡ min columnLimit (length codes)) (c : Check) (ec : c ≡ countCheck s 0 n) where
-    counted : c ≡ countCheck s 0 (length (tableOf codes))
-    counted = rw (← table-length codes n en) ec
-
-    pub line-count : (x : Refusal) → c ≡ check.Refused x → LineRead (tableOf codes) s out out lists lists (Refused x)
-    unfolding lineRead
-    line-count x h = record { result = rw (← et, q, ← counted, h); stored = refl; held = refl }
-
-    pub line-read : (out′ lists′ : List ℕ) (r : Columns) → c ≡ Holds → CountedRead (tableOf codes) s out out′ lists lists′ r → LineRead (tableOf codes) s out out′ lists lists′ r
-    unfolding lineRead
-    line-read out′ lists′ r h g = record { result = rw (← et, q, ← counted, h) (g .result); stored = g .stored; held = g .held }
-
-pub ruleset lines = (line-text, line-count, line-read)
-
-line-then : (c : Check) (rest : Columns) (e : ℕ) → thenLine c rest ≡ Next e → (c ≡ Holds) × (rest ≡ Next e)
-line-then Holds rest e q = (refl, q)
-line-then (check.Refused x) rest e q = absurd (let z : _≡_ {A = ℕ} 0 1 = cc in omega arith)
+-- a stage before the columns that went on
+line-then : (c : Stage) (rest : Columns) (e : ℕ) → thenCheck columns.Faulty c rest ≡ Next e → (c ≡ Passes) × (rest ≡ Next e)
+line-then c rest e = went columns.Faulty c rest (Next e) (λ x q. let z : _≡_ {A = ℕ} 0 1 = cc in omega arith)
 
 -- the number of words and the columns in one walk
 module _ (codes s out out′ lists lists′ : List ℕ) (n : ℕ) (en : n ≡ min columnLimit (length codes)) (x : Columns) (walk : ColumnsWalked (tableOf codes) s 0 out out′ lists lists′ x) where
-  words-counted : (r : Columns) → r ≡ thenLine (countCheck s 0 n) x → WordsWalked (tableOf codes) s out out′ lists lists′ r
+  words-counted : (r : Columns) → r ≡ thenCheck columns.Faulty (countCheck s 0 n) x → WordsWalked (tableOf codes) s out out′ lists lists′ r
   words-counted r er =
       let good : (e : ℕ) → r ≡ Next e → x ≡ Next e = λ e p. line-then (countCheck s 0 n) x e (sym er ∙ p) .1 in
       record {
@@ -111,11 +78,11 @@ module _ (codes s out out′ lists lists′ : List ℕ) (n : ℕ) (en : n ≡ mi
         line = λ e p. walk-through (tableOf codes) 0 s 0 e (sym (walk .result) ∙ good e p) .line;
       }
 
-  pub words-refused : (y : Refusal) → x ≡ Refused y → (r : Columns) → r ≡ thenLine (countCheck s 0 n) (Refused y) → WordsWalked (tableOf codes) s out out′ lists lists′ r
+  pub words-refused : (y : Fault) → x ≡ columns.Faulty y → (r : Columns) → r ≡ thenCheck columns.Faulty (countCheck s 0 n) (columns.Faulty y) → WordsWalked (tableOf codes) s out out′ lists lists′ r
   words-refused y q r er = words-counted r (rw q er)
 
   module _ (e : ℕ) (q : x ≡ Next e) (w : Extent) (ew : w ≡ nextWord s e) where
-    pub words-more : (r : Columns) → r ≡ thenLine (countCheck s 0 n) (Next e) → WordsWalked (tableOf codes) s out out′ lists lists′ r
+    pub words-more : (r : Columns) → r ≡ thenCheck columns.Faulty (countCheck s 0 n) (Next e) → WordsWalked (tableOf codes) s out out′ lists lists′ r
     words-more r er = words-counted r (rw q er)
 
     pub words-all : w .start ≡ w .end → WordsWalked (tableOf codes) s out out′ lists lists′ (Next e)
@@ -128,56 +95,56 @@ module _ (codes s out out′ lists lists′ : List ℕ) (n : ℕ) (en : n ≡ mi
 pub ruleset words = (words-refused, words-more, words-all)
 
 -- the whole text in one walk
-line-refused : (c : Check) (x : Columns) (d : Check) (y : Refusal) → thenLine c x ≡ Refused y → Refused y ≡ thenLine c (thenLast x d)
-line-refused Holds (Next e) d y q = absurd (let z : _≡_ {A = ℕ} 0 1 = cc in omega arith)
-line-refused Holds (Refused z) d y q = sym q
-line-refused (check.Refused z) x d y q = sym q
+line-refused : (c : Stage) (x : Columns) (d : Stage) (y : Fault) → thenCheck columns.Faulty c x ≡ columns.Faulty y → columns.Faulty y ≡ thenCheck columns.Faulty c (thenLast x d)
+line-refused Passes (Next e) d y q = absurd (let z : _≡_ {A = ℕ} 0 1 = cc in omega arith)
+line-refused Passes (columns.Faulty z) d y q = sym q
+line-refused (stage.Faulty z) x d y q = sym q
 
-module _ (cs : List Kind) (s out lists out′ lists′ : List ℕ) (t : Check) (et : t ≡ textCheck s) where
-  refused : (y : Refusal) → Refused y ≡ lineRead cs s → LineWalked cs s out out′ lists lists′ (Refused y)
+module _ (cs : List Kind) (s out lists out′ lists′ : List ℕ) (t : Stage) (et : t ≡ textCheck s) where
+  refused : (y : Fault) → columns.Faulty y ≡ lineRead cs s → LineWalked cs s out out′ lists lists′ (columns.Faulty y)
   refused y h = record {
     result = h;
     stored = λ e p. absurd (let z : _≡_ {A = ℕ} 0 1 = cc in omega arith);
     held = λ e p. absurd (let z : _≡_ {A = ℕ} 0 1 = cc in omega arith);
   }
 
-  pub text-text : (x : Refusal) → t ≡ check.Refused x → LineWalked cs s out out′ lists lists′ (Refused x)
+  pub text-text : (x : Fault) → t ≡ stage.Faulty x → LineWalked cs s out out′ lists lists′ (columns.Faulty x)
   unfolding lineRead
   text-text x q = refused x (rw (← et, q))
 
-  module _ (q : t ≡ Holds) (x : Columns) (walk : WordsWalked cs s out out′ lists lists′ x) where
-    pub text-words : (y : Refusal) → x ≡ Refused y → LineWalked cs s out out′ lists lists′ (Refused y)
+  module _ (q : t ≡ Passes) (x : Columns) (walk : WordsWalked cs s out out′ lists lists′ x) where
+    pub text-words : (y : Fault) → x ≡ columns.Faulty y → LineWalked cs s out out′ lists lists′ (columns.Faulty y)
     unfolding lineRead
     text-words y p = refused y (rw (← et, q) (line-refused (countCheck s 0 (length cs)) (columnsFrom cs 0 s 0) (lastLineCheck s 0) y (sym (walk .result) ∙ p)))
 
-    module _ (e : ℕ) (p : x ≡ Next e) (c : Check) (ec : c ≡ lastLineCheck s e) where
-      both-read : (countCheck s 0 (length cs) ≡ Holds) × (columnsFrom cs 0 s 0 ≡ Next e)
+    module _ (e : ℕ) (p : x ≡ Next e) (c : Stage) (ec : c ≡ lastLineCheck s e) where
+      both-read : (countCheck s 0 (length cs) ≡ Passes) × (columnsFrom cs 0 s 0 ≡ Next e)
       both-read = line-then _ _ e (sym (walk .result) ∙ p)
 
       last-is : lastLineCheck s 0 ≡ c
       last-is = sym (ec ∙ last-as s e 0 (walk .line e p))
 
-      pub text-surplus : (y : Refusal) → c ≡ check.Refused y → LineWalked cs s out out′ lists lists′ (Refused y)
+      pub text-surplus : (y : Fault) → c ≡ stage.Faulty y → LineWalked cs s out out′ lists lists′ (columns.Faulty y)
       unfolding lineRead
       text-surplus y h = refused y (rw (← et, q, both-read .0, both-read .1, last-is, h))
 
-      pub text-read : c ≡ Holds → LineWalked cs s out out′ lists lists′ (Next e)
+      pub text-read : c ≡ Passes → LineWalked cs s out out′ lists lists′ (Next e)
       unfolding lineRead
       text-read h = record { result = rw (← et, q, both-read .0, both-read .1, last-is, h); stored = λ d r. walk .stored e p; held = λ d r. walk .held e p }
 
 pub ruleset texts = (text-text, text-words, text-surplus, text-read)
 
 -- a text of one line is read exactly when its words spell values, and then as those values
-last-then : (x : Columns) (c : Check) (e : ℕ) → thenLast x c ≡ Next e → (x ≡ Next e) × (c ≡ Holds)
+last-then : (x : Columns) (c : Stage) (e : ℕ) → thenLast x c ≡ Next e → (x ≡ Next e) × (c ≡ Passes)
 last-then (Next d) c e q = let a = line-then c (Next d) e q in (a .1, a .0)
-last-then (Refused x) c e q = absurd (let z : _≡_ {A = ℕ} 0 1 = cc in omega arith)
+last-then (columns.Faulty x) c e q = absurd (let z : _≡_ {A = ℕ} 0 1 = cc in omega arith)
 
 -- what a line that is read shows
 pub record Found (cs : List Kind) (s : List ℕ) (e : ℕ) : Type 0 where
-  pub text : textCheck s ≡ Holds
+  pub text : textCheck s ≡ Passes
   pub count : wordCount s 0 ≡ length cs
   pub read : columnsFrom cs 0 s 0 ≡ Next e
-  pub last : lastLineCheck s 0 ≡ Holds
+  pub last : lastLineCheck s 0 ≡ Passes
 
 pub line-found : (cs : List Kind) (s : List ℕ) (e : ℕ) → lineRead cs s ≡ Next e → Found cs s e
 unfolding lineRead

@@ -8,7 +8,7 @@ use native.Mathlib.Numerals.{add-one}
 use lib.ListN.{length, set, getD, take, drop, length-take, drop-of-length-le}
 use lib.Seq.{sets, drop-cons, take-all}
 use Rattle.ledger.specs.declared.Reason.{Reason}
-use Rattle.ledger.specs.declared.Refusal.{Refusal}
+use Rattle.ledger.specs.declared.Fault.{Fault}
 use Rattle.text.specs.declared.Extent.{Extent}
 use Rattle.text.specs.Words.{nextWord, bytesOf}
 use Rattle.text.proofs.Laws.{cut-bytes, either}
@@ -19,7 +19,8 @@ use Rattle.kinds.specs.Kinds.{kindOf, spelt, itemsIn, countAfter, isList, baseB
 use Rattle.columns.specs.declared.Field.{Field}
 use Rattle.columns.specs.declared.Field.the-variants.{Good, Bad}
 use Rattle.columns.specs.declared.Columns.{Columns}
-use Rattle.columns.specs.declared.Columns.the-variants.{Next, Refused}
+use Rattle.columns.specs.declared.Columns.the-variants.{Next}
+use Rattle.columns.specs.declared.Columns.the-variants as columns
 use Rattle.columns.specs.Columns.{columnLimit, tableOf, fieldOf, fieldFrom, columnsFrom, valuesFrom, listsBy, listsFrom, FieldRead, ColumnsWalked, ColumnsRead}
 
 pub pair-stored : (b b₁ b₂ : List ℕ) (i j v p : ℕ) → b₁ ≡ set b i v → b₂ ≡ set b₁ j p → b₂ ≡ set (set b i v) j p
@@ -83,7 +84,7 @@ module _ (table s : List ℕ) (from at n k : ℕ) where
   lists-done base d₀ d inv h = rw (drop-of-length-le table h) at inv
 
   module _ (h : k < length table) (kind : Kind) (ek : kind ≡ kindOf (getD table k 0)) (f : Field) (ef : f ≡ fieldFrom kind n s at) where
-    pub columns-bad : columnsFrom (map kindOf (drop k table)) n s at ≡ columnsFrom (map kindOf table) 0 s from → (x : Refusal) → f ≡ Bad x → Refused x ≡ columnsFrom (map kindOf table) 0 s from
+    pub columns-bad : columnsFrom (map kindOf (drop k table)) n s at ≡ columnsFrom (map kindOf table) 0 s from → (x : Fault) → f ≡ Bad x → columns.Faulty x ≡ columnsFrom (map kindOf table) 0 s from
     unfolding columnsFrom
     columns-bad inv x q = rw (drop-cons table k 0 h, ← ek, ← ef, q) at inv
 
@@ -134,7 +135,7 @@ module _ (codes s : List ℕ) (from n : ℕ) (en : n ≡ min columnLimit (length
   first-is : x ≡ columnsFrom (tableOf codes) 0 s from
   first-is = rw (codes-in n codes en) at (first .result)
 
-  pub read-refused : (b d : List ℕ) (y : Refusal) → x ≡ Refused y → ColumnsRead (tableOf codes) s from b b d d (Refused y)
+  pub read-refused : (b d : List ℕ) (y : Fault) → x ≡ columns.Faulty y → ColumnsRead (tableOf codes) s from b b d d (columns.Faulty y)
   read-refused b d y q = record { result = sym q ∙ first-is; stored = refl; held = refl }
 
   pub read-walked : (e : ℕ) (b b′ d d′ : List ℕ) (r : Columns) → x ≡ Next e → ColumnsWalked (map kindOf (take n codes)) s from b b′ d d′ r → ColumnsRead (tableOf codes) s from b b′ d d′ r

@@ -12,7 +12,8 @@ use Rattle.numbers.specs.declared.Spelt.{Spelt}
 use Rattle.numbers.specs.declared.Spelt.the-variants.{Means, Faulty}
 use Rattle.kinds.specs.declared.Kind.{Kind}
 use Rattle.kinds.specs.Kinds.{spelt, countAfter}
-use Rattle.columns.specs.declared.Columns.the-variants.{Next, Refused}
+use Rattle.columns.specs.declared.Columns.the-variants.{Next}
+use Rattle.columns.specs.declared.Columns.the-variants as columns
 use Rattle.columns.specs.Columns.{fieldFrom, thenColumns, columnsFrom, valuesFrom}
 use Rattle.columns.specs.Spells.{Spells, firsts, seconds}
 use Rattle.columns.proofs.Meant.{Meant, meant-none, meant-more, listsIn, meant-spells, spells-meant}
@@ -49,7 +50,7 @@ columns-mean (c ∷ cs) n s at e h q =
         let z : columnsFrom cs (countAfter c v n) s (nextWord s at .end) ≡ Next e = rw p at q in
         rw (words-step s at (first-there s at (length cs) (omega arith)), p) (meant-more p (k v z))
     go (Faulty why off) p k q =
-        let z : Refused (record { reason = why; place = nextWord s at .start + off }) ≡ Next e = rw p at q in
+        let z : columns.Faulty (record { reason = why; place = nextWord s at .start + off }) ≡ Next e = rw p at q in
         absurd (let y : _≡_ {A = ℕ} 0 1 = cc in omega arith)
 
 -- and the other way round: words that the reader takes for values are read, as those values
@@ -99,5 +100,5 @@ place-is (c ∷ cs) n s at e q k h = go (spelt c n (bytesOf s (nextWord s at))) 
         let z : columnsFrom cs (countAfter c v n) s (nextWord s at .end) ≡ Next e = rw p at q in
         rw p (r v z k (omega arith) ∙ ap (λ (w : Extent). w .start) (sym (word-later s at k)))
     go (Faulty why off) p r q k h =
-        let z : Refused (record { reason = why; place = nextWord s at .start + off }) ≡ Next e = rw p at q in
+        let z : columns.Faulty (record { reason = why; place = nextWord s at .start + off }) ≡ Next e = rw p at q in
         absurd (let y : _≡_ {A = ℕ} 0 1 = cc in omega arith)

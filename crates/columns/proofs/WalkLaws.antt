@@ -22,7 +22,8 @@ use Rattle.kinds.specs.declared.Range.{Range}
 use Rattle.kinds.specs.declared.Kind.{Kind}
 use Rattle.kinds.specs.declared.Kind.the-variants.{Name, Number, Count, Items, Stranded, Word, Colour}
 use Rattle.kinds.specs.Kinds.{leastOf, mostOf, sameBytes, nameOf, strandOf, fixedOf, colourOf, spelt, countAfter}
-use Rattle.columns.specs.declared.Columns.the-variants.{Next, Refused}
+use Rattle.columns.specs.declared.Columns.the-variants.{Next}
+use Rattle.columns.specs.declared.Columns.the-variants as columns
 use Rattle.columns.specs.declared.Field.{Field}
 use Rattle.columns.specs.declared.Field.the-variants.{Good}
 use Rattle.columns.specs.declared.Got.{Got}
@@ -71,7 +72,7 @@ walk-through (c ∷ cs) n s at e q = go (spelt c n (bytesOf s (nextWord s at))) 
         let t = k v z in
         record { count = omega (arith, t .count, count-more s at (word-some c n v s at p)); line = t .line ∙ word-line-end s at }
     go (Faulty why off) p k q =
-        let z : Refused (record { reason = why; place = nextWord s at .start + off }) ≡ Next e = rw p at q in
+        let z : columns.Faulty (record { reason = why; place = nextWord s at .start + off }) ≡ Next e = rw p at q in
         absurd (let y : _≡_ {A = ℕ} 0 1 = cc in omega arith)
 
 -- a field taken alone

@@ -1,11 +1,12 @@
 -- A line read by its table of columns.
-use Prim.Native.Nat.{ℕ, _+_, _≤_}
+use Prim.Native.Nat.{ℕ, _+_, _*_, _≤_}
 use mathlib.Core.Path.{_≡_}
 use mathlib.Core.Bool.{Bool, true, _||_}
 use mathlib.Core.List.{List, [], _∷_, map}
 use lib.ListN.{length, take, getD}
 use lib.Dec.{leb, eqb}
 use lib.Seq.{sets}
+use Rattle.ledger.specs.declared.Fault.{Fault}
 use Rattle.ledger.specs.Limits.{blockLimit}
 use Rattle.text.specs.declared.Extent.{Extent}
 use Rattle.text.specs.declared.Class.the-variants.{Word}
@@ -20,7 +21,8 @@ use Rattle.columns.specs.declared.Field.the-variants.{Good, Bad}
 use Rattle.columns.specs.declared.Got.{Got}
 use Rattle.columns.specs.declared.Quick.{Quick}
 use Rattle.columns.specs.declared.Columns.{Columns}
-use Rattle.columns.specs.declared.Columns.the-variants.{Next, Refused}
+use Rattle.columns.specs.declared.Columns.the-variants.{Next}
+use Rattle.columns.specs.declared.Columns.the-variants as columns
 use Rattle.kinds.specs.Kinds.{kindOf, spelt, itemsIn, countAfter, baseBy}
 
 -- a table has at most so many columns; what stands past them is not read
@@ -41,7 +43,7 @@ fieldFrom k n s at = fieldOf (spelt k n (bytesOf s (nextWord s at))) (nextWord s
 
 abbrev pub thenColumns : Field → (ℕ → Extent → Columns) → Columns
 thenColumns (Good v w) rest = rest v w
-thenColumns (Bad x) rest = Refused x
+thenColumns (Bad x) rest = columns.Faulty x
 
 -- the columns of a table from the left, n being the last count: the first refusal, or the place after the last word
 unfoldable pub columnsFrom : List Kind → ℕ → List ℕ → ℕ → Columns
@@ -82,10 +84,22 @@ pub record ColumnsWalked (table : List Kind) (s : List ℕ) (from : ℕ) (out ou
   pub stored : (e : ℕ) → r ≡ Next e → out′ ≡ sets out 0 (valuesFrom table 0 s from)
   pub held : (e : ℕ) → r ≡ Next e → lists′ ≡ listsFrom table 0 s from 0 lists
 
--- what a table holds after the columns were read, or refused
+-- the value of column k, and where its word starts
+abbrev pub valueOf : List ℕ → ℕ → ℕ
+valueOf vs k = getD vs (2 * k) 0
+
+abbrev pub placeOf : List ℕ → ℕ → ℕ
+placeOf vs k = getD vs (2 * k + 1) 0
+
+-- where the columns are good go on, else stop with the fault: `stop` makes the answer of a fault
+abbrev pub thenNext : {A : Type 0} → (Fault → A) → Columns → A → A
+thenNext stop (Next e) rest = rest
+thenNext stop (columns.Faulty x) rest = stop x
+
+-- what a table holds after the columns were read, or not
 abbrev pub tableAfter : Columns → List ℕ → List ℕ → List ℕ
 tableAfter (Next e) after before = after
-tableAfter (Refused x) after before = before
+tableAfter (columns.Faulty x) after before = before
 
 -- what reading a line by its table promises: the answer, the values and the lists; a refusal leaves both tables as they were
 pub record ColumnsRead (table : List Kind) (s : List ℕ) (from : ℕ) (out out′ lists lists′ : List ℕ) (r : Columns) : Type 0 where

@@ -7,37 +7,32 @@ use lib.Seq.{sets}
 use lib.Dec.{leb}
 use Rattle.ledger.specs.Limits.{textLimit}
 use Rattle.text.specs.declared.Class.the-variants.{Allowed}
-use Rattle.text.specs.declared.Check.{Check}
-use Rattle.text.specs.declared.Check.the-variants.{Holds}
-use Rattle.text.specs.declared.Check.the-variants as check
+use Rattle.text.specs.declared.Stage.{Stage}
 use Rattle.text.specs.Scan.{run}
-use Rattle.text.specs.Checks.{textCheck, lastLineCheck, wordsCheck}
+use Rattle.text.specs.Checks.{thenCheck, textCheck, lastLineCheck, wordsCheck}
 use Rattle.text.specs.Pieces.{linesOf, lineOf, wordsOf}
 use Rattle.text.specs.Words.{wordCount, lineEnd}
 use Rattle.kinds.specs.declared.Kind.{Kind}
 use Rattle.columns.specs.declared.Columns.{Columns}
-use Rattle.columns.specs.declared.Columns.the-variants.{Next, Refused}
-use Rattle.columns.specs.Columns.{columnsFrom, valuesFrom, listsFrom, tableAfter}
+use Rattle.columns.specs.declared.Columns.the-variants.{Next}
+use Rattle.columns.specs.declared.Columns.the-variants as columns
+use Rattle.columns.specs.Columns.{columnsFrom, valuesFrom, listsFrom}
 use Rattle.columns.specs.Spells.{Spells}
 
 -- the line that begins at a place has n words: more at the first surplus word, fewer at the line's end (2)
-unfoldable pub countCheck : List ℕ → ℕ → ℕ → Check
+unfoldable pub countCheck : List ℕ → ℕ → ℕ → Stage
 countCheck s line n = wordsCheck s line (wordCount s line) n (leb n (wordCount s line))
 
-abbrev pub thenLine : Check → Columns → Columns
-thenLine Holds rest = rest
-thenLine (check.Refused x) rest = Refused x
-
 -- where the columns are good, a check after them
-abbrev pub thenLast : Columns → Check → Columns
-thenLast (Next e) c = thenLine c (Next e)
-thenLast (Refused x) c = Refused x
+abbrev pub thenLast : Columns → Stage → Columns
+thenLast (Next e) c = thenCheck columns.Faulty c (Next e)
+thenLast (columns.Faulty x) c = columns.Faulty x
 
 -- the checks in the ledger's order: length and bytes, the number of words, the words from the left, a surplus line
 unfoldable pub lineRead : List Kind → List ℕ → Columns
 lineRead cs s =
-    thenLine (textCheck s)
-    (thenLine (countCheck s 0 (length cs))
+    thenCheck columns.Faulty (textCheck s)
+    (thenCheck columns.Faulty (countCheck s 0 (length cs))
     (thenLast (columnsFrom cs 0 s 0) (lastLineCheck s 0)))
 
 -- the same with no order of checks: the words of the one line spell the values vs and the lists ls
@@ -48,22 +43,10 @@ pub record OneLine (cs : List Kind) (s vs : List ℕ) (ls : List (List ℕ)) : T
   pub count : wordCount s 0 ≡ length cs
   pub spelt : Spells cs 0 (wordsOf (lineOf s)) vs ls
 
--- what reading such a text promises; a refusal leaves both tables as they were
-pub record LineRead (cs : List Kind) (s out out′ lists lists′ : List ℕ) (r : Columns) : Type 0 where
-  pub result : r ≡ lineRead cs s
-  pub stored : out′ ≡ tableAfter r (sets out 0 (valuesFrom cs 0 s 0)) out
-  pub held : lists′ ≡ tableAfter r (listsFrom cs 0 s 0 0 lists) lists
-
--- the same after the number of words was tested
-pub record CountedRead (cs : List Kind) (s out out′ lists lists′ : List ℕ) (r : Columns) : Type 0 where
-  pub result : r ≡ thenLast (columnsFrom cs 0 s 0) (lastLineCheck s 0)
-  pub stored : out′ ≡ tableAfter r (sets out 0 (valuesFrom cs 0 s 0)) out
-  pub held : lists′ ≡ tableAfter r (listsFrom cs 0 s 0 0 lists) lists
-
 -- the number of words and the columns in one walk: only an answer that is good says what the tables hold, and that it
 -- stands on the first line
 pub record WordsWalked (cs : List Kind) (s out out′ lists lists′ : List ℕ) (r : Columns) : Type 0 where
-  pub result : r ≡ thenLine (countCheck s 0 (length cs)) (columnsFrom cs 0 s 0)
+  pub result : r ≡ thenCheck columns.Faulty (countCheck s 0 (length cs)) (columnsFrom cs 0 s 0)
   pub stored : (e : ℕ) → r ≡ Next e → out′ ≡ sets out 0 (valuesFrom cs 0 s 0)
   pub held : (e : ℕ) → r ≡ Next e → lists′ ≡ listsFrom cs 0 s 0 0 lists
   pub line : (e : ℕ) → r ≡ Next e → lineEnd s e ≡ lineEnd s 0

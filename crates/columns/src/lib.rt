@@ -7,44 +7,40 @@ ghost use Rattle.ledger.specs.Limits.{nameLimit, blockLimit};
 ghost use Rattle.text.specs.declared.Class.the-variants.{Blank};
 ghost use Rattle.text.specs.Scan.{endOf};
 ghost use Rattle.text.specs.Words.{bytesOf};
+ghost use Rattle.text.specs.Checks.{thenCheck};
+ghost use Rattle.columns.specs.declared.Columns.the-variants as columns;
 ghost use Rattle.writing.specs.Puts.{Put};
 ghost use Rattle.writing.specs.Answers.{Wrote};
 ghost use Rattle.kinds.specs.declared.Kind.the-variants.{Number};
 ghost use Rattle.kinds.specs.Kinds.{kindOf, spelt, itemsIn, baseBy, baseAfter, Spelled};
-ghost use Rattle.columns.specs.Columns.{columnLimit, tableOf, FieldRead, FieldTaken, ColumnsWalked, ColumnsRead, fewBlocks, isLineEnd, WordTaken, QuickWalked};
-ghost use Rattle.columns.specs.OneLine.{countCheck, thenLine, CountedRead, LineRead, WordsWalked, LineWalked};
+ghost use Rattle.columns.specs.Columns.{columnLimit, tableOf, valueOf, placeOf, FieldRead, FieldTaken, ColumnsWalked, ColumnsRead, fewBlocks, isLineEnd, WordTaken, QuickWalked};
+ghost use Rattle.columns.specs.OneLine.{countCheck, WordsWalked, LineWalked};
 ghost use Rattle.columns.specs.Names.{namesIn, lengthFits, allGraphic};
 ghost use Rattle.columns.specs.Lines.{gapOf, lineFrom, lineText, fedLine};
 use kinds::Kind;
 use kinds::Range;
+use ledger::Fault;
 use ledger::Reason;
-use ledger::Refusal;
 use numbers::Spelt;
 use numbers::Taken;
-use text::Check;
 use text::Class;
 use text::Extent;
+use text::Stage;
 use writing::Writing;
 
 // A table has at most so many columns.
 pub const COLUMN_LIMIT: usize = 64;
 
-// One column read: its value and where its word stands, or the refusal.
+// One column read: its value and where its word stands, or the fault.
 pub enum Field {
     Good(u64, Extent),
-    Bad(Refusal),
+    Bad(Fault),
 }
 
-// All columns read: the place after the last word, or the first refusal.
+// All columns read: the place after the last word, or the first fault.
 pub enum Columns {
     Next(usize),
-    Refused(Refusal),
-}
-
-fn least(a: usize, b: usize) -> usize
-    ensures { λ r. ⌜ r ≡ min a b ⌝ }
-{
-    if a < b { a } else { b }
+    Faulty(Fault),
 }
 
 // What an extent of a text spells. What lies outside the text holds no bytes.
@@ -60,8 +56,8 @@ fn spell_in(
         (now (text .entry)) word) (itemsIn kind (bytesOf (now (text .entry)) word)) base (now (lists .entry))
         (now (lists .exit)) r ⌝ }
 {
-    let e = least(word.end, text.len());
-    let a = least(word.start, e);
+    let e = ledger::least(word.end, text.len());
+    let a = ledger::least(word.start, e);
     kinds::spell(kind, count, &text[a..e], base, lists)
 }
 
@@ -79,7 +75,7 @@ fn read_field(
     let w = text::next_word(text, at);
     match spell_in(kind, count, text, w, base, lists) {
         Spelt::Means(v) => Field::Good(v, w),
-        Spelt::Faulty(reason, off) => Field::Bad(Refusal {
+        Spelt::Faulty(reason, off) => Field::Bad(Fault {
             reason,
             place: w.start + off,
         }),
@@ -176,7 +172,7 @@ fn walk_columns(
                 at = w.end;
             }
             Field::Bad(x) => {
-                return Columns::Refused(x);
+                return Columns::Faulty(x);
             }
         }
         k += 1;
@@ -196,11 +192,11 @@ pub fn read_columns(
     ensures { λ r. ⌜ ColumnsRead (tableOf (now (table .entry))) (now (text .entry)) from (now (out .entry)) (now (out .exit))
         (now (lists .entry)) (now (lists .exit)) r ⌝ }
 {
-    let n = least(COLUMN_LIMIT, table.len());
+    let n = ledger::least(COLUMN_LIMIT, table.len());
     let mut no_values = [0u64; 0];
     let mut no_lists = [0u64; 0];
     match walk_columns(text, from, &table[..n], &mut no_values, &mut no_lists) {
-        Columns::Refused(x) => Columns::Refused(x),
+        Columns::Faulty(x) => Columns::Faulty(x),
         Columns::Next(_) => walk_columns(text, from, &table[..n], out, lists),
     }
 }
@@ -216,7 +212,7 @@ pub fn walk_line(
     ensures { λ r. ⌜ ColumnsWalked (tableOf (now (table .entry))) (now (text .entry)) from (now (out .entry)) (now (out .exit))
         (now (lists .entry)) (now (lists .exit)) r ⌝ }
 {
-    let n = least(COLUMN_LIMIT, table.len());
+    let n = ledger::least(COLUMN_LIMIT, table.len());
     walk_columns(text, from, &table[..n], out, lists)
 }
 
@@ -235,6 +231,34 @@ pub fn value_at(values: &[u64], i: usize) -> u64
     ensures { λ r. ⌜ r ≡ getD (now (values .entry)) i 0 ⌝ }
 {
     if i < values.len() { values[i] } else { 0 }
+}
+
+// The value of column k, of the two numbers that a column has; 0 where there is no such column.
+pub fn value_of(values: &[u64], k: usize) -> u64
+    ensures { λ r. ⌜ r ≡ valueOf (now (values .entry)) k ⌝ }
+{
+    let n = values.len();
+    if n <= k {
+        return 0;
+    }
+    if n - k <= k {
+        return 0;
+    }
+    value_at(values, k + k)
+}
+
+// Where the word of column k starts.
+pub fn place_of(values: &[u64], k: usize) -> u64
+    ensures { λ r. ⌜ r ≡ placeOf (now (values .entry)) k ⌝ }
+{
+    let n = values.len();
+    if n <= k {
+        return 0;
+    }
+    if n - k <= k + 1 {
+        return 0;
+    }
+    value_at(values, k + k + 1)
 }
 
 // Stores the words of a line by a table of columns, from the values and lists as a reader leaves them and the text that the names stand in.
@@ -256,8 +280,8 @@ fn put_columns(
     let mut k = 0;
     while k < table.len() {
         let kind = kinds::kind_of(table[k]);
-        let v = value_at(values, 2 * k);
-        let start = value_at(values, 2 * k + 1);
+        let v = value_of(values, k);
+        let start = place_of(values, k);
         let q = put_gap(buf, p, k, sep);
         p = kinds::put_word(buf, q, kind, text, lists, base, v, start);
         base = base_after(kind, base);
@@ -279,7 +303,7 @@ pub fn put_line(
     ensures { λ r. ⌜ Put (fedLine (tableOf (now (table .entry))) sep (now (text .entry)) (now (values .entry))
         (now (lists .entry))) at (now (buf .entry)) (now (buf .exit)) r ⌝ }
 {
-    let n = least(COLUMN_LIMIT, table.len());
+    let n = ledger::least(COLUMN_LIMIT, table.len());
     let p = put_columns(buf, at, &table[..n], sep, text, values, lists);
     writing::put_byte(buf, p, b'\n')
 }
@@ -305,50 +329,20 @@ pub fn write_line(
 }
 
 // The number of words of the line that begins at a place (2).
-pub fn check_count(text: &[u8], line: usize, n: usize) -> Check
+pub fn check_count(text: &[u8], line: usize, n: usize) -> Stage
     ensures { λ r. ⌜ r ≡ countCheck (now (text .entry)) line n ⌝ }
 {
     let count = text::count_words(text, line);
     text::check_words(text, line, count, n, n <= count)
 }
 
-// After the number of words: the words from the left, then a surplus line; the columns are stored once both are good.
-fn read_counted(text: &[u8], table: &[u8], out: &mut [u64], lists: &mut [u64]) -> Columns
-    ensures { λ r. ⌜ CountedRead (tableOf (now (table .entry))) (now (text .entry)) (now (out .entry)) (now (out .exit))
-        (now (lists .entry)) (now (lists .exit)) r ⌝ }
-{
-    let mut no_values = [0u64; 0];
-    let mut no_lists = [0u64; 0];
-    match read_columns(text, 0, table, &mut no_values, &mut no_lists) {
-        Columns::Refused(x) => Columns::Refused(x),
-        Columns::Next(_) => match text::check_last_line(text, 0) {
-            Check::Refused(x) => Columns::Refused(x),
-            Check::Holds => read_columns(text, 0, table, out, lists),
-        },
-    }
-}
-
-// Reads a text of one line by its table.
-pub fn read_line(text: &[u8], table: &[u8], out: &mut [u64], lists: &mut [u64]) -> Columns
-    ensures { λ r. ⌜ LineRead (tableOf (now (table .entry))) (now (text .entry)) (now (out .entry)) (now (out .exit))
-        (now (lists .entry)) (now (lists .exit)) r ⌝ }
-{
-    match text::check_text(text) {
-        Check::Refused(x) => Columns::Refused(x),
-        Check::Holds => match check_count(text, 0, least(COLUMN_LIMIT, table.len())) {
-            Check::Refused(x) => Columns::Refused(x),
-            Check::Holds => read_counted(text, table, out, lists),
-        },
-    }
-}
-
 // What was found of the columns, where the number of words is good.
 fn count_first(text: &[u8], n: usize, found: Columns) -> Columns
-    ensures { λ r. ⌜ r ≡ thenLine (countCheck (now (text .entry)) 0 n) found ⌝ }
+    ensures { λ r. ⌜ r ≡ thenCheck columns.Faulty (countCheck (now (text .entry)) 0 n) found ⌝ }
 {
     match check_count(text, 0, n) {
-        Check::Refused(x) => Columns::Refused(x),
-        Check::Holds => found,
+        Stage::Faulty(x) => Columns::Faulty(x),
+        Stage::Passes => found,
     }
 }
 
@@ -358,9 +352,9 @@ pub fn walk_words(text: &[u8], table: &[u8], out: &mut [u64], lists: &mut [u64])
     ensures { λ r. ⌜ WordsWalked (tableOf (now (table .entry))) (now (text .entry)) (now (out .entry)) (now (out .exit))
         (now (lists .entry)) (now (lists .exit)) r ⌝ }
 {
-    let n = least(COLUMN_LIMIT, table.len());
+    let n = ledger::least(COLUMN_LIMIT, table.len());
     match walk_line(text, 0, table, out, lists) {
-        Columns::Refused(x) => count_first(text, n, Columns::Refused(x)),
+        Columns::Faulty(x) => count_first(text, n, Columns::Faulty(x)),
         Columns::Next(e) => {
             let w = text::next_word(text, e);
             if w.start == w.end {
@@ -378,12 +372,12 @@ pub fn walk_text(text: &[u8], table: &[u8], out: &mut [u64], lists: &mut [u64]) 
         (now (lists .entry)) (now (lists .exit)) r ⌝ }
 {
     match text::check_text(text) {
-        Check::Refused(x) => Columns::Refused(x),
-        Check::Holds => match walk_words(text, table, out, lists) {
-            Columns::Refused(x) => Columns::Refused(x),
+        Stage::Faulty(x) => Columns::Faulty(x),
+        Stage::Passes => match walk_words(text, table, out, lists) {
+            Columns::Faulty(x) => Columns::Faulty(x),
             Columns::Next(e) => match text::check_last_line(text, e) {
-                Check::Refused(x) => Columns::Refused(x),
-                Check::Holds => Columns::Next(e),
+                Stage::Faulty(x) => Columns::Faulty(x),
+                Stage::Passes => Columns::Next(e),
             },
         },
     }
@@ -538,7 +532,7 @@ pub fn quick_words(
     ensures { λ r. ⌜ QuickWalked (tableOf (now (table .entry))) (now (text .entry)) from (now (out .entry)) (now (out .exit))
         (now (lists .entry)) (now (lists .exit)) r ⌝ }
 {
-    let n = least(COLUMN_LIMIT, table.len());
+    let n = ledger::least(COLUMN_LIMIT, table.len());
     quick_columns(text, from, &table[..n], out, lists)
 }
 

@@ -1,6 +1,6 @@
 -- Demand 3's list claim for the tally in lent bytes. Assumes nothing.
 use mathlib.Core.Path.{_≡_, refl, sym, ap, _∙_}
-use mathlib.Core.Bool.{Bool, true, false}
+use mathlib.Core.Bool.{Bool, true, false, cond}
 use mathlib.Core.List.{List, [], _∷_, _++_, map}
 use Prim.Native.Nat.{ℕ, _+_, _*_, _/_, _≤_, zero-le}
 use native.Mathlib.Omega.{arith}
@@ -36,7 +36,7 @@ use Rattle.region.proofs.ByteLaws.{regions-length}
 use Rattle.region.proofs.TallyLaws.{Good, step-good, refused-leaves, sent-append, batch}
 use Rattle.binary.specs.Bytes.{wordSize}
 use Rattle.binary.proofs.BackLaws.{words-length, words-back}
-use Rattle.answers.specs.Answers.{mostTold, gives, pickOutcome, refuses, refusalCode, Answered}
+use Rattle.answers.specs.Answers.{mostTold, gives, refuses, refusalCode, Answered}
 use Rattle.answers.proofs.AnswerLaws.{told-itself}
 use Rattle.desk.specs.Entries.{ofChain, ofTallied, tallyOutcome, tallyBytes, tallyIn, tallied, onCheck, batchLifted, tallyKept, tallyAfter}
 use Rattle.demands.specs.Chain.{ChainSpells}
@@ -85,7 +85,7 @@ module _ (t u : Tally) (rest b′ : List ℕ) (a : ℕ) where
   left-bytes (region.Refused y) f h = go (eqb (reasonNumber (y .reason)) (reasonNumber NoPair)) refl h
     where
       go : (v : Bool) → eqb (reasonNumber (y .reason)) (reasonNumber NoPair) ≡ v
-          → Answered (pickOutcome v (record { answer = refusalCode y; bytes = tallyBytes u }) (refuses y)) (tallyBytes t ++ rest) b′ a → b′ ≡ tallyBytes u ++ rest
+          → Answered (cond v (record { answer = refusalCode y; bytes = tallyBytes u }) (refuses y)) (tallyBytes t ++ rest) b′ a → b′ ≡ tallyBytes u ++ rest
       go true e k = new-bytes (k .left)
       go false e k = kept-bytes (f y refl (λ q. eqb-false _ _ e (ap reasonNumber q))) (k .left)
 
@@ -118,7 +118,7 @@ tally-code (region.Refused y) u b b′ a f g h = go (eqb (reasonNumber (y .reaso
     coded : a ≡ refusalCode y → a ≡ 16 * y .place + reasonNumber (y .reason)
     coded e = e ∙ ap (λ (n : ℕ). n + reasonNumber (y .reason)) (sym (told-itself (y .place) (omega (arith, g y refl))))
 
-    go : (v : Bool) → Answered (pickOutcome v (record { answer = refusalCode y; bytes = tallyBytes u }) (refuses y)) b b′ a → a ≡ 16 * y .place + reasonNumber (y .reason)
+    go : (v : Bool) → Answered (cond v (record { answer = refusalCode y; bytes = tallyBytes u }) (refuses y)) b b′ a → a ≡ 16 * y .place + reasonNumber (y .reason)
     go true k = coded (k .is)
     go false k = coded (k .is)
 

@@ -1,6 +1,6 @@
 -- Every entry ends with a count, or with a number of the ledger and a place in the text. Assumes nothing.
 use mathlib.Core.Path.{_≡_, refl}
-use mathlib.Core.Bool.{Bool, true, false, _&&_}
+use mathlib.Core.Bool.{Bool, true, false, _&&_, cond}
 use mathlib.Core.List.{List, [], _∷_}
 use Prim.Native.Nat.{ℕ, _+_, _-_, _/_, _≤_, min, zero-le}
 use native.Mathlib.Omega.{arith}
@@ -64,8 +64,8 @@ use Rattle.lift.specs.Texts.{ofChecked}
 use Rattle.turn.specs.declared.TurnAnswer.the-variants.{Turned}
 use Rattle.turn.specs.Turns as turns
 use Rattle.binary.specs.Bytes.{wordsBytes}
-use Rattle.answers.specs.Answers.{mostTold, told, Outcome, gives, refuses, pickOutcome, refusalCode, Answered, roomed, numbered, recorded}
-use Rattle.desk.specs.Entries.{byKind, ofBed, ofPsl, ofChain, ofNumbers, ofSpan, ofPosition, ofRegion, ofTurn, ofTallied, atEnd, pickPlace, nameBytes, written, bedWritten, pslWritten, chainWritten, checkedBed, checkedPsl, checkedChain, checked, parsedBed, parsedPsl, parsedChain, parsed, formattedBed, formattedPsl, formattedChain, formatted, numbersGiven, convertedNumbers, positionLifted, regionLifted, turnWritten, turnedText, tallyIn, tallyBytes, tallied, onCheck, batchLifted, BatchTold}
+use Rattle.answers.specs.Answers.{mostTold, told, Outcome, gives, refuses, refusalCode, Answered, roomed, numbered, recorded}
+use Rattle.desk.specs.Entries.{byKind, ofBed, ofPsl, ofChain, ofNumbers, ofSpan, ofPosition, ofRegion, ofTurn, ofTallied, atEnd, nameBytes, written, bedWritten, pslWritten, chainWritten, checkedBed, checkedPsl, checkedChain, checked, parsedBed, parsedPsl, parsedChain, parsed, formattedBed, formattedPsl, formattedChain, formatted, numbersGiven, convertedNumbers, positionLifted, regionLifted, turnWritten, turnedText, tallyIn, tallyBytes, tallied, onCheck, batchLifted, BatchTold}
 use Rattle.demands.specs.Demand1.{Ended, with-count, with-place}
 use Rattle.demands.proofs.PlaceLaws.{placeOf, required}
 use Rattle.demands.proofs.TextPlaceLaws.{bedPlace, bed-in, pslPlace, psl-in, numbersPlace, numbers-in, chainPlace, chain-in}
@@ -82,7 +82,7 @@ code-ends : (end : ℕ) (x : Refusal) → x .place ≤ end → Ended end (refusa
 unfolding told
 code-ends end x h = with-place (x .reason) (min (x .place) mostTold) (omega arith) refl
 
-pick-ends : (end : ℕ) (t : Bool) (a b : Outcome) → Ends end a → Ends end b → Ends end (pickOutcome t a b)
+pick-ends : (end : ℕ) (t : Bool) (a b : Outcome) → Ends end a → Ends end b → Ends end (cond t a b)
 pick-ends end true a b p q = p
 pick-ends end false a b p q = q
 
@@ -117,7 +117,7 @@ writing-ends : (end : ℕ) (c : Check) (n room : ℕ) (bytes : List ℕ) → pla
 unfolding roomAnswer
 writing-ends end (check.Refused x) n room bytes h = code-ends end (atEnd end x) (go (eqb (reasonNumber (x .reason)) (reasonNumber NoRoom)))
   where
-    go : (t : Bool) → pickPlace t end (x .place) ≤ end
+    go : (t : Bool) → cond t end (x .place) ≤ end
     go true = le-refl end
     go false = omega arith
 writing-ends end Holds n room bytes h = go (leb n textLimit) (leb n room)

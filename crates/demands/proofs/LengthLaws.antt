@@ -1,5 +1,5 @@
 -- The standard text of a record that obeys its rules keeps the text limit: no number has more than twenty digits, and no record more blocks than its limit. Assumes nothing.
-use mathlib.Core.Bool.{Bool, true, false}
+use mathlib.Core.Bool.{Bool, true, false, cond}
 use mathlib.Core.List.{List, [], _∷_, _++_}
 use Prim.Native.Nat.{ℕ, zero, suc, _+_, _-_, _*_, _≤_}
 use native.Mathlib.Omega.{arith}
@@ -8,7 +8,7 @@ use lib.Dec.{eqb}
 use Rattle.ledger.specs.Limits.{textLimit, nameLimit, blockLimit}
 use Rattle.text.specs.Pieces.{joined}
 use Rattle.text.proofs.Laws.{either}
-use Rattle.writing.specs.Digits.{digits, listText, pickBytes}
+use Rattle.writing.specs.Digits.{digits, listText}
 use Rattle.writing.proofs.DigitLaws.{digits-length}
 use Rattle.kinds.specs.Words.{redOf, greenOf, blueOf, colourText}
 use Rattle.blocks.specs.Blocks.{subtracted}
@@ -56,7 +56,7 @@ colour-short : (v : ℕ) → length (colourText v) ≤ 62
 unfolding colourText
 colour-short v = go (eqb v 0)
   where
-    go : (t : Bool) → length (pickBytes t (48 ∷ []) (digits (redOf v) ++ (44 ∷ (digits (greenOf v) ++ (44 ∷ digits (blueOf v)))))) ≤ 62
+    go : (t : Bool) → length (cond t (48 ∷ []) (digits (redOf v) ++ (44 ∷ (digits (greenOf v) ++ (44 ∷ digits (blueOf v)))))) ≤ 62
     go true = omega arith
     go false = simp length-append (omega (arith, digits-length (redOf v), digits-length (greenOf v), digits-length (blueOf v)))
 

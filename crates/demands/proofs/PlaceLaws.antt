@@ -1,6 +1,6 @@
 -- Every refusal of a text stands in it: its place is no more than the text's length. Assumes nothing.
 use mathlib.Core.Path.{_≡_}
-use mathlib.Core.Bool.{Bool, true, false, not, _&&_}
+use mathlib.Core.Bool.{Bool, true, false, not, _&&_, cond}
 use mathlib.Core.List.{List, [], _∷_}
 use Prim.Native.Nat.{ℕ, zero, suc, _+_, _-_, _*_, _≤_, zero-le}
 use native.Mathlib.Omega.{arith}
@@ -17,7 +17,7 @@ use Rattle.text.specs.declared.Check.the-variants.{Holds}
 use Rattle.text.specs.declared.Check.the-variants as check
 use Rattle.text.specs.declared.Extent.{Extent}
 use Rattle.text.specs.Scan.{isIn, endOf}
-use Rattle.text.specs.Pieces.{pickPieces, onto, piecesOf, nonEmpty, wordsOf}
+use Rattle.text.specs.Pieces.{onto, piecesOf, nonEmpty, wordsOf}
 use Rattle.text.specs.Words.{lineEnd, nextLine, nextWord, wordAt, bytesOf}
 use Rattle.text.specs.Checks.{require, textCheck, wordsCheck, lastLineCheck}
 use Rattle.text.proofs.ShowLaws.{scan-in, next-in, word-in, line-in}
@@ -80,7 +80,7 @@ unfolding piecesOf
 pieces-spread c [] = omega arith
 pieces-spread c (b ∷ w) = go (isIn c b) (piecesOf c w) (pieces-spread c w)
   where
-    go : (t : Bool) (xs : List (List ℕ)) → spread xs ≤ length w + 1 → spread (pickPieces t (onto b xs) ([] ∷ xs)) ≤ suc (length w) + 1
+    go : (t : Bool) (xs : List (List ℕ)) → spread xs ≤ length w + 1 → spread (cond t (onto b xs) ([] ∷ xs)) ≤ suc (length w) + 1
     go true [] h = omega arith
     go true (x ∷ xs) h = omega arith
     go false xs h = omega arith
@@ -119,7 +119,7 @@ colour-near : (w : List ℕ) → faultIn (colourOf w) ≤ length w
 unfolding colourOf
 colour-near w = go (sameBytes w (48 ∷ [])) (listOf 0 colourLimit false 3 w) _ (list-near 0 colourLimit false 3 w)
   where
-    go : (t : Bool) (x : Spelt) (v : ℕ) → faultIn x ≤ length w → faultIn (spelling.pickSpelt t (Means 0) (thenCount x (λ m. Means v))) ≤ length w
+    go : (t : Bool) (x : Spelt) (v : ℕ) → faultIn x ≤ length w → faultIn (cond t (Means 0) (thenCount x (λ m. Means v))) ≤ length w
     go true x v h = zero-le
     go false (Means m) v h = zero-le
     go false (Faulty why at) v h = h

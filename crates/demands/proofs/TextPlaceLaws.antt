@@ -1,6 +1,6 @@
 -- The refusals of the three text checkers and readers stand in the text. Assumes nothing.
 use mathlib.Core.Path.{_≡_, sym}
-use mathlib.Core.Bool.{Bool, true, false, _&&_}
+use mathlib.Core.Bool.{Bool, true, false, _&&_, cond}
 use mathlib.Core.List.{List, [], _∷_}
 use Prim.Native.Nat.{ℕ, zero, suc, _+_, _-_, _*_, _≤_, _<_, zero-le}
 use native.Mathlib.Nat.{le-refl}
@@ -29,7 +29,7 @@ use Rattle.bed.specs.declared.Bed.{Bed}
 use Rattle.bed.specs.declared.BedAnswer.{BedAnswer}
 use Rattle.bed.specs.declared.BedAnswer.the-variants as bedAnswer
 use Rattle.bed.specs.Table.{bedColumns}
-use Rattle.bed.specs.Records.{isWordCount, pickNumber, bedRecord, bedSizes, bedStarts}
+use Rattle.bed.specs.Records.{isWordCount, bedRecord, bedSizes, bedStarts}
 use Rattle.bed.specs.Read as bed
 use Rattle.psl.specs.declared.PslAnswer.{PslAnswer}
 use Rattle.psl.specs.declared.PslAnswer.the-variants as pslAnswer
@@ -76,7 +76,7 @@ module _ (s : List ℕ) where
       required (length s) (ltb (r .chromStart) (r .chromEnd)) SpanDisagrees _ _ (at 2 zero-le)
       (required (length s) (bed.thickFits r) SpanDisagrees _ Holds (thick (leb 8 (r .words)) _ _ (at 7 zero-le) (at 6 zero-le)) zero-le)
     where
-      thick : (t : Bool) (a b : ℕ) → a ≤ length s → b ≤ length s → pickNumber t a b ≤ length s
+      thick : (t : Bool) (a b : ℕ) → a ≤ length s → b ≤ length s → cond t a b ≤ length s
       thick true a b h k = h
       thick false a b h k = k
 
@@ -183,7 +183,7 @@ module _ (s : List ℕ) where
   unfolding numbers.numbersRead
   numbers-read-in room = go (numbers.numbersCheck s) numbers-in
     where
-      fits : (t : Bool) (n : ℕ) → numbersPlace (numbers.pickNumbers t (numbersAnswer.Accepted n) (numbersAnswer.Refused (record { reason = NoRoom; place = length s }))) ≤ length s
+      fits : (t : Bool) (n : ℕ) → numbersPlace (cond t (numbersAnswer.Accepted n) (numbersAnswer.Refused (record { reason = NoRoom; place = length s }))) ≤ length s
       fits true n = zero-le
       fits false n = le-refl (length s)
 
@@ -229,12 +229,12 @@ module _ (s : List ℕ) where
       checked Holds rest h k = k
       checked (check.Refused x) rest h k = h
 
-      read : (c : Columns) (t : Bool) (y z dt dq : ℕ) → columnsPlace c ≤ length s → blockPlace (chain.readBlock c (chain.pickBlock t (Last y) (Gap z dt dq))) ≤ length s
+      read : (c : Columns) (t : Bool) (y z dt dq : ℕ) → columnsPlace c ≤ length s → blockPlace (chain.readBlock c (cond t (Last y) (Gap z dt dq))) ≤ length s
       read (Next e) true y z dt dq h = zero-le
       read (Next e) false y z dt dq h = zero-le
       read (columns.Refused x) t y z dt dq h = h
 
-  line-there : (v : Bool) (rest : Lines) → linesPlace rest ≤ length s → linesPlace (chain.pickLines v rest (lines.Refused (record { reason = WrongCount; place = length s }))) ≤ length s
+  line-there : (v : Bool) (rest : Lines) → linesPlace rest ≤ length s → linesPlace (cond v rest (lines.Refused (record { reason = WrongCount; place = length s }))) ≤ length s
   line-there true rest k = k
   line-there false rest k = le-refl (length s)
 

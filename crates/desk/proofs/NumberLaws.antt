@@ -1,6 +1,6 @@
 -- The numbers of a text of one line: from what its reader promises to the entry's answer. Assumes nothing.
 use mathlib.Core.Path.{_≡_, refl}
-use mathlib.Core.Bool.{Bool, true, false}
+use mathlib.Core.Bool.{Bool, true, false, cond}
 use mathlib.Core.List.{List}
 use Prim.Native.Nat.{ℕ, _*_}
 use native.Mathlib.Omega.{arith}
@@ -12,7 +12,7 @@ use Rattle.ledger.specs.declared.Refusal.{Refusal}
 use Rattle.binary.specs.Bytes.{wordSize}
 use Rattle.number_line.specs.declared.NumbersAnswer.{NumbersAnswer}
 use Rattle.number_line.specs.declared.NumbersAnswer.the-variants.{Accepted, Refused}
-use Rattle.number_line.specs.Numbers.{numbersIn, numbersCheck, pickNumbers, roomCheck, numbersRead, bytesAfter, NumbersStored}
+use Rattle.number_line.specs.Numbers.{numbersIn, numbersCheck, roomCheck, numbersRead, bytesAfter, NumbersStored}
 use Rattle.number_line.proofs.LineLaws.{numbers-of}
 use Rattle.answers.specs.Answers.{told, refusalCode, Answered, numbered}
 use Rattle.answers.proofs.AnswerLaws.{refused-is, numbers-short, numbers-put}
@@ -25,7 +25,7 @@ codeOf (Refused x) = refusalCode x
 
 module _ (s b b′ : List ℕ) (x : NumbersAnswer) (r : ℕ) (left : b′ ≡ bytesAfter x (numbersIn s) b) (code : r ≡ codeOf x) where
   -- so many good numbers, with room for them or without
-  with-room : (t : Bool) → leb (wordSize * length (numbersIn s)) (length b) ≡ t → x ≡ pickNumbers t (Accepted (length (numbersIn s))) (Refused (record { reason = NoRoom; place = length s }))
+  with-room : (t : Bool) → leb (wordSize * length (numbersIn s)) (length b) ≡ t → x ≡ cond t (Accepted (length (numbersIn s))) (Refused (record { reason = NoRoom; place = length s }))
       → Answered (numbered (length s) (length b) (numbersIn s)) b b′ r
   with-room true e q =
       let h = leb-true (wordSize * length (numbersIn s)) (length b) e in

@@ -1,6 +1,6 @@
 -- A refusal writes nothing: where an answer's reason is not 0, the lent bytes are as they were; a tally also moves by 12. Assumes nothing.
 use mathlib.Core.Path.{_≡_, refl, ap, _∙_}
-use mathlib.Core.Bool.{Bool, true, false}
+use mathlib.Core.Bool.{Bool, true, false, cond}
 use mathlib.Core.List.{List, [], _∷_}
 use Prim.Native.Nat.{ℕ, _/_, _%_}
 use lib.ListN.{length}
@@ -48,7 +48,7 @@ use Rattle.region.specs.Batches.{regionSize, textBatchCheck}
 use Rattle.turn.specs.declared.TurnAnswer.{TurnAnswer}
 use Rattle.turn.specs.declared.TurnAnswer.the-variants as turn
 use Rattle.turn.specs.Turns as turns
-use Rattle.answers.specs.Answers.{Outcome, gives, refuses, refusesBy, pickOutcome, Answered, refusalCode, roomed, numbered, recorded}
+use Rattle.answers.specs.Answers.{Outcome, gives, refuses, refusesBy, Answered, refusalCode, roomed, numbered, recorded}
 use Rattle.answers.proofs.AnswerLaws.{accepted-reason, refused-reason}
 use Rattle.desk.specs.Entries.{byKind, ofBed, ofPsl, ofChain, ofNumbers, ofSpan, ofPosition, ofRegion, ofTurn, ofTallied, atEnd, nameBytes, written, bedWritten, pslWritten, chainWritten, parsedBed, parsedPsl, parsedChain, parsed, numbersGiven, formattedBed, formattedPsl, formattedChain, formatted, convertedNumbers, positionLifted, regionLifted, turnWritten, turnedText, tallyIn, tallyBytes, tallied, onCheck, batchLifted, tallyAfter, BatchTold, Refusing}
 
@@ -62,7 +62,7 @@ quiet-gives n bytes = record { none = λ h. absurd (h (accepted-reason n)) }
 quiet-refuses : (x : Refusal) → Quiet (refuses x)
 quiet-refuses x = record { none = λ h. refl }
 
-quiet-pick : (t : Bool) (a b : Outcome) → Quiet a → Quiet b → Quiet (pickOutcome t a b)
+quiet-pick : (t : Bool) (a b : Outcome) → Quiet a → Quiet b → Quiet (cond t a b)
 quiet-pick true a b p q = p
 quiet-pick false a b p q = q
 
@@ -185,7 +185,7 @@ still-tallied : (a : RegionAnswer) (t : Tally) → Still (ofTallied a t)
 still-tallied (region.Lifted x) t = record { none = λ h k. absurd (h (accepted-reason (x .kept))) }
 still-tallied (region.Refused x) t = go (eqb (reasonNumber (x .reason)) (reasonNumber NoPair)) refl
   where
-    go : (u : Bool) → eqb (reasonNumber (x .reason)) (reasonNumber NoPair) ≡ u → Still (pickOutcome u (record { answer = refusalCode x; bytes = tallyBytes t }) (refuses x))
+    go : (u : Bool) → eqb (reasonNumber (x .reason)) (reasonNumber NoPair) ≡ u → Still (cond u (record { answer = refusalCode x; bytes = tallyBytes t }) (refuses x))
     go true e = record { none = λ h k. absurd (k (refused-reason x ∙ eqb-true (reasonNumber (x .reason)) (reasonNumber NoPair) e)) }
     go false e = record { none = λ h k. refl }
 

@@ -1,7 +1,7 @@
 -- The entries of docs/DESK.md, each as a definition: what it answers and writes, for every input.
 use Prim.Native.Nat.{ℕ, suc, _-_, _*_, _/_, _%_, _≤_}
 use mathlib.Core.Path.{_≡_}
-use mathlib.Core.Bool.{Bool, true, false}
+use mathlib.Core.Bool.{cond}
 use mathlib.Core.List.{List, [], _∷_, _++_}
 use lib.Dec.{leb, eqb}
 use lib.ListN.{length, drop}
@@ -60,12 +60,12 @@ use Rattle.turn.specs.declared.TurnAnswer.{TurnAnswer}
 use Rattle.turn.specs.declared.TurnAnswer.the-variants as turn
 use Rattle.turn.specs.Turns as turns
 use Rattle.binary.specs.Bytes.{wordSize, wordsBytes, lowAt}
-use Rattle.answers.specs.Answers.{refusalCode, Outcome, Answered, gives, refuses, refusesBy, pickOutcome, numbered, recorded}
+use Rattle.answers.specs.Answers.{refusalCode, Outcome, Answered, gives, refuses, refusesBy, numbered, recorded}
 use Rattle.desk.specs.Records.{bedNumbers, pslNumbers, chainNumbers}
 
 -- by the kind of text: 1 BED, 2 PSL, 3 chain; any other is 6 at place 0
 unfoldable pub byKind : ℕ → Outcome → Outcome → Outcome → Outcome
-byKind kind bed psl chain = pickOutcome (eqb kind 1) bed (pickOutcome (eqb kind 2) psl (pickOutcome (eqb kind 3) chain (refusesBy BadWord 0)))
+byKind kind bed psl chain = cond (eqb kind 1) bed (cond (eqb kind 2) psl (cond (eqb kind 3) chain (refusesBy BadWord 0)))
 
 -- an accepted text goes on with its record, any other is refused as its checker says
 abbrev pub ofBed : BedAnswer → (Bed → Outcome) → Outcome
@@ -123,12 +123,8 @@ unfoldable pub convertedNumbers : ℕ → ℕ → ℕ → ℕ → Outcome
 convertedNumbers start end size room = ofSpan (converted start end size) (λ x. numbered 0 room (x .start ∷ x .end ∷ []))
 
 -- FORMAT: a writer's answer and its text; its want of room (11) stands at the text's end, its other refusals at place 0
-abbrev pub pickPlace : Bool → ℕ → ℕ → ℕ
-pickPlace true a b = a
-pickPlace false a b = b
-
 abbrev pub atEnd : ℕ → Refusal → Refusal
-atEnd end x = record { reason = x .reason; place = pickPlace (eqb (reasonNumber (x .reason)) (reasonNumber NoRoom)) end (x .place) }
+atEnd end x = record { reason = x .reason; place = cond (eqb (reasonNumber (x .reason)) (reasonNumber NoRoom)) end (x .place) }
 
 abbrev pub written : ℕ → Writing → List ℕ → Outcome
 written end (writing.Written n) bytes = gives n bytes
@@ -189,16 +185,12 @@ unfoldable pub regionLifted : List ℕ → ℕ → ℕ → ℕ → Outcome
 regionLifted s start end room = ofChain (chainCheck s) (λ c. ofRegion (liftRegion c (chainRows s c) start end) (length s) room)
 
 -- TALLY: three numbers in the lent bytes; fewer bytes are no good tally
-abbrev pub pickTally : Bool → Tally → Tally → Tally
-pickTally true a b = a
-pickTally false a b = b
-
 abbrev pub badTally : Tally
 badTally = record { asked = 0; kept = 1; dropped = 0 }
 
 unfoldable pub tallyIn : List ℕ → Tally
 tallyIn bytes =
-    pickTally (leb (3 * wordSize) (length bytes))
+    cond (leb (3 * wordSize) (length bytes))
     (record { asked = lowAt wordSize bytes 0; kept = lowAt wordSize bytes wordSize; dropped = lowAt wordSize bytes (2 * wordSize) })
     badTally
 
@@ -208,7 +200,7 @@ tallyBytes t = wordsBytes (t .asked ∷ t .kept ∷ t .dropped ∷ [])
 -- the tally is written where the region was lifted, and where it has no pair (12)
 abbrev pub ofTallied : RegionAnswer → Tally → Outcome
 ofTallied (region.Lifted x) t = gives (x .kept) (tallyBytes t)
-ofTallied (region.Refused x) t = pickOutcome (eqb (reasonNumber (x .reason)) (reasonNumber NoPair)) (record { answer = refusalCode x; bytes = tallyBytes t }) (refuses x)
+ofTallied (region.Refused x) t = cond (eqb (reasonNumber (x .reason)) (reasonNumber NoPair)) (record { answer = refusalCode x; bytes = tallyBytes t }) (refuses x)
 
 abbrev pub tallyOutcome : Tallied → Outcome
 tallyOutcome x = ofTallied (x .answer) (x .tally)
@@ -230,12 +222,8 @@ unfoldable pub batchLifted : List ℕ → List ℕ → List ℕ → ℕ → Outc
 batchLifted s regions lent room = onCheck (textBatchCheck s regions room) refuses (gives (length regions / regionSize) (rowsBytes (answerRows (tallyIn lent) (sentText s regions room))))
 
 -- the lent tally afterwards: that after the regions sent, where the bytes hold one; a refusal leaves it
-abbrev pub pickBytes : Bool → List ℕ → List ℕ → List ℕ
-pickBytes true a b = a
-pickBytes false a b = b
-
 unfoldable pub tallyKept : Tally → List ℕ → List ℕ
-tallyKept t lent = pickBytes (leb (3 * wordSize) (length lent)) (tallyBytes t ++ drop (3 * wordSize) lent) lent
+tallyKept t lent = cond (leb (3 * wordSize) (length lent)) (tallyBytes t ++ drop (3 * wordSize) lent) lent
 
 unfoldable pub tallyAfter : List ℕ → List ℕ → List ℕ → ℕ → List ℕ
 tallyAfter s regions lent room = onCheck (textBatchCheck s regions room) (λ _. lent) (tallyKept (sentThrough (tallyIn lent) (sentText s regions room)) lent)

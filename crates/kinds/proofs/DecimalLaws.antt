@@ -1,6 +1,6 @@
 -- What the readers of numbers and lists accept is what their words spell by their bytes alone. Assumes nothing.
 use mathlib.Core.Path.{_≡_, refl, sym, ap, _∙_}
-use mathlib.Core.Bool.{Bool, true, false, not, _&&_, _||_}
+use mathlib.Core.Bool.{Bool, true, false, not, _&&_, _||_, cond}
 use mathlib.Core.Logic.{_⊎_, inl, inr}
 use mathlib.Core.List.{List, [], _∷_, _++_, map, append-assoc}
 use Prim.Native.Nat.{ℕ, suc, _+_, _-_, _*_, _/_, _%_, _≤_, _<_}
@@ -12,13 +12,13 @@ use borrow.Author.Tests.{leb-true, eqb-true, eqb-false, eq-eqb, ne-eqb, not-true
 use Rattle.ledger.specs.declared.Reason.the-variants.{NumberMisspelt, NumberOutOfRange, ListLength}
 use Rattle.text.specs.declared.Class.the-variants.{Digit, Item}
 use Rattle.text.specs.Scan.{isIn, run, endOf}
-use Rattle.text.specs.Pieces.{pickPieces, onto, piecesOf, joined}
+use Rattle.text.specs.Pieces.{onto, piecesOf, joined}
 use Rattle.text.proofs.Laws.{either, more-ones}
 use Rattle.text.proofs.TextLaws.{All, both}
 use Rattle.text.proofs.PieceLaws.{pieces-last}
 use Rattle.numbers.specs.declared.Spelt.{Spelt}
 use Rattle.numbers.specs.declared.Spelt.the-variants.{Means, Faulty}
-use Rattle.numbers.specs.Spelling.{require}
+use Rattle.ledger.specs.Refusals.{require}
 use Rattle.numbers.specs.Numbers.{wellSpelt, valueFrom, value, numberOf}
 use Rattle.numbers.specs.Ranges.{Between, between-none, between-more}
 use Rattle.numbers.specs.Lists.{itemsOf, orItem, testItems, lastByte, openEnd, thenCount, listEnd, listOf, valuesOf}
@@ -80,7 +80,7 @@ pub number-as : (least most v : ℕ) (w : List ℕ) → most < Most → numberOf
 unfolding numberOf
 number-as least most v w l h = go (wellSpelt w) (leb least (value w)) (leb (value w) most) refl refl refl h
   where
-    go : (t u x : Bool) → wellSpelt w ≡ t → leb least (value w) ≡ u → leb (value w) most ≡ x → require t NumberMisspelt 0 (require (u && x) NumberOutOfRange 0 (Means (value w))) ≡ Means v → Decimal least most w v
+    go : (t u x : Bool) → wellSpelt w ≡ t → leb least (value w) ≡ u → leb (value w) most ≡ x → require t (Faulty NumberMisspelt 0) (require (u && x) (Faulty NumberOutOfRange 0) (Means (value w))) ≡ Means v → Decimal least most w v
     go false u x p q r k = absurd (let o : _≡_ {A = ℕ} 0 1 = cc in omega arith)
     go true false x p q r k = absurd (let o : _≡_ {A = ℕ} 0 1 = cc in omega arith)
     go true true false p q r k = absurd (let o : _≡_ {A = ℕ} 0 1 = cc in omega arith)
@@ -116,7 +116,7 @@ whole (b ∷ w) = go (eqb b 44) (piecesOf Item w) refl (whole w)
     onto-some (x ∷ xs) (inr e) = inr (ap (λ (k : List ℕ). b ∷ k) e)
 
     go : (t : Bool) (xs : List (List ℕ)) → eqb b 44 ≡ t → (w ≡ closed xs) ⊎ (w ++ (44 ∷ []) ≡ closed xs)
-        → (b ∷ w ≡ closed (pickPieces (not t) (onto b xs) ([] ∷ xs))) ⊎ ((b ∷ w) ++ (44 ∷ []) ≡ closed (pickPieces (not t) (onto b xs) ([] ∷ xs)))
+        → (b ∷ w ≡ closed (cond (not t) (onto b xs) ([] ∷ xs))) ⊎ ((b ∷ w) ++ (44 ∷ []) ≡ closed (cond (not t) (onto b xs) ([] ∷ xs)))
     go false xs e h = onto-some xs h
     go true xs e (inl h) = inl (rw (eqb-true b 44 e) (ap (λ (k : List ℕ). 44 ∷ k) h))
     go true xs e (inr h) = inr (rw (eqb-true b 44 e) (ap (λ (k : List ℕ). 44 ∷ k) h))
@@ -195,14 +195,14 @@ pub list-read : (least most : ℕ) (comma : Bool) (n m : ℕ) (w : List ℕ) →
 unfolding listOf listEnd
 list-read least most comma n m w l h = go (testItems least most 0 0 (itemsOf w)) refl h
   where
-    inner : (y : ℕ) (t u : Bool) → testItems least most 0 0 (itemsOf w) ≡ Means y → openEnd comma w ≡ t → eqb y n ≡ u → require (not t) NumberMisspelt (length w) (require u ListLength 0 (Means y)) ≡ Means m → Read least most comma n m w
+    inner : (y : ℕ) (t u : Bool) → testItems least most 0 0 (itemsOf w) ≡ Means y → openEnd comma w ≡ t → eqb y n ≡ u → require (not t) (Faulty NumberMisspelt (length w)) (require u (Faulty ListLength 0) (Means y)) ≡ Means m → Read least most comma n m w
     inner y true u e p q k = absurd (let o : _≡_ {A = ℕ} 0 1 = cc in omega arith)
     inner y false false e p q k = absurd (let o : _≡_ {A = ℕ} 0 1 = cc in omega arith)
     inner y false true e p q k =
         let z : y ≡ m = cc in
         record { items = items-as least most 0 0 m (itemsOf w) l (e ∙ ap Means z); shut = p; count = sym z ∙ eqb-true y n q }
 
-    go : (x : Spelt) → testItems least most 0 0 (itemsOf w) ≡ x → thenCount x (λ y. require (not (openEnd comma w)) NumberMisspelt (length w) (require (eqb y n) ListLength 0 (Means y))) ≡ Means m → Read least most comma n m w
+    go : (x : Spelt) → testItems least most 0 0 (itemsOf w) ≡ x → thenCount x (λ y. require (not (openEnd comma w)) (Faulty NumberMisspelt (length w)) (require (eqb y n) (Faulty ListLength 0) (Means y))) ≡ Means m → Read least most comma n m w
     go (Faulty why p) e k = absurd (let o : _≡_ {A = ℕ} 0 1 = cc in omega arith)
     go (Means y) e k = inner y (openEnd comma w) (eqb y n) e refl refl k
 
@@ -224,7 +224,7 @@ unfolding piecesOf
 some-piece [] h = absurd (omega arith)
 some-piece (b ∷ w) h = go (isIn Item b) (piecesOf Item w)
   where
-    go : (t : Bool) (xs : List (List ℕ)) → 0 < length (pickPieces t (onto b xs) ([] ∷ xs))
+    go : (t : Bool) (xs : List (List ℕ)) → 0 < length (cond t (onto b xs) ([] ∷ xs))
     go true [] = omega arith
     go true (x ∷ xs) = omega arith
     go false xs = omega arith

@@ -1,6 +1,6 @@
 -- A word that spells a value of a kind: the value lies in the kind's range, and the word is what that kind allows. Assumes nothing.
 use mathlib.Core.Path.{_≡_, refl}
-use mathlib.Core.Bool.{Bool, true, false, _&&_}
+use mathlib.Core.Bool.{Bool, true, false, _&&_, cond}
 use mathlib.Core.List.{List, [], _∷_}
 use Prim.Native.Nat.{ℕ, zero, suc, _*_, _≤_, _<_, zero-le}
 use native.Mathlib.Omega.{arith}
@@ -10,7 +10,6 @@ use borrow.Author.Tests.{leb-true, eqb-true}
 use Rattle.ledger.specs.Limits.{nameLimit, colourLimit}
 use Rattle.numbers.specs.declared.Spelt.{Spelt}
 use Rattle.numbers.specs.declared.Spelt.the-variants.{Means, Faulty}
-use Rattle.numbers.specs.Spelling.{pickSpelt}
 use Rattle.numbers.specs.Ranges.{Between, between-none, between-more}
 use Rattle.numbers.specs.Lists.{itemsOf, testItems, valuesOf, thenCount, listOf}
 use Rattle.numbers.proofs.ListLaws.{number-range, list-ended, list-range, good-values}
@@ -86,7 +85,7 @@ pub colour-spelt : (n : ℕ) (w : List ℕ) (v : ℕ) → spelt Colour n w ≡ M
 unfolding spelt colourOf
 colour-spelt n w v e = go (sameBytes w (48 ∷ [])) (listOf 0 colourLimit false 3 w) refl e
   where
-    go : (t : Bool) (x : Spelt) → listOf 0 colourLimit false 3 w ≡ x → pickSpelt t (Means 0) (thenCount x (λ m. Means (three (valuesOf w)))) ≡ Means v → v < suc colourLimit * suc colourLimit * suc colourLimit
+    go : (t : Bool) (x : Spelt) → listOf 0 colourLimit false 3 w ≡ x → cond t (Means 0) (thenCount x (λ m. Means (three (valuesOf w)))) ≡ Means v → v < suc colourLimit * suc colourLimit * suc colourLimit
     go true x p q = let z : v ≡ 0 = cc in omega arith
     go false (Means m) p q =
         let z : three (valuesOf w) ≡ v = cc in

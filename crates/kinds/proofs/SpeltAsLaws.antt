@@ -1,6 +1,6 @@
 -- What a column's reader accepts is what its word spells by its bytes alone, kind by kind. Assumes nothing.
 use mathlib.Core.Path.{_≡_, refl, sym, ap, subst, _∙_}
-use mathlib.Core.Bool.{Bool, true, false, _&&_, _||_}
+use mathlib.Core.Bool.{Bool, true, false, _&&_, _||_, cond}
 use mathlib.Core.Logic.{_⊎_, inl, inr}
 use mathlib.Core.List.{List, [], _∷_, _++_}
 use Prim.Native.Nat.{ℕ, suc, _<_}
@@ -16,7 +16,6 @@ use Rattle.text.proofs.Laws.{more-ones}
 use Rattle.text.proofs.TextLaws.{All, both}
 use Rattle.numbers.specs.declared.Spelt.{Spelt}
 use Rattle.numbers.specs.declared.Spelt.the-variants.{Means, Faulty}
-use Rattle.numbers.specs.Spelling.{pickSpelt}
 use Rattle.numbers.specs.Ranges.{Between}
 use Rattle.numbers.specs.Lists.{lastByte, openEnd, thenCount, listOf, valuesOf}
 use Rattle.writing.specs.Digits.{digits}
@@ -124,7 +123,7 @@ colour-as v w h = go (sameBytes w (48 ∷ [])) (listOf 0 colourLimit false 3 w) 
         }
 
     go : (t : Bool) (x : Spelt) → sameBytes w (48 ∷ []) ≡ t → listOf 0 colourLimit false 3 w ≡ x
-        → pickSpelt t (Means 0) (thenCount x (λ m. Means (packed (getD (valuesOf w) 0 0) (getD (valuesOf w) 1 0) (getD (valuesOf w) 2 0)))) ≡ Means v → ((w ≡ 48 ∷ []) × (v ≡ 0)) ⊎ Mixed w v
+        → cond t (Means 0) (thenCount x (λ m. Means (packed (getD (valuesOf w) 0 0) (getD (valuesOf w) 1 0) (getD (valuesOf w) 2 0)))) ≡ Means v → ((w ≡ 48 ∷ []) × (v ≡ 0)) ⊎ Mixed w v
     go true x e f k = inl (same-as w (48 ∷ []) e, let z : 0 ≡ v = cc in sym z)
     go false (Faulty why at) e f k = absurd (let o : _≡_ {A = ℕ} 0 1 = cc in omega arith)
     go false (Means m) e f k = inr (mixed m f (cc))

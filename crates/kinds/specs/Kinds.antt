@@ -1,7 +1,7 @@
 -- The kinds of column: what a word of each kind spells, or why it is refused.
 use Prim.Native.Nat.{ℕ, suc, _+_, _*_, _≤_}
 use mathlib.Core.Path.{_≡_}
-use mathlib.Core.Bool.{Bool, true, false, _&&_, _||_}
+use mathlib.Core.Bool.{Bool, true, false, _&&_, _||_, cond}
 use mathlib.Core.List.{List, [], _∷_}
 use lib.ListN.{length, getD}
 use lib.Seq.{sets}
@@ -11,10 +11,12 @@ use Rattle.ledger.specs.Strands.{strandLetter}
 use Rattle.ledger.specs.declared.Strand.the-variants.{Plus, Minus, Dot}
 use Rattle.ledger.specs.declared.Reason.the-variants.{BadWord}
 use Rattle.numbers.specs.declared.Spelt.{Spelt}
-use Rattle.numbers.specs.declared.Spelt.the-variants.{Means}
-use Rattle.numbers.specs.Spelling.{pickSpelt, require, faultIn}
+use Rattle.numbers.specs.declared.Spelt.the-variants.{Means, Faulty}
+use Rattle.ledger.specs.Refusals.{require}
+use Rattle.numbers.specs.Spelling.{faultIn}
 use Rattle.numbers.specs.Numbers.{numberOf}
 use Rattle.numbers.specs.Lists.{itemsOf, listOf, valuesOf, goodValues, thenCount}
+use Rattle.kinds.specs.Codes as code
 use Rattle.kinds.specs.declared.Range.{Range}
 use Rattle.kinds.specs.declared.Range.the-variants.{Coordinate, Size, BedScore, ChainScore, ChainId, BlockCount}
 use Rattle.kinds.specs.declared.Fixed.{Fixed}
@@ -44,26 +46,22 @@ abbrev pub fixedText : Fixed → List ℕ
 fixedText fixed.Chain = 99 ∷ 104 ∷ 97 ∷ 105 ∷ 110 ∷ []
 fixedText fixed.Plus = 43 ∷ []
 
-abbrev pub pickKind : Bool → Kind → Kind → Kind
-pickKind true a b = a
-pickKind false a b = b
-
 -- the codes by which a table in the code names its kinds
 unfoldable pub kindOf : ℕ → Kind
 kindOf c =
-    pickKind (eqb c 0) Name
-    (pickKind (eqb c 1) (Number Coordinate)
-    (pickKind (eqb c 2) (Number Size)
-    (pickKind (eqb c 3) (Number BedScore)
-    (pickKind (eqb c 4) (Number ChainScore)
-    (pickKind (eqb c 5) (Number ChainId)
-    (pickKind (eqb c 6) Count
-    (pickKind (eqb c 7) (Items Size)
-    (pickKind (eqb c 8) (Items Coordinate)
-    (pickKind (eqb c 9) (Stranded false)
-    (pickKind (eqb c 10) (Stranded true)
-    (pickKind (eqb c 11) (Word fixed.Chain)
-    (pickKind (eqb c 12) (Word fixed.Plus) Colour))))))))))))
+    cond (eqb c code.name) Name
+    (cond (eqb c code.coordinate) (Number Coordinate)
+    (cond (eqb c code.size) (Number Size)
+    (cond (eqb c code.bedScore) (Number BedScore)
+    (cond (eqb c code.chainScore) (Number ChainScore)
+    (cond (eqb c code.chainId) (Number ChainId)
+    (cond (eqb c code.count) Count
+    (cond (eqb c code.sizes) (Items Size)
+    (cond (eqb c code.starts) (Items Coordinate)
+    (cond (eqb c code.strand) (Stranded false)
+    (cond (eqb c code.strandOrDot) (Stranded true)
+    (cond (eqb c code.wordChain) (Word fixed.Chain)
+    (cond (eqb c code.wordPlus) (Word fixed.Plus) Colour))))))))))))
 
 -- a strand is one letter; `.` is one where three are allowed
 abbrev pub isStrand : Bool → List ℕ → Bool
@@ -82,12 +80,12 @@ packed r g b = (r * suc colourLimit + g) * suc colourLimit + b
 -- a colour is the word `0`, or three numbers parted by commas with none at the end
 unfoldable pub colourOf : List ℕ → Spelt
 colourOf w =
-    pickSpelt (sameBytes w (48 ∷ [])) (Means 0)
+    cond (sameBytes w (48 ∷ [])) (Means 0)
     (thenCount (listOf 0 colourLimit false 3 w) (λ m. Means (packed (getD (valuesOf w) 0 0) (getD (valuesOf w) 1 0) (getD (valuesOf w) 2 0))))
 
 -- a word that is good or not as a whole (6)
 abbrev pub wholeOf : Bool → ℕ → Spelt
-wholeOf good v = require good BadWord 0 (Means v)
+wholeOf good v = require good (Faulty BadWord 0) (Means v)
 
 -- a name has 1 to 64 bytes; it means its length
 unfoldable pub nameOf : List ℕ → Spelt

@@ -1,10 +1,11 @@
 -- The standard text of a word, kind by kind.
+use mathlib.Core.Bool.{cond}
 use Prim.Native.Nat.{ℕ, suc, _+_, _/_, _%_}
 use mathlib.Core.List.{List, [], _∷_, _++_}
 use lib.ListN.{take, drop}
 use lib.Dec.{eqb}
 use Rattle.ledger.specs.Limits.{colourLimit}
-use Rattle.writing.specs.Digits.{digits, listText, pickBytes}
+use Rattle.writing.specs.Digits.{digits, listText}
 use Rattle.kinds.specs.declared.Kind.{Kind}
 use Rattle.kinds.specs.declared.Kind.the-variants.{Name, Number, Count, Items, Stranded, Word, Colour}
 use Rattle.kinds.specs.Kinds.{fixedText}
@@ -21,7 +22,7 @@ blueOf v = v % suc colourLimit
 
 -- `0` for black, else three numbers and two commas
 unfoldable pub colourText : ℕ → List ℕ
-colourText v = pickBytes (eqb v 0) (48 ∷ []) (digits (redOf v) ++ (44 ∷ (digits (greenOf v) ++ (44 ∷ digits (blueOf v)))))
+colourText v = cond (eqb v 0) (48 ∷ []) (digits (redOf v) ++ (44 ∷ (digits (greenOf v) ++ (44 ∷ digits (blueOf v)))))
 
 -- the word of a column whose value is v; a name stands in the text t from p on, a list in the table ls from a base on
 abbrev pub wordOf : Kind → List ℕ → List ℕ → ℕ → ℕ → ℕ → List ℕ

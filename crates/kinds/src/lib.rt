@@ -67,24 +67,53 @@ pub fn most_of(r: Range) -> u64
     }
 }
 
+// The codes by which a format's table names its kinds.
+pub const NAME: u8 = 0;
+
+pub const COORDINATE: u8 = 1;
+
+pub const SIZE: u8 = 2;
+
+pub const BED_SCORE: u8 = 3;
+
+pub const CHAIN_SCORE: u8 = 4;
+
+pub const CHAIN_ID: u8 = 5;
+
+pub const COUNT: u8 = 6;
+
+pub const SIZES: u8 = 7;
+
+pub const STARTS: u8 = 8;
+
+pub const STRAND: u8 = 9;
+
+pub const STRAND_OR_DOT: u8 = 10;
+
+pub const WORD_CHAIN: u8 = 11;
+
+pub const WORD_PLUS: u8 = 12;
+
+pub const COLOUR: u8 = 13;
+
 // The kind that a code of a table names.
 pub fn kind_of(c: u8) -> Kind
     ensures { λ r. ⌜ r ≡ kindOf c ⌝ }
 {
     match c {
-        0 => Kind::Name,
-        1 => Kind::Number(Range::Coordinate),
-        2 => Kind::Number(Range::Size),
-        3 => Kind::Number(Range::BedScore),
-        4 => Kind::Number(Range::ChainScore),
-        5 => Kind::Number(Range::ChainId),
-        6 => Kind::Count,
-        7 => Kind::Items(Range::Size),
-        8 => Kind::Items(Range::Coordinate),
-        9 => Kind::Stranded(false),
-        10 => Kind::Stranded(true),
-        11 => Kind::Word(Fixed::Chain),
-        12 => Kind::Word(Fixed::Plus),
+        NAME => Kind::Name,
+        COORDINATE => Kind::Number(Range::Coordinate),
+        SIZE => Kind::Number(Range::Size),
+        BED_SCORE => Kind::Number(Range::BedScore),
+        CHAIN_SCORE => Kind::Number(Range::ChainScore),
+        CHAIN_ID => Kind::Number(Range::ChainId),
+        COUNT => Kind::Count,
+        SIZES => Kind::Items(Range::Size),
+        STARTS => Kind::Items(Range::Coordinate),
+        STRAND => Kind::Stranded(false),
+        STRAND_OR_DOT => Kind::Stranded(true),
+        WORD_CHAIN => Kind::Word(Fixed::Chain),
+        WORD_PLUS => Kind::Word(Fixed::Plus),
         _ => Kind::Colour,
     }
 }
@@ -101,11 +130,18 @@ fn first(word: &[u8]) -> u64
     if 0 < word.len() { wide(word[0]) } else { 0 }
 }
 
+// The letters of the strands.
+const PLUS: u64 = b'+' as u64;
+
+const MINUS: u64 = b'-' as u64;
+
+const DOT: u64 = b'.' as u64;
+
 fn is_strand(dot: bool, word: &[u8]) -> bool
     ensures { λ r. ⌜ r ≡ isStrand dot (now (word .entry)) ⌝ }
 {
     let b = first(word);
-    (word.len() == 1) & ((b == 43) | ((b == 45) | (dot & (b == 46))))
+    (word.len() == 1) & ((b == PLUS) | ((b == MINUS) | (dot & (b == DOT))))
 }
 
 fn same_bytes(a: &[u8], b: &[u8]) -> bool
@@ -197,19 +233,13 @@ pub fn read_colour(word: &[u8]) -> Spelt
     }
 }
 
-fn least(a: usize, b: usize) -> usize
-    ensures { λ r. ⌜ r ≡ min a b ⌝ }
-{
-    if a < b { a } else { b }
-}
-
 // A comma list of so many numbers, stored in a table from a base on.
 fn list_word(r: Range, count: u64, word: &[u8], base: usize, lists: &mut [u64]) -> Spelt
     ensures { λ x. ⌜ Spelled (listOf (leastOf r) (mostOf r) true count (now (word .entry)))
         (now (word .entry)) (goodValues (leastOf r) (mostOf r) (itemsOf (now (word .entry)))) base (now (lists .entry))
         (now (lists .exit)) x ⌝ }
 {
-    let b = least(base, lists.len());
+    let b = ledger::least(base, lists.len());
     let found = numbers::store_items(word, least_of(r), most_of(r), &mut lists[b..]);
     numbers::end_list(found, word, true, count)
 }
@@ -264,8 +294,8 @@ pub fn is_list(kind: Kind) -> bool
 fn put_name(buf: &mut [u8], at: usize, text: &[u8], start: usize, n: usize) -> usize
     ensures { λ r. ⌜ Put (take n (drop start (now (text .entry)))) at (now (buf .entry)) (now (buf .exit)) r ⌝ }
 {
-    let a = least(start, text.len());
-    let m = least(n, text.len() - a);
+    let a = ledger::least(start, text.len());
+    let m = ledger::least(n, text.len() - a);
     writing::put_bytes(buf, at, &text[a..a + m])
 }
 
@@ -282,8 +312,8 @@ fn put_fixed(buf: &mut [u8], at: usize, f: Fixed) -> usize
 fn put_items(buf: &mut [u8], at: usize, lists: &[u64], base: usize, n: usize) -> usize
     ensures { λ r. ⌜ Put (listText (take n (drop base (now (lists .entry))))) at (now (buf .entry)) (now (buf .exit)) r ⌝ }
 {
-    let a = least(base, lists.len());
-    let m = least(n, lists.len() - a);
+    let a = ledger::least(base, lists.len());
+    let m = ledger::least(n, lists.len() - a);
     writing::put_list(buf, at, &lists[a..a + m])
 }
 

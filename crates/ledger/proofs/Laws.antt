@@ -1,7 +1,7 @@
 -- Laws of the ledger: the numbers are 01's thirteen and distinct, opposite twice is the same strand, and the letter determines the strand. Assumes nothing.
 use mathlib.Core.Path.{_≡_, refl, sym, ap, _∙_}
 use mathlib.Core.List.{List, [], _∷_}
-use mathlib.Core.Bool.{Bool, true, false}
+use mathlib.Core.Bool.{Bool, true, false, cond}
 use Prim.Native.Nat.{ℕ}
 use native.Mathlib.Omega.{arith}
 use lib.Dec.{eqb}
@@ -13,7 +13,7 @@ use Rattle.ledger.specs.declared.Strand.{Strand}
 use Rattle.ledger.specs.declared.Strand.the-variants.{Plus, Minus, Dot}
 use Rattle.ledger.specs.declared.Lettered.the-variants.{Is, NoStrand}
 use Rattle.ledger.specs.Reasons.{reasonNumber}
-use Rattle.ledger.specs.Strands.{strandOpposite, strandLetter, pickLettered, strandOf, strandIs, isTold}
+use Rattle.ledger.specs.Strands.{strandOpposite, strandLetter, strandOf, strandIs, isTold}
 
 pub opposite-twice : (s : Strand) → strandOpposite (strandOpposite s) ≡ s
 opposite-twice Plus = refl
@@ -72,7 +72,7 @@ module _ (v : ℕ) where
   pub value-dot : (v ≡ 43 → ⊥) → (v ≡ 45 → ⊥) → Dot ≡ strandIs (strandOf v)
   value-dot h k = rw (ne-eqb v 43 h, ne-eqb v 45 k) (go (eqb v 46))
     where
-      go : (t : Bool) → Dot ≡ strandIs (pickLettered t (Is Dot) NoStrand)
+      go : (t : Bool) → Dot ≡ strandIs (cond t (Is Dot) NoStrand)
       go true = refl
       go false = refl
 

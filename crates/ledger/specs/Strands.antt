@@ -1,6 +1,6 @@
 -- The strand kind of 01: its opposite and its letter.
 use Prim.Native.Nat.{ℕ}
-use mathlib.Core.Bool.{Bool, true, false}
+use mathlib.Core.Bool.{Bool, true, false, cond}
 use lib.Dec.{eqb}
 use Rattle.ledger.specs.declared.Strand.{Strand}
 use Rattle.ledger.specs.declared.Strand.the-variants.{Plus, Minus, Dot}
@@ -18,13 +18,9 @@ strandLetter Plus = 43
 strandLetter Minus = 45
 strandLetter Dot = 46
 
-abbrev pub pickLettered : Bool → Lettered → Lettered → Lettered
-pickLettered true a b = a
-pickLettered false a b = b
-
 -- the strand of a letter
 abbrev pub strandOf : ℕ → Lettered
-strandOf b = pickLettered (eqb b (strandLetter Plus)) (Is Plus) (pickLettered (eqb b (strandLetter Minus)) (Is Minus) (pickLettered (eqb b (strandLetter Dot)) (Is Dot) NoStrand))
+strandOf b = cond (eqb b (strandLetter Plus)) (Is Plus) (cond (eqb b (strandLetter Minus)) (Is Minus) (cond (eqb b (strandLetter Dot)) (Is Dot) NoStrand))
 
 abbrev pub strandIs : Lettered → Strand
 strandIs (Is s) = s

@@ -1,6 +1,8 @@
 // What every layer shares: the reasons of a refusal with their numbers, strands, positions, rows, parts of a text, and the limits by name.
 ghost use mathlib.Core.Path.{_≡_};
+ghost use Prim.Native.Nat.{min};
 ghost use Rattle.ledger.specs.Reasons.{reasonNumber};
+ghost use Rattle.ledger.specs.Refusals.{refusalAt, withoutText};
 ghost use Rattle.ledger.specs.Strands.{strandOpposite, strandLetter, strandOf, strandIs, isTold};
 ghost use Rattle.ledger.specs.Parts.{partAt};
 ghost use Rattle.ledger.specs.Limits.{inCoordinates};
@@ -34,6 +36,13 @@ pub const LARGEST_PLACE: usize = 18446744073709551615;
 
 // The largest number that a word of the machine holds.
 pub const LARGEST_NUMBER: u64 = 18446744073709551615;
+
+// The smaller of two lengths.
+pub fn least(a: usize, b: usize) -> usize
+    ensures { λ r. ⌜ r ≡ min a b ⌝ }
+{
+    if a < b { a } else { b }
+}
 
 // A position in a sequence, a size or a count: 01's coordinate.
 pub struct Position {
@@ -92,10 +101,37 @@ impl Reason {
     }
 }
 
-// A refusal: why, and the byte offset of the place in the text (0 for a call without a text).
+// What is wrong with a text, inside the library: why, and the byte offset.
+pub struct Fault {
+    pub reason: Reason,
+    pub place: usize,
+}
+
+// What a caller is told: why, and the place: a byte offset in the text, 0 for a call without a text. Made in the
+// outermost functions alone, and only by the two functions below.
 pub struct Refusal {
     pub reason: Reason,
     pub place: usize,
+}
+
+impl Refusal {
+    // A fault of a text, as its caller is told.
+    pub fn at(x: Fault) -> Refusal
+        ensures { λ r. ⌜ r ≡ refusalAt x ⌝ }
+    {
+        let reason = x.reason;
+        Refusal {
+            reason,
+            place: x.place,
+        }
+    }
+
+    // A refusal of a call without a text.
+    pub fn without_text(reason: Reason) -> Refusal
+        ensures { λ r. ⌜ r ≡ withoutText reason ⌝ }
+    {
+        Refusal { reason, place: 0 }
+    }
 }
 
 // The strand kind of 01: `+`, `-`, or `.` where none is told.

@@ -1,6 +1,6 @@
 -- Laws of the readers: the checks one after the other, the quick way through a text, and the numbers handed over. Assumes nothing.
 use mathlib.Core.Path.{_≡_, refl, sym, ap, _∙_}
-use mathlib.Core.Bool.{Bool, true, false}
+use mathlib.Core.Bool.{Bool, true, false, cond}
 use mathlib.Core.Logic.{_⊎_, inl, inr}
 use mathlib.Core.List.{List, [], _∷_, _++_, map}
 use Prim.Native.Nat.{ℕ, suc, _+_, _-_, _*_, _/_, _≤_, _<_}
@@ -29,7 +29,7 @@ use Rattle.number_line.specs.declared.NumbersAnswer.{NumbersAnswer}
 use Rattle.number_line.specs.declared.NumbersAnswer.the-variants.{Accepted, Refused}
 use Rattle.number_line.specs.declared.Quick.{Quick}
 use Rattle.number_line.specs.Numbers.{wordsFrom, numbersIn, thenNumbers, numbersCheck, numbersRead, NumbersStored}
-use Rattle.number_line.specs.Walks.{Walked, lineCheck, pickLength, feedless, isGap, QuickRead, QuickText, Handed}
+use Rattle.number_line.specs.Walks.{Walked, lineCheck, feedless, isGap, QuickRead, QuickText, Handed}
 use Rattle.number_line.proofs.LineLaws.{words-good, all-good, checked-of, checked-is}
 
 -- ---- small tests
@@ -63,7 +63,7 @@ feedless-few : (s : List ℕ) → feedless s ≤ length s
 unfolding feedless
 feedless-few s = go (eqb (getD s (length s - 1) 0) 10)
   where
-    go : (t : Bool) → pickLength t (length s - 1) (length s) ≤ length s
+    go : (t : Bool) → cond t (length s - 1) (length s) ≤ length s
     go true = omega arith
     go false = omega arith
 

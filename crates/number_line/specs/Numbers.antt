@@ -1,7 +1,7 @@
 -- A TEXT OF ONE LINE OF NUMBERS, any number of words (docs/DESK.md, `tenderchock_numbers`): its checks in the ledger's order, and what reading it leaves.
 use Prim.Native.Nat.{ℕ, _*_}
 use mathlib.Core.Path.{_≡_}
-use mathlib.Core.Bool.{Bool, true, false}
+use mathlib.Core.Bool.{cond}
 use mathlib.Core.List.{List, [], _∷_, map}
 use lib.ListN.{length}
 use lib.Seq.{sets}
@@ -49,13 +49,9 @@ numbersCheck s =
     (thenNumbers (lastLineCheck s 0)
     (Accepted (length (numbersIn s)))))
 
-abbrev pub pickNumbers : Bool → NumbersAnswer → NumbersAnswer → NumbersAnswer
-pickNumbers true a b = a
-pickNumbers false a b = b
-
 -- so many numbers into so many bytes, or 11 at the text's end
 abbrev pub roomCheck : NumbersAnswer → ℕ → ℕ → NumbersAnswer
-roomCheck (Accepted n) end room = pickNumbers (leb (wordSize * n) room) (Accepted n) (Refused (record { reason = NoRoom; place = end }))
+roomCheck (Accepted n) end room = cond (leb (wordSize * n) room) (Accepted n) (Refused (record { reason = NoRoom; place = end }))
 roomCheck (Refused x) end room = Refused x
 
 -- all of them, and the room last

@@ -1,7 +1,7 @@
 -- What the steps of reading promise, inside the crate: the walk over the words, and the quick way through a plain line.
 use Prim.Native.Nat.{ℕ, _-_, _≤_}
 use mathlib.Core.Path.{_≡_}
-use mathlib.Core.Bool.{Bool, true, false, _||_}
+use mathlib.Core.Bool.{Bool, true, _||_, cond}
 use mathlib.Core.List.{List}
 use lib.ListN.{length, take, getD}
 use lib.Seq.{sets}
@@ -32,12 +32,8 @@ unfoldable pub lineCheck : List ℕ → NumbersAnswer
 lineCheck s = thenNumbers (wordsFrom s 0 (wordsOf (lineOf s))) (thenNumbers (lastLineCheck s 0) (Accepted (length (numbersIn s))))
 
 -- the length of a text without a line feed at its end
-abbrev pub pickLength : Bool → ℕ → ℕ → ℕ
-pickLength true a b = a
-pickLength false a b = b
-
 unfoldable pub feedless : List ℕ → ℕ
-feedless s = pickLength (eqb (getD s (length s - 1) 0) 10) (length s - 1) (length s)
+feedless s = cond (eqb (getD s (length s - 1) 0) 10) (length s - 1) (length s)
 
 -- whether a word ends at a place: by a blank, or with the line
 abbrev pub isGap : List ℕ → ℕ → Bool

@@ -1,6 +1,6 @@
 -- Laws of comma lists: the items from a place on, and what each item read adds to the values. Assumes nothing.
 use mathlib.Core.Path.{_≡_, refl, sym, ap, _∙_}
-use mathlib.Core.Bool.{Bool, true, false, not, _&&_, _||_}
+use mathlib.Core.Bool.{Bool, true, false, not, _&&_, _||_, cond}
 use mathlib.Core.List.{List, [], _∷_, map}
 use Prim.Native.Nat.{ℕ, suc, _+_, _-_, _≤_, _<_, zero-le}
 use native.Mathlib.Nat.{le-refl}
@@ -19,7 +19,6 @@ use Rattle.text.proofs.PieceLaws.{pieces-step}
 use Rattle.numbers.specs.declared.Piece.{Piece}
 use Rattle.numbers.specs.declared.Spelt.{Spelt}
 use Rattle.numbers.specs.declared.Spelt.the-variants.{Means, Faulty}
-use Rattle.numbers.specs.Spelling.{pickSpelt}
 use Rattle.numbers.specs.Numbers.{wellSpelt, value, numberOf}
 use Rattle.numbers.specs.Lists.{itemsOf, testItems, goodValues, orStop, orItem, valuesOf, lastByte, openEnd, listEnd, listOf, PieceRead, ItemsStored, ListEnded, ListRead}
 use Rattle.numbers.specs.Ranges.{Between, between-none, between-more}
@@ -46,7 +45,7 @@ unfolding openEnd
 open-is comma w b e = rw e
 
 -- a good number is its value
-good-value : (b t : Bool) (v x : ℕ) → pickSpelt b (pickSpelt t (Means x) (Faulty NumberOutOfRange 0)) (Faulty NumberMisspelt 0) ≡ Means v → x ≡ v
+good-value : (b t : Bool) (v x : ℕ) → cond b (cond t (Means x) (Faulty NumberOutOfRange 0)) (Faulty NumberMisspelt 0) ≡ Means v → x ≡ v
 good-value true true v x e = cc
 good-value true false v x e = cc
 good-value false t v x e = cc
@@ -130,7 +129,7 @@ ended : (comma : Bool) (n : ℕ) (w : List ℕ) (found : Spelt) (m : ℕ) → li
 unfolding listEnd
 ended comma n w (Means k) m e = go (openEnd comma w) (eqb k n) refl refl e
   where
-    go : (t u : Bool) → openEnd comma w ≡ t → eqb k n ≡ u → pickSpelt (not t) (pickSpelt u (Means k) (Faulty ListLength 0)) (Faulty NumberMisspelt (length w)) ≡ Means m → Ended comma n w (Means k) m
+    go : (t u : Bool) → openEnd comma w ≡ t → eqb k n ≡ u → cond (not t) (cond u (Means k) (Faulty ListLength 0)) (Faulty NumberMisspelt (length w)) ≡ Means m → Ended comma n w (Means k) m
     go true u h l q = absurd (let z : _≡_ {A = ℕ} 0 1 = cc in omega arith)
     go false true h l q = let x : k ≡ m = cc in record { items = q; shut = h; count = sym x ∙ eqb-true k n l }
     go false false h l q = absurd (let z : _≡_ {A = ℕ} 0 1 = cc in omega arith)
@@ -170,7 +169,7 @@ module _ (least most : ℕ) (comma : Bool) (n : ℕ) (w b none none′ : List �
       record { is = e ∙ sym q ∙ list-is; stored = rw e (walk .stored ∙ ap (sets b 0) (good-values least most w m t)); near = walk .near }
 
 -- a number that is spelt lies in its range
-range-is : (least most v : ℕ) (s t u : Bool) → leb least v ≡ t → leb v most ≡ u → (x : ℕ) → pickSpelt s (pickSpelt (t && u) (Means v) (Faulty NumberOutOfRange 0)) (Faulty NumberMisspelt 0) ≡ Means x → (least ≤ x) × (x ≤ most)
+range-is : (least most v : ℕ) (s t u : Bool) → leb least v ≡ t → leb v most ≡ u → (x : ℕ) → cond s (cond (t && u) (Means v) (Faulty NumberOutOfRange 0)) (Faulty NumberMisspelt 0) ≡ Means x → (least ≤ x) × (x ≤ most)
 range-is least most v true true true e f x q = let h : v ≡ x = cc in (rw h at (leb-true least v e), rw h at (leb-true v most f))
 range-is least most v true true false e f x q = absurd (let z : _≡_ {A = ℕ} 0 1 = cc in omega arith)
 range-is least most v true false u e f x q = absurd (let z : _≡_ {A = ℕ} 0 1 = cc in omega arith)

@@ -13,7 +13,8 @@ use Rattle.text.specs.Pieces.{piecesOf}
 use Rattle.numbers.specs.declared.Piece.{Piece}
 use Rattle.numbers.specs.declared.Spelt.{Spelt}
 use Rattle.numbers.specs.declared.Spelt.the-variants.{Means, Faulty}
-use Rattle.numbers.specs.Spelling.{require, faultIn}
+use Rattle.ledger.specs.Refusals.{require}
+use Rattle.numbers.specs.Spelling.{faultIn}
 use Rattle.numbers.specs.Numbers.{numberOf, value}
 
 -- the items between the commas; a comma at the very end opens no further item
@@ -58,8 +59,8 @@ thenCount (Faulty why at) rest = Faulty why at
 unfoldable pub listEnd : Bool → ℕ → List ℕ → Spelt → Spelt
 listEnd comma n w found =
     thenCount found (λ m.
-    require (not (openEnd comma w)) NumberMisspelt (length w)
-    (require (eqb m n) ListLength 0
+    require (not (openEnd comma w)) (Faulty NumberMisspelt (length w))
+    (require (eqb m n) (Faulty ListLength 0)
     (Means m)))
 
 -- a list of n numbers: all items from the left (4, 5), an empty one at the end among them, and then their number (8)

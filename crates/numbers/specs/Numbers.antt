@@ -11,8 +11,9 @@ use Rattle.text.specs.Scan.{isIn, endOf}
 use Rattle.numbers.specs.declared.Digits.{Digits}
 use Rattle.numbers.specs.declared.Spelt.{Spelt}
 use Rattle.numbers.specs.declared.Taken.{Taken}
-use Rattle.numbers.specs.declared.Spelt.the-variants.{Means}
-use Rattle.numbers.specs.Spelling.{require, faultIn}
+use Rattle.numbers.specs.declared.Spelt.the-variants.{Means, Faulty}
+use Rattle.ledger.specs.Refusals.{require}
+use Rattle.numbers.specs.Spelling.{faultIn}
 
 -- some digits and nothing else; the first is `0` only where it stands alone
 unfoldable pub wellSpelt : List ℕ → Bool
@@ -29,8 +30,8 @@ value w = valueFrom 0 w
 -- misspelt (4) before out of range (5), both at the word's first byte
 unfoldable pub numberOf : ℕ → ℕ → List ℕ → Spelt
 numberOf least most w =
-    require (wellSpelt w) NumberMisspelt 0
-    (require (leb least (value w) && leb (value w) most) NumberOutOfRange 0
+    require (wellSpelt w) (Faulty NumberMisspelt 0)
+    (require (leb least (value w) && leb (value w) most) (Faulty NumberOutOfRange 0)
     (Means (value w)))
 
 -- so many digits have a value below 2^64, whatever they are
@@ -50,7 +51,7 @@ isLed n first = not (eqb n 0) && (eqb n 1 || not (eqb first 48))
 
 -- what judging a value promises, which so many digits spell
 pub record Judged (n first v least most : ℕ) (r : Spelt) : Type 0 where
-  pub is : r ≡ require (isLed n first) NumberMisspelt 0 (require (leb least v && leb v most) NumberOutOfRange 0 (Means v))
+  pub is : r ≡ require (isLed n first) (Faulty NumberMisspelt 0) (require (leb least v && leb v most) (Faulty NumberOutOfRange 0) (Means v))
   pub near : faultIn r ≡ 0
 
 -- what reading a number promises: what it spells, and that a fault stands at its first byte, which follows

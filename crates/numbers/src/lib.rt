@@ -39,12 +39,6 @@ fn one_more(sum: u64, b: u64) -> u64
     sum * 10 + (b - 48)
 }
 
-fn lesser(a: usize, b: usize) -> usize
-    ensures { λ r. ⌜ r ≡ min a b ⌝ }
-{
-    if a < b { a } else { b }
-}
-
 // Digits in a text: their value, and the place past them.
 pub struct Digits {
     pub value: u64,
@@ -87,7 +81,7 @@ pub fn digits_at(text: &[u8], from: usize, most: usize) -> Digits
         };
     }
     let left = text.len() - from;
-    let short = lesser(most, SHORT);
+    let short = ledger::least(most, SHORT);
     if short <= left {
         return digits_in(text, from, short);
     }
@@ -247,7 +241,7 @@ fn short_digits(text: &[u8], from: usize) -> Digits
             end: from,
         };
     }
-    digits_in(text, from, lesser(SHORT, text.len() - from))
+    digits_in(text, from, ledger::least(SHORT, text.len() - from))
 }
 
 // The number that the word at a place spells, and the word's end, in one pass over its digits.

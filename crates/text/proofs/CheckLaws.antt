@@ -1,6 +1,6 @@
 -- The checks of a text as facts: its length and bytes, and that it has one line. Assumes nothing.
 use mathlib.Core.Path.{_≡_, refl, sym, ap, _∙_}
-use mathlib.Core.Bool.{Bool, true, false, _||_}
+use mathlib.Core.Bool.{Bool, true, false, _||_, cond}
 use mathlib.Core.List.{List, [], _∷_, _++_}
 use Prim.Native.Nat.{ℕ, suc, _+_, _-_, _≤_, _<_}
 use native.Mathlib.Omega.{arith}
@@ -9,25 +9,18 @@ use lib.Dec.{leb, eqb}
 use borrow.Author.Tests.{le-leb, lt-leb, leb-true, eqb-true}
 use Rattle.ledger.specs.Limits.{textLimit}
 use Rattle.ledger.specs.declared.Reason.the-variants.{WrongCount}
-use Rattle.ledger.specs.declared.Refusal.{Refusal}
 use Rattle.text.specs.declared.Class.{Class}
 use Rattle.text.specs.declared.Class.the-variants.{Blank, Line, Allowed}
-use Rattle.text.specs.declared.Check.{Check}
-use Rattle.text.specs.declared.Check.the-variants.{Holds}
-use Rattle.text.specs.declared.Check.the-variants as check
+use Rattle.text.specs.declared.Stage.the-variants.{Passes, Faulty}
 use Rattle.text.specs.declared.Extent.{Extent}
 use Rattle.text.specs.Scan.{isIn, oneMore, run, endOf}
-use Rattle.text.specs.Checks.{pickCheck, textCheck, lastLineCheck, wordsCheck}
+use Rattle.text.specs.Checks.{textCheck, lastLineCheck, wordsCheck}
 use Rattle.text.specs.Pieces.{piecesOf, nonEmpty, linesOf, lineOf, wordsOf, joined}
 use Rattle.text.specs.Words.{lineEnd, nextLine, wordAt, wordCount}
+use Rattle.text.proofs.StageLaws.{require-passes}
 use Rattle.text.proofs.Laws.{either, text-good, line-last}
 use Rattle.text.proofs.TextLaws.{All, all-append, in-allowed}
 use Rattle.text.proofs.PieceLaws.{lines-none, lines-step, pieces-join, Worded, worded-more, joined-in-line, line-joined}
-
--- a check that holds: its test is true, and what follows it holds
-pub require-holds : (t : Bool) (rest : Check) (x : Refusal) → pickCheck t rest (check.Refused x) ≡ Holds → (t ≡ true) × (rest ≡ Holds)
-require-holds true rest x e = (refl, e)
-require-holds false rest x e = absurd (let z : _≡_ {A = ℕ} 0 1 = cc in omega arith)
 
 -- a scan ends in the text
 pub run-most : (c : Class) (s : List ℕ) → run c s ≤ length s
@@ -45,15 +38,15 @@ empty-none = refl
 
 -- the text's length and bytes
 module _ (s : List ℕ) where
-  pub text-of : textCheck s ≡ Holds → (length s ≤ textLimit) × (run Allowed s ≡ length s)
+  pub text-of : textCheck s ≡ Passes → (length s ≤ textLimit) × (run Allowed s ≡ length s)
   unfolding textCheck endOf
   text-of e =
-      let a = require-holds (leb (length s) textLimit) _ _ e in
-      let b = require-holds (leb (length s) (endOf Allowed s 0)) _ _ (a .1) in
+      let a = require-passes (leb (length s) textLimit) _ _ e in
+      let b = require-passes (leb (length s) (endOf Allowed s 0)) _ _ (a .1) in
       let l : length s ≤ 0 + run Allowed s = leb-true (length s) (endOf Allowed s 0) (b .0) in
       (leb-true (length s) textLimit (a .0), omega (arith, run-most Allowed s))
 
-  pub text-is : length s ≤ textLimit → run Allowed s ≡ length s → textCheck s ≡ Holds
+  pub text-is : length s ≤ textLimit → run Allowed s ≡ length s → textCheck s ≡ Passes
   unfolding endOf
   text-is h e = sym (text-good s (endOf Allowed s 0) h refl (omega arith))
 
@@ -67,13 +60,13 @@ module _ (s : List ℕ) where
   pub lines-split : 0 < length s → linesOf s ≡ lineOf s ∷ linesOf (drop (nextLine s 0) s)
   lines-split h = lines-step s 0 h ∙ ap (λ (l : List ℕ). l ∷ linesOf (drop (nextLine s 0) s)) line-is-first
 
-  pub one-of : 0 < length s → lastLineCheck s 0 ≡ Holds → linesOf s ≡ lineOf s ∷ []
+  pub one-of : 0 < length s → lastLineCheck s 0 ≡ Passes → linesOf s ≡ lineOf s ∷ []
   unfolding lastLineCheck
   one-of h e =
-      let l = leb-true (length s) (nextLine s 0) (require-holds (leb (length s) (nextLine s 0)) _ _ e .0) in
+      let l = leb-true (length s) (nextLine s 0) (require-passes (leb (length s) (nextLine s 0)) _ _ e .0) in
       lines-split h ∙ rw (drop-of-length-le s l, lines-none)
 
-  pub one-is : linesOf s ≡ lineOf s ∷ [] → lastLineCheck s 0 ≡ Holds
+  pub one-is : linesOf s ≡ lineOf s ∷ [] → lastLineCheck s 0 ≡ Passes
   one-is e =
       sym (line-last s 0 (nextLine s 0) refl (either (length s) (nextLine s 0) _ (λ h. h) (λ h.
       let p = lines-split (omega arith) in
@@ -113,20 +106,20 @@ module _ (sep : ℕ) (blank : isIn Blank sep ≡ true) where
 
 -- the number of words
 module _ (s : List ℕ) (line n most : ℕ) (good : Bool) where
-  pub words-many : (w : Extent) → most < n → w ≡ wordAt s line most → check.Refused (record { reason = WrongCount; place = w .start }) ≡ wordsCheck s line n most good
+  pub words-many : (w : Extent) → most < n → w ≡ wordAt s line most → Faulty (record { reason = WrongCount; place = w .start }) ≡ wordsCheck s line n most good
   unfolding wordsCheck
   words-many w h e = rw (lt-leb n most h, e)
 
-  pub words-good : n ≤ most → good ≡ true → Holds ≡ wordsCheck s line n most good
+  pub words-good : n ≤ most → good ≡ true → Passes ≡ wordsCheck s line n most good
   unfolding wordsCheck
   words-good h g = rw (le-leb n most h, g)
 
-  pub words-bad : (e : ℕ) → n ≤ most → good ≡ false → e ≡ lineEnd s line → check.Refused (record { reason = WrongCount; place = e }) ≡ wordsCheck s line n most good
+  pub words-bad : (e : ℕ) → n ≤ most → good ≡ false → e ≡ lineEnd s line → Faulty (record { reason = WrongCount; place = e }) ≡ wordsCheck s line n most good
   unfolding wordsCheck
   words-bad e h g q = rw (le-leb n most h, g, q)
 
-  pub words-hold : wordsCheck s line n most good ≡ Holds → (n ≤ most) × (good ≡ true)
+  pub words-hold : wordsCheck s line n most good ≡ Passes → (n ≤ most) × (good ≡ true)
   unfolding wordsCheck
   words-hold e =
-      let a = require-holds (leb n most) _ _ e in
-      (leb-true n most (a .0), require-holds good _ _ (a .1) .0)
+      let a = require-passes (leb n most) _ _ e in
+      (leb-true n most (a .0), require-passes good _ _ (a .1) .0)

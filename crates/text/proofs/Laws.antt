@@ -17,7 +17,7 @@ use Rattle.text.specs.declared.Class.{Class}
 use Rattle.text.specs.Scan.{isIn, oneMore, run, endOf, Scanned}
 use Rattle.text.specs.declared.Class.the-variants.{Line, Blank, Word, Allowed}
 use Rattle.text.specs.declared.Extent.{Extent}
-use Rattle.text.specs.declared.Check.the-variants.{Holds, Refused}
+use Rattle.text.specs.declared.Stage.the-variants.{Passes, Faulty}
 use Rattle.text.specs.Checks.{textCheck, lastLineCheck}
 use Rattle.text.specs.Parts.{partIn, partBytes}
 use Rattle.text.specs.Words.{nextWord, wordAt, nextLine, lineEnd, bytesOf}
@@ -215,16 +215,16 @@ cut-bytes s w a e ee ea = rw (ea, ee) (cut-off s (w .start) (w .end))
 
 -- the three answers of the first check
 module _ (s : List ℕ) where
-  pub text-long : textLimit < length s → Refused (record { reason = TextTooLong; place = 0 }) ≡ textCheck s
+  pub text-long : textLimit < length s → Faulty (record { reason = TextTooLong; place = 0 }) ≡ textCheck s
   unfolding textCheck
   text-long h = rw (lt-leb (length s) textLimit h)
 
   module _ (bad : ℕ) (h : length s ≤ textLimit) (is : bad ≡ endOf Allowed s 0) where
-    pub text-bad : bad < length s → Refused (record { reason = ByteNotAllowed; place = bad }) ≡ textCheck s
+    pub text-bad : bad < length s → Faulty (record { reason = ByteNotAllowed; place = bad }) ≡ textCheck s
     unfolding textCheck
     text-bad k = rw (← is, le-leb (length s) textLimit h, lt-leb (length s) bad k)
 
-    pub text-good : length s ≤ bad → Holds ≡ textCheck s
+    pub text-good : length s ≤ bad → Passes ≡ textCheck s
     unfolding textCheck
     text-good k = rw (← is, le-leb (length s) textLimit h, le-leb (length s) bad k)
 
@@ -271,10 +271,10 @@ module _ (c : Class) (s : List ℕ) (from i n e : ℕ) (inv : endOf c s i ≡ en
       omega (arith, inv, l, ap (run c) (sym (take-append-drop (e - i) (drop i s))), b, ap (run c) (drop-drop (e - i) i s), ap (λ k. run c (drop k s)) d)
 
 module _ (s : List ℕ) (h : length s ≤ textLimit) (t : Bool) (et : t ≡ leb (length s) (endOf Allowed s 0)) where
-  pub text-allowed : t ≡ true → Holds ≡ textCheck s
+  pub text-allowed : t ≡ true → Passes ≡ textCheck s
   text-allowed e = text-good s (endOf Allowed s 0) h refl (leb-true (length s) (endOf Allowed s 0) (sym et ∙ e))
 
-  pub text-refused : t ≡ false → (bad : ℕ) → Scanned Allowed s 0 bad → Refused (record { reason = ByteNotAllowed; place = bad }) ≡ textCheck s
+  pub text-refused : t ≡ false → (bad : ℕ) → Scanned Allowed s 0 bad → Faulty (record { reason = ByteNotAllowed; place = bad }) ≡ textCheck s
   text-refused e bad is = text-bad s bad h (is .is) (omega (arith, is .is, leb-false (length s) (endOf Allowed s 0) (sym et ∙ e)))
 
 -- the next line, where the line ends by a feed and where it doesn't
@@ -307,10 +307,10 @@ module _ (s : List ℕ) (p : Part) where
 
 -- a line after the last one
 module _ (s : List ℕ) (line n : ℕ) (en : n ≡ nextLine s line) where
-  pub line-surplus : n < length s → (w : Extent) → w ≡ nextWord s n → Refused (record { reason = WrongCount; place = w .start }) ≡ lastLineCheck s line
+  pub line-surplus : n < length s → (w : Extent) → w ≡ nextWord s n → Faulty (record { reason = WrongCount; place = w .start }) ≡ lastLineCheck s line
   unfolding lastLineCheck
   line-surplus h w ew = rw (← en, lt-leb (length s) n h, ew)
 
-  pub line-last : length s ≤ n → Holds ≡ lastLineCheck s line
+  pub line-last : length s ≤ n → Passes ≡ lastLineCheck s line
   unfolding lastLineCheck
   line-last h = rw (← en, le-leb (length s) n h)

@@ -3,3 +3,4 @@ pub mod Pieces
 pub mod Words
 pub mod Parts
 pub mod Checks
+pub mod Steps

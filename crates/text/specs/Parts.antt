@@ -1,19 +1,15 @@
 -- A part of a text, as a record holds a name: its first byte and its length.
 use Prim.Native.Nat.{ℕ, _+_, _≤_}
-use mathlib.Core.Bool.{Bool, true, false}
+use mathlib.Core.Bool.{cond}
 use mathlib.Core.Path.{_≡_}
 use mathlib.Core.List.{List}
 use lib.ListN.{length, take, drop}
 use lib.Dec.{leb}
 use Rattle.ledger.specs.declared.Part.{Part}
 
-abbrev pub pickPart : Bool → Part → Part → Part
-pickPart true a b = a
-pickPart false a b = b
-
 -- the part itself where it lies in the text, else the empty part at the text's end
 unfoldable pub partIn : List ℕ → Part → Part
-partIn s p = pickPart (leb (p .start + p .length) (length s)) p (record { start = length s; length = 0 })
+partIn s p = cond (leb (p .start + p .length) (length s)) p (record { start = length s; length = 0 })
 
 -- the bytes of a part
 unfoldable pub partBytes : List ℕ → Part → List ℕ

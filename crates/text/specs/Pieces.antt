@@ -1,16 +1,12 @@
 -- Cutting bytes into pieces: lines at line feeds, list items at commas, words at blanks. One definition serves all three.
 use Prim.Native.Nat.{ℕ}
 use mathlib.Core.Path.{_≡_}
-use mathlib.Core.Bool.{Bool, true, false}
+use mathlib.Core.Bool.{cond}
 use mathlib.Core.List.{List, [], _∷_, _++_}
 use lib.ListN.{take}
 use Rattle.text.specs.declared.Class.{Class}
 use Rattle.text.specs.declared.Class.the-variants.{Word, Line}
 use Rattle.text.specs.Scan.{isIn, run}
-
-abbrev pub pickPieces : Bool → List (List ℕ) → List (List ℕ) → List (List ℕ)
-pickPieces true a b = a
-pickPieces false a b = b
 
 -- a byte goes in front of the first piece
 abbrev pub onto : ℕ → List (List ℕ) → List (List ℕ)
@@ -20,7 +16,7 @@ onto b (x ∷ xs) = (b ∷ x) ∷ xs
 -- the pieces of bytes of a class, each ended by one byte that is not of it; such a byte at the very end opens no further piece
 unfoldable pub piecesOf : Class → List ℕ → List (List ℕ)
 piecesOf c [] = []
-piecesOf c (b ∷ s) = pickPieces (isIn c b) (onto b (piecesOf c s)) ([] ∷ piecesOf c s)
+piecesOf c (b ∷ s) = cond (isIn c b) (onto b (piecesOf c s)) ([] ∷ piecesOf c s)
 
 -- the lines of a text: an empty text has none, a lone line feed is one of no bytes, and the last may lack its feed
 unfoldable pub linesOf : List ℕ → List (List ℕ)

@@ -1,7 +1,7 @@
 -- Lines and words by their places in a text.
 use Prim.Native.Nat.{ℕ, zero, suc, _+_, _-_, _≤_, max}
 use mathlib.Core.Path.{_≡_}
-use mathlib.Core.Bool.{Bool, true, false}
+use mathlib.Core.Bool.{cond}
 use mathlib.Core.List.{List}
 use lib.ListN.{length, take, drop}
 use lib.Dec.{ltb}
@@ -14,13 +14,9 @@ use Rattle.text.specs.Pieces.{wordsOf, lineOf}
 unfoldable pub lineEnd : List ℕ → ℕ → ℕ
 lineEnd s line = endOf Line s line
 
-abbrev pub pickPlace : Bool → ℕ → ℕ → ℕ
-pickPlace true a b = a
-pickPlace false a b = b
-
 -- the place after the line's feed, or its end where it has none: a further line begins there exactly when that place is inside the text
 unfoldable pub nextLine : List ℕ → ℕ → ℕ
-nextLine s line = pickPlace (ltb (lineEnd s line) (length s)) (lineEnd s line + 1) (lineEnd s line)
+nextLine s line = cond (ltb (lineEnd s line) (length s)) (lineEnd s line + 1) (lineEnd s line)
 
 -- the word at or after i, past the blanks; at the line's end it is empty
 unfoldable pub nextWord : List ℕ → ℕ → Extent

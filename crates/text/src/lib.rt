@@ -9,7 +9,9 @@ ghost use Rattle.text.specs.Scan.{isIn, endOf, Scanned, Passed};
 ghost use Rattle.text.specs.Pieces.{Plain};
 ghost use Rattle.text.specs.Words.{nextLine, nextWord, wordAt, wordCount, LineEnd, Found};
 ghost use Rattle.text.specs.Parts.{partIn, partBytes, PartIn};
-ghost use Rattle.text.specs.Checks.{require, textCheck, lastLineCheck, wordsCheck};
+ghost use Rattle.ledger.specs.Refusals.{require};
+ghost use Rattle.text.specs.Checks.{fault, refused, textCheck, lastLineCheck, wordsCheck};
+use ledger::Fault;
 use ledger::Part;
 use ledger::Reason;
 use ledger::Refusal;
@@ -120,7 +122,13 @@ fn word_end(text: &[u8], from: usize) -> usize
     scan_far(text, i, Class::Word)
 }
 
-// A check's answer.
+// A stage of reading a text: it passes, or the text has a fault.
+pub enum Stage {
+    Passes,
+    Faulty(Fault),
+}
+
+// A check's answer to a caller.
 pub enum Check {
     Holds,
     Refused(Refusal),
@@ -140,33 +148,43 @@ fn all_allowed(text: &[u8]) -> bool
 }
 
 // The length of a text (1), then its first byte that is not allowed (3).
-pub fn check_text(text: &[u8]) -> Check
+pub fn check_text(text: &[u8]) -> Stage
     ensures { λ r. ⌜ r ≡ textCheck (now (text .entry)) ⌝ }
 {
     if ledger::TEXT_LIMIT < text.len() {
-        return Check::Refused(Refusal {
+        return Stage::Faulty(Fault {
             reason: Reason::TextTooLong,
             place: 0,
         });
     }
     if all_allowed(text) {
-        return Check::Holds;
+        return Stage::Passes;
     }
     let bad = scan(text, 0, Class::Allowed);
-    Check::Refused(Refusal {
+    Stage::Faulty(Fault {
         reason: Reason::ByteNotAllowed,
         place: bad,
     })
 }
 
-// A check: where the test holds, the rest; else a refusal with its reason and place.
-pub fn require(test: bool, reason: Reason, place: usize, rest: Check) -> Check
-    ensures { λ r. ⌜ r ≡ require test reason place rest ⌝ }
+// Where the test holds, the rest; else a fault.
+pub fn require(test: bool, reason: Reason, place: usize, rest: Stage) -> Stage
+    ensures { λ r. ⌜ r ≡ require test (fault reason place) rest ⌝ }
 {
     if test {
         return rest;
     }
-    Check::Refused(Refusal { reason, place })
+    Stage::Faulty(Fault { reason, place })
+}
+
+// The same of a call without a text: where the test holds, the rest; else a refusal.
+pub fn demand(test: bool, reason: Reason, rest: Check) -> Check
+    ensures { λ r. ⌜ r ≡ require test (refused reason) rest ⌝ }
+{
+    if test {
+        return rest;
+    }
+    Check::Refused(Refusal::without_text(reason))
 }
 
 // The end of the line that begins at a place: its line feed, or the text's length.
@@ -251,39 +269,39 @@ pub fn is_plain(text: &[u8]) -> bool
 }
 
 // The number of words n of the line that begins at a place (2): at most so many, and a good one.
-pub fn check_words(text: &[u8], line: usize, n: usize, most: usize, good: bool) -> Check
+pub fn check_words(text: &[u8], line: usize, n: usize, most: usize, good: bool) -> Stage
     ensures { λ r. ⌜ r ≡ wordsCheck (now (text .entry)) line n most good ⌝ }
 {
     if most < n {
         let w = word_at(text, line, most);
-        return Check::Refused(Refusal {
+        return Stage::Faulty(Fault {
             reason: Reason::WrongCount,
             place: w.start,
         });
     }
     if good {
-        return Check::Holds;
+        return Stage::Passes;
     }
     let e = line_end(text, line);
-    Check::Refused(Refusal {
+    Stage::Faulty(Fault {
         reason: Reason::WrongCount,
         place: e,
     })
 }
 
 // Whether the line that begins at a place is the text's last: else the line after it is surplus (2).
-pub fn check_last_line(text: &[u8], line: usize) -> Check
+pub fn check_last_line(text: &[u8], line: usize) -> Stage
     ensures { λ r. ⌜ r ≡ lastLineCheck (now (text .entry)) line ⌝ }
 {
     let next = next_line(text, line);
     if next < text.len() {
         let w = next_word(text, next);
-        return Check::Refused(Refusal {
+        return Stage::Faulty(Fault {
             reason: Reason::WrongCount,
             place: w.start,
         });
     }
-    Check::Holds
+    Stage::Passes
 }
 
 // The part itself where it lies in the text, else the empty part at the text's end.

@@ -1,6 +1,6 @@
 -- Storing one thing after another: a writer is a row of stores. Assumes nothing.
 use mathlib.Core.Path.{_≡_, refl, sym, ap, _∙_}
-use mathlib.Core.Bool.{Bool, true, false}
+use mathlib.Core.Bool.{Bool, true, false, cond}
 use mathlib.Core.List.{List, [], _∷_, _++_}
 use Prim.Native.Nat.{ℕ, suc, _+_, _≤_, _<_}
 use native.Mathlib.Omega.{arith}
@@ -12,10 +12,11 @@ use borrow.Author.Tests.{leb-true, leb-false, le-leb, lt-leb}
 use Rattle.ledger.specs.Limits.{textLimit, largestPlace}
 use Rattle.ledger.specs.declared.Reason.the-variants.{TextTooLong, NoRoom}
 use Rattle.ledger.specs.declared.Refusal.{Refusal}
+use Rattle.ledger.specs.Refusals.{withoutText}
 use Rattle.writing.specs.declared.Writing.{Writing}
 use Rattle.writing.specs.declared.Writing.the-variants.{Written, Refused}
 use Rattle.writing.specs.Puts.{onward, Put}
-use Rattle.writing.specs.Answers.{pickWriting, roomAnswer, Wrote}
+use Rattle.writing.specs.Answers.{roomAnswer, Wrote}
 
 -- stores past a buffer's end change nothing
 pub sets-out : (b : List ℕ) (at : ℕ) (xs : List ℕ) → length b ≤ at → sets b at xs ≡ b
@@ -72,20 +73,20 @@ completes-done rest ys p at b b₀ k e h l = k b p (rw e (put-none b p h l))
 
 -- the answer for a text of n bytes
 module _ (n room : ℕ) where
-  pub room-long : textLimit < n → Refused (record { reason = TextTooLong; place = 0 }) ≡ roomAnswer n room
+  pub room-long : (x : Refusal) → x ≡ withoutText TextTooLong → textLimit < n → Refused x ≡ roomAnswer n room
   unfolding roomAnswer
-  room-long h = rw (lt-leb n textLimit h)
+  room-long x e h = rw (e, lt-leb n textLimit h)
 
-  pub room-short : n ≤ textLimit → room < n → Refused (record { reason = NoRoom; place = 0 }) ≡ roomAnswer n room
+  pub room-short : (x : Refusal) → x ≡ withoutText NoRoom → n ≤ textLimit → room < n → Refused x ≡ roomAnswer n room
   unfolding roomAnswer
-  room-short h l = rw (le-leb n textLimit h, lt-leb n room l)
+  room-short x e h l = rw (e, le-leb n textLimit h, lt-leb n room l)
 
   pub room-enough : n ≤ textLimit → n ≤ room → Written n ≡ roomAnswer n room
   unfolding roomAnswer
   room-enough h l = rw (le-leb n textLimit h, le-leb n room l)
 
 -- a text is written exactly where it fits the limit and the room
-granted : (s t : Bool) (n m : ℕ) (x y : Refusal) → pickWriting s (pickWriting t (Written n) (Refused x)) (Refused y) ≡ Written m → (s ≡ true) × (t ≡ true) × (n ≡ m)
+granted : (s t : Bool) (n m : ℕ) (x y : Refusal) → cond s (cond t (Written n) (Refused x)) (Refused y) ≡ Written m → (s ≡ true) × (t ≡ true) × (n ≡ m)
 granted true true n m x y e = (refl, refl, cc)
 granted true false n m x y e = (refl, cc, cc)
 granted false t n m x y e = (cc, cc, cc)
@@ -107,7 +108,7 @@ measured n room = go (leb n largestPlace) refl
         rw q
     go false e =
         let l = leb-false n largestPlace e in
-        sym (room-long (onward 0 n) room (omega arith)) ∙ room-long n room (omega arith)
+        sym (room-long (onward 0 n) room _ refl (omega arith)) ∙ room-long n room _ refl (omega arith)
 
 -- from the answer and a put at the front to what writing promises
 module _ (bytes before : List ℕ) (answer : Writing) (is : answer ≡ roomAnswer (length bytes) (length before)) where

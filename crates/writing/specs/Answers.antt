@@ -1,27 +1,23 @@
 -- What writing a text answers, and what it leaves in the buffer: too little room changes nothing, and bytes past the text stay.
 use Prim.Native.Nat.{ℕ}
 use mathlib.Core.Path.{_≡_}
-use mathlib.Core.Bool.{Bool, true, false}
 use mathlib.Core.List.{List, _++_}
 use lib.ListN.{length, drop}
 use lib.Dec.{leb}
 use Rattle.ledger.specs.declared.Reason.{Reason}
 use Rattle.ledger.specs.declared.Reason.the-variants.{TextTooLong, NoRoom}
 use Rattle.ledger.specs.Limits.{textLimit}
+use Rattle.ledger.specs.Refusals.{withoutText, require}
 use Rattle.writing.specs.declared.Writing.{Writing}
 use Rattle.writing.specs.declared.Writing.the-variants.{Written, Refused}
 
-abbrev pub pickWriting : Bool → Writing → Writing → Writing
-pickWriting true a b = a
-pickWriting false a b = b
-
--- a check: where the test holds go on, else refused, at place 0 as every call without a text
-abbrev pub require : Bool → Reason → Writing → Writing
-require test why rest = pickWriting test rest (Refused (record { reason = why; place = 0 }))
+-- writing is a call without a text
+abbrev pub unwritten : Reason → Writing
+unwritten why = Refused (withoutText why)
 
 -- a standard text of so many bytes: its length (1), then the room (11)
 unfoldable pub roomAnswer : ℕ → ℕ → Writing
-roomAnswer n room = require (leb n textLimit) TextTooLong (require (leb n room) NoRoom (Written n))
+roomAnswer n room = require (leb n textLimit) (unwritten TextTooLong) (require (leb n room) (unwritten NoRoom) (Written n))
 
 -- what the buffer holds then
 abbrev pub leftAfter : Writing → List ℕ → List ℕ → List ℕ

@@ -123,16 +123,10 @@ pub fn room_for(n: usize, room: usize) -> Writing
     ensures { λ r. ⌜ r ≡ roomAnswer n room ⌝ }
 {
     if ledger::TEXT_LIMIT < n {
-        return Writing::Refused(Refusal {
-            reason: Reason::TextTooLong,
-            place: 0,
-        });
+        return Writing::Refused(Refusal::without_text(Reason::TextTooLong));
     }
     if room < n {
-        return Writing::Refused(Refusal {
-            reason: Reason::NoRoom,
-            place: 0,
-        });
+        return Writing::Refused(Refusal::without_text(Reason::NoRoom));
     }
     Writing::Written(n)
 }

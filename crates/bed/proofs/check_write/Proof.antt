@@ -3,56 +3,6 @@ use Rattle.bed.specs.Write.{writeCheck}
 use borrow.Author.Needs.{needs}
 use Rattle.bed.proofs.check_write.Statement.{statement}
 use Rattle.bed.proofs.check_write.Tie as tie
-use Rattle.bed.proofs.check_write.Reads as reads
-use Rattle.bed.proofs.check_write.Lts as lts
-use Rattle.bed.proofs.fields_fit.Reads as fields-fit-reads
-use Rattle.bed.proofs.names_show.Reads as names-show-reads
-use Rattle.text.proofs.require.Reads as require-reads
-use Rattle.blocks.proofs.row_numbers_fit.Reads as row-numbers-fit-reads
-use Rattle.bed.proofs.rows_fit.Reads as rows-fit-reads
-use Rattle.bed.proofs.spans_fit.Reads as spans-fit-reads
-use Rattle.bed.proofs.strand_fits.Reads as strand-fits-reads
-use Rattle.blocks.proofs.count_fits.Reads as count-fits-reads
-use Rattle.blocks.proofs.rows_of.Reads as rows-of-reads
-
-rows-of-requires : tie.Need-rows-of-requires
-rows-of-requires c κs = search needs
-
-rows-fit-requires : tie.Need-rows-fit-requires
-rows-fit-requires c κs = search needs
-
-require-requires : tie.Need-require-requires
-require-requires c κs = search needs
-
-spans-fit-requires : tie.Need-spans-fit-requires
-spans-fit-requires c κs = search needs
-
-require-requires-2 : tie.Need-require-requires-2
-require-requires-2 c κs = search needs
-
-fields-fit-requires : tie.Need-fields-fit-requires
-fields-fit-requires c κs = search needs
-
-row-numbers-fit-requires : tie.Need-row-numbers-fit-requires
-row-numbers-fit-requires c κs = search needs
-
-require-requires-3 : tie.Need-require-requires-3
-require-requires-3 c κs = search needs
-
-names-show-requires : tie.Need-names-show-requires
-names-show-requires c κs = search needs
-
-strand-fits-requires : tie.Need-strand-fits-requires
-strand-fits-requires c κs = search needs
-
-require-requires-4 : tie.Need-require-requires-4
-require-requires-4 c κs = search needs
-
-count-fits-requires : tie.Need-count-fits-requires
-count-fits-requires c κs = search needs
-
-require-requires-5 : tie.Need-require-requires-5
-require-requires-5 c κs = search needs
 
 returns : tie.Need-returns
 unfolding writeCheck
@@ -76,17 +26,17 @@ pub check-write-spec : {M : Type 1} → statement M
 check-write-spec =
     tie.close
     (tie.spec
-    rows-of-requires
-    rows-fit-requires
-    require-requires
-    spans-fit-requires
-    require-requires-2
-    fields-fit-requires
-    row-numbers-fit-requires
-    require-requires-3
-    names-show-requires
-    strand-fits-requires
-    require-requires-4
-    count-fits-requires
-    require-requires-5
+    (λ c κs. search needs)
+    (λ c κs. search needs)
+    (λ c κs. search needs)
+    (λ c κs. search needs)
+    (λ c κs. search needs)
+    (λ c κs. search needs)
+    (λ c κs. search needs)
+    (λ c κs. search needs)
+    (λ c κs. search needs)
+    (λ c κs. search needs)
+    (λ c κs. search needs)
+    (λ c κs. search needs)
+    (λ c κs. search needs)
     returns)

@@ -3,8 +3,6 @@ use Rattle.bed.proofs.StandardLaws.{comma-last}
 use borrow.Author.Needs.{needs}
 use Rattle.bed.proofs.ends_with_comma.Statement.{statement}
 use Rattle.bed.proofs.ends_with_comma.Tie as tie
-use Rattle.bed.proofs.ends_with_comma.Reads as reads
-use Rattle.bed.proofs.ends_with_comma.Lts as lts
 
 returns : tie.Need-returns
 returns c = λ q. cc
@@ -12,15 +10,9 @@ returns c = λ q. cc
 returns-2 : tie.Need-returns-2
 returns-2 c = λ q. cc
 
-sub-result : tie.Need-sub-result
-sub-result c = search needs
-
-shared-slice-read-result : tie.Need-shared-slice-read-result
-shared-slice-read-result c = search needs
-
 returns-3 : tie.Need-returns-3
 returns-3 c = λ q. search comma-last
 
 pub ends-with-comma-spec : {M : Type 1} → statement M
 ends-with-comma-spec =
-    tie.close (tie.spec returns returns-2 sub-result shared-slice-read-result returns-3)
+    tie.close (tie.spec returns returns-2 (λ c. search needs) (λ c. search needs) returns-3)

@@ -3,40 +3,6 @@ use Rattle.bed.specs.Tests.{bedValid}
 use borrow.Author.Needs.{needs}
 use Rattle.bed.proofs.record_fits.Statement.{statement}
 use Rattle.bed.proofs.record_fits.Tie as tie
-use Rattle.bed.proofs.record_fits.Reads as reads
-use Rattle.bed.proofs.record_fits.Lts as lts
-use Rattle.bed.proofs.fields_fit.Reads as fields-fit-reads
-use Rattle.bed.proofs.names_fit.Reads as names-fit-reads
-use Rattle.blocks.proofs.row_numbers_fit.Reads as row-numbers-fit-reads
-use Rattle.bed.proofs.rows_fit.Reads as rows-fit-reads
-use Rattle.bed.proofs.spans_fit.Reads as spans-fit-reads
-use Rattle.bed.proofs.strand_fits.Reads as strand-fits-reads
-use Rattle.blocks.proofs.count_fits.Reads as count-fits-reads
-use Rattle.blocks.proofs.rows_of.Reads as rows-of-reads
-
-rows-of-requires : tie.Need-rows-of-requires
-rows-of-requires c κs = search needs
-
-count-fits-requires : tie.Need-count-fits-requires
-count-fits-requires c κs = search needs
-
-names-fit-requires : tie.Need-names-fit-requires
-names-fit-requires c κs = search needs
-
-strand-fits-requires : tie.Need-strand-fits-requires
-strand-fits-requires c κs = search needs
-
-fields-fit-requires : tie.Need-fields-fit-requires
-fields-fit-requires c κs = search needs
-
-row-numbers-fit-requires : tie.Need-row-numbers-fit-requires
-row-numbers-fit-requires c κs = search needs
-
-spans-fit-requires : tie.Need-spans-fit-requires
-spans-fit-requires c κs = search needs
-
-rows-fit-requires : tie.Need-rows-fit-requires
-rows-fit-requires c κs = search needs
 
 returns : tie.Need-returns
 unfolding bedValid
@@ -55,12 +21,12 @@ pub record-fits-spec : {M : Type 1} → statement M
 record-fits-spec =
     tie.close
     (tie.spec
-    rows-of-requires
-    count-fits-requires
-    names-fit-requires
-    strand-fits-requires
-    fields-fit-requires
-    row-numbers-fit-requires
-    spans-fit-requires
-    rows-fit-requires
+    (λ c κs. search needs)
+    (λ c κs. search needs)
+    (λ c κs. search needs)
+    (λ c κs. search needs)
+    (λ c κs. search needs)
+    (λ c κs. search needs)
+    (λ c κs. search needs)
+    (λ c κs. search needs)
     returns)

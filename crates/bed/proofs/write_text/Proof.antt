@@ -3,56 +3,9 @@ use Rattle.bed.proofs.WriteLaws.{names-there, codes-there, rows-there, 
 use borrow.Author.Needs.{needs}
 use Rattle.bed.proofs.write_text.Statement.{statement}
 use Rattle.bed.proofs.write_text.Tie as tie
-use Rattle.bed.proofs.write_text.Reads as reads
-use Rattle.bed.proofs.write_text.Lts as lts
-use Rattle.columns.proofs.name_room.Reads as name-room-reads
-use Rattle.bed.proofs.put_lists.Reads as put-lists-reads
-use Rattle.columns.proofs.put_names.Reads as put-names-reads
-use Rattle.bed.proofs.values_of.Reads as values-of-reads
-use Rattle.bed.proofs.working_room.Reads as working-room-reads
-use Rattle.columns.proofs.write_line.Reads as write-line-reads
-
-name-room-requires : tie.Need-name-room-requires
-name-room-requires c κs = search needs
-
-slice-aggregate-put-names : tie.Need-slice-aggregate-put-names
-slice-aggregate-put-names c = search needs
-
-put-names-requires : tie.Need-put-names-requires
-put-names-requires c κs = search needs
-
-working-room-requires : tie.Need-working-room-requires
-working-room-requires c κs = search needs
-
-slice-aggregate-put-lists : tie.Need-slice-aggregate-put-lists
-slice-aggregate-put-lists c = search needs
-
-put-lists-requires : tie.Need-put-lists-requires
-put-lists-requires c κs = search rows-there
-
-values-of-requires : tie.Need-values-of-requires
-values-of-requires c κs = search needs
-
-array-share-prefix-table : tie.Need-array-share-prefix-table
-array-share-prefix-table c = search needs
 
 slice-aggregate-write-line : tie.Need-slice-aggregate-write-line
 slice-aggregate-write-line c = codes-there _ _ _ _ _ (c .before .before .before .before .before .before .before .before .before .before .before .before .before .before .before .before .pre)
-
-slice-aggregate-write-line-2 : tie.Need-slice-aggregate-write-line-2
-slice-aggregate-write-line-2 c = search needs
-
-slice-aggregate-write-line-3 : tie.Need-slice-aggregate-write-line-3
-slice-aggregate-write-line-3 c = search needs
-
-slice-aggregate-write-line-4 : tie.Need-slice-aggregate-write-line-4
-slice-aggregate-write-line-4 c = search needs
-
-write-line-requires : tie.Need-write-line-requires
-write-line-requires c κs = search needs
-
-same-length : tie.Need-same-length
-same-length c = search needs
 
 returns : tie.Need-returns
 returns c =
@@ -63,18 +16,18 @@ pub write-text-spec : {M : Type 1} → statement M
 write-text-spec =
     tie.close
     (tie.spec
-    name-room-requires
-    slice-aggregate-put-names
-    put-names-requires
-    working-room-requires
-    slice-aggregate-put-lists
-    put-lists-requires
-    values-of-requires
-    array-share-prefix-table
+    (λ c κs. search needs)
+    (λ c. search needs)
+    (λ c κs. search needs)
+    (λ c κs. search needs)
+    (λ c. search needs)
+    (λ c κs. search rows-there)
+    (λ c κs. search needs)
+    (λ c. search needs)
     slice-aggregate-write-line
-    slice-aggregate-write-line-2
-    slice-aggregate-write-line-3
-    slice-aggregate-write-line-4
-    write-line-requires
-    same-length
+    (λ c. search needs)
+    (λ c. search needs)
+    (λ c. search needs)
+    (λ c κs. search needs)
+    (λ c. search needs)
     returns)

@@ -19,29 +19,8 @@ abbrev μ-loop : tie.MeasureT-loop
 loop-holds : tie.Need-loop-holds Inv-loop μ-loop
 loop-holds c = (search needs, refl, search needs, search needs, completes-all _ _ _)
 
-mul-put-low : tie.Need-mul-put-low Inv-loop μ-loop
-mul-put-low c = search needs
-
-shared-slice-read-put-low : tie.Need-shared-slice-read-put-low Inv-loop μ-loop
-shared-slice-read-put-low c = search needs
-
-put-low-requires : tie.Need-put-low-requires Inv-loop μ-loop
-put-low-requires c κs = search needs
-
-add-i : tie.Need-add-i Inv-loop μ-loop
-add-i c = search needs
-
-loop-less : tie.Need-loop-less Inv-loop μ-loop
-loop-less c = search needs
-
 loop-again : tie.Need-loop-again Inv-loop μ-loop
 loop-again c = (search needs, search needs, search needs, search needs, search words-step)
-
-same-length : tie.Need-same-length Inv-loop μ-loop
-same-length c = search needs
-
-returns : tie.Need-returns Inv-loop μ-loop
-returns c = search words-done
 
 pub put-each-spec : {M : Type 1} → statement M
 put-each-spec =
@@ -50,11 +29,11 @@ put-each-spec =
     Inv-loop
     μ-loop
     loop-holds
-    mul-put-low
-    shared-slice-read-put-low
-    put-low-requires
-    add-i
-    loop-less
+    (λ c. search needs)
+    (λ c. search needs)
+    (λ c κs. search needs)
+    (λ c. search needs)
+    (λ c. search needs)
     loop-again
-    same-length
-    returns)
+    (λ c. search needs)
+    (λ c. search words-done))

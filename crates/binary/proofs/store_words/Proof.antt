@@ -12,53 +12,20 @@ Inv-loop buf₀ at vs i₀ buf i = Storing vs at buf₀ i buf
 abbrev μ-loop : tie.MeasureT-loop
 μ-loop buf₀ at vs i₀ buf i = length vs - i
 
-loop-holds : tie.Need-loop-holds Inv-loop μ-loop
-loop-holds c = search storing-starts
-
-mul-store-word : tie.Need-mul-store-word Inv-loop μ-loop
-mul-store-word c = search needs
-
-add-store-word : tie.Need-add-store-word Inv-loop μ-loop
-add-store-word c = search needs
-
-mul-store-word-2 : tie.Need-mul-store-word-2 Inv-loop μ-loop
-mul-store-word-2 c = search needs
-
-shared-slice-read-store-word : tie.Need-shared-slice-read-store-word Inv-loop μ-loop
-shared-slice-read-store-word c = search needs
-
-store-word-requires : tie.Need-store-word-requires Inv-loop μ-loop
-store-word-requires c κs = search needs
-
-add-i : tie.Need-add-i Inv-loop μ-loop
-add-i c = search needs
-
-loop-less : tie.Need-loop-less Inv-loop μ-loop
-loop-less c = search needs
-
-loop-again : tie.Need-loop-again Inv-loop μ-loop
-loop-again c = search storing-step
-
-same-length : tie.Need-same-length Inv-loop μ-loop
-same-length c = search needs
-
-returns : tie.Need-returns Inv-loop μ-loop
-returns c = search storing-ends
-
 pub store-words-spec : {M : Type 1} → statement M
 store-words-spec =
     tie.close
     (tie.spec
     Inv-loop
     μ-loop
-    loop-holds
-    mul-store-word
-    add-store-word
-    mul-store-word-2
-    shared-slice-read-store-word
-    store-word-requires
-    add-i
-    loop-less
-    loop-again
-    same-length
-    returns)
+    (λ c. search storing-starts)
+    (λ c. search needs)
+    (λ c. search needs)
+    (λ c. search needs)
+    (λ c. search needs)
+    (λ c κs. search needs)
+    (λ c. search needs)
+    (λ c. search needs)
+    (λ c. search storing-step)
+    (λ c. search needs)
+    (λ c. search storing-ends))

@@ -14,41 +14,11 @@ Inv-loop values count least most n i₀ i = (i ≤ n) × (allBetween least most 
 abbrev μ-loop : tie.MeasureT-loop
 μ-loop values count least most n i₀ i = n - i
 
-reach-requires : tie.Need-reach-requires Inv-loop μ-loop
-reach-requires c κs = search needs
-
 loop-holds : tie.Need-loop-holds Inv-loop μ-loop
 loop-holds c = (search needs, refl)
 
-mul-if1 : tie.Need-mul-if1 Inv-loop μ-loop
-mul-if1 c = search needs
-
-shared-slice-read-if1 : tie.Need-shared-slice-read-if1 Inv-loop μ-loop
-shared-slice-read-if1 c = search needs
-
-returns : tie.Need-returns Inv-loop μ-loop
-returns c = search between-low
-
-mul-if2 : tie.Need-mul-if2 Inv-loop μ-loop
-mul-if2 c = search needs
-
-shared-slice-read-if2 : tie.Need-shared-slice-read-if2 Inv-loop μ-loop
-shared-slice-read-if2 c = search needs
-
-returns-2 : tie.Need-returns-2 Inv-loop μ-loop
-returns-2 c = search between-high
-
-add-i : tie.Need-add-i Inv-loop μ-loop
-add-i c = search needs
-
-loop-less : tie.Need-loop-less Inv-loop μ-loop
-loop-less c = search needs
-
 loop-again : tie.Need-loop-again Inv-loop μ-loop
 loop-again c = (search needs, search between-next)
-
-returns-3 : tie.Need-returns-3 Inv-loop μ-loop
-returns-3 c = search between-done
 
 pub all-between-spec : {M : Type 1} → statement M
 all-between-spec =
@@ -56,15 +26,15 @@ all-between-spec =
     (tie.spec
     Inv-loop
     μ-loop
-    reach-requires
+    (λ c κs. search needs)
     loop-holds
-    mul-if1
-    shared-slice-read-if1
-    returns
-    mul-if2
-    shared-slice-read-if2
-    returns-2
-    add-i
-    loop-less
+    (λ c. search needs)
+    (λ c. search needs)
+    (λ c. search between-low)
+    (λ c. search needs)
+    (λ c. search needs)
+    (λ c. search between-high)
+    (λ c. search needs)
+    (λ c. search needs)
     loop-again
-    returns-3)
+    (λ c. search between-done))

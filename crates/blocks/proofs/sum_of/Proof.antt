@@ -15,32 +15,8 @@ Inv-loop values count n sum₀ i₀ sum i = (i ≤ n) × (sum ≤ largestNumber)
 abbrev μ-loop : tie.MeasureT-loop
 μ-loop values count n sum₀ i₀ sum i = n - i
 
-reach-requires : tie.Need-reach-requires Inv-loop μ-loop
-reach-requires c κs = search needs
-
-loop-holds : tie.Need-loop-holds Inv-loop μ-loop
-loop-holds c = search needs
-
-mul-add : tie.Need-mul-add Inv-loop μ-loop
-mul-add c = search needs
-
-shared-slice-read-add : tie.Need-shared-slice-read-add Inv-loop μ-loop
-shared-slice-read-add c = search needs
-
-add-requires : tie.Need-add-requires Inv-loop μ-loop
-add-requires c κs = search needs
-
-add-i : tie.Need-add-i Inv-loop μ-loop
-add-i c = search needs
-
-loop-less : tie.Need-loop-less Inv-loop μ-loop
-loop-less c = search needs
-
 loop-again : tie.Need-loop-again Inv-loop μ-loop
 loop-again c = (search needs, search needs, search sum-more)
-
-returns : tie.Need-returns Inv-loop μ-loop
-returns c = search sum-done
 
 pub sum-of-spec : {M : Type 1} → statement M
 sum-of-spec =
@@ -48,12 +24,12 @@ sum-of-spec =
     (tie.spec
     Inv-loop
     μ-loop
-    reach-requires
-    loop-holds
-    mul-add
-    shared-slice-read-add
-    add-requires
-    add-i
-    loop-less
+    (λ c κs. search needs)
+    (λ c. search needs)
+    (λ c. search needs)
+    (λ c. search needs)
+    (λ c κs. search needs)
+    (λ c. search needs)
+    (λ c. search needs)
     loop-again
-    returns)
+    (λ c. search sum-done))

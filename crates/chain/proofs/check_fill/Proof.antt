@@ -3,16 +3,10 @@ use Rattle.chain.specs.Read.{fillCheck}
 use borrow.Author.Needs.{needs}
 use Rattle.chain.proofs.check_fill.Statement.{statement}
 use Rattle.chain.proofs.check_fill.Tie as tie
-use Rattle.chain.proofs.check_fill.Reads as reads
-use Rattle.chain.proofs.check_fill.Lts as lts
-use Rattle.text.proofs.require.Reads as require-reads
-
-require-requires : tie.Need-require-requires
-require-requires c κs = search needs
 
 returns : tie.Need-returns
 unfolding fillCheck
 returns c = c .require .ensures
 
 pub check-fill-spec : {M : Type 1} → statement M
-check-fill-spec = tie.close (tie.spec require-requires returns)
+check-fill-spec = tie.close (tie.spec (λ c κs. search needs) returns)

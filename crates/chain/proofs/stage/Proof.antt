@@ -3,40 +3,15 @@ use Rattle.chain.proofs.StageLaws.{check-refused, check-on}
 use borrow.Author.Needs.{needs}
 use Rattle.chain.proofs.stage.Statement.{statement}
 use Rattle.chain.proofs.stage.Tie as tie
-use Rattle.chain.proofs.stage.Reads as reads
-use Rattle.chain.proofs.stage.Lts as lts
-use Rattle.chain.proofs.after_text.Reads as after-text-reads
-use Rattle.text.proofs.check_text.Reads as check-text-reads
-
-check-text-requires : tie.Need-check-text-requires
-check-text-requires c κs = search needs
-
-enum-known-x : tie.Need-enum-known-x
-enum-known-x c = search needs
-
-enum-told : tie.Need-enum-told
-enum-told c = search needs
-
-after-text-requires : tie.Need-after-text-requires
-after-text-requires c κs = search needs
-
-returns : tie.Need-returns
-returns c = search (check-refused, check-on)
-
-same-length : tie.Need-same-length
-same-length c = search needs
-
-returns-2 : tie.Need-returns-2
-returns-2 c = search (check-refused, check-on)
 
 pub stage-spec : {M : Type 1} → statement M
 stage-spec =
     tie.close
     (tie.spec
-    check-text-requires
-    enum-known-x
-    enum-told
-    after-text-requires
-    returns
-    same-length
-    returns-2)
+    (λ c κs. search needs)
+    (λ c. search needs)
+    (λ c. search needs)
+    (λ c κs. search needs)
+    (λ c. search (check-refused, check-on))
+    (λ c. search needs)
+    (λ c. search (check-refused, check-on)))

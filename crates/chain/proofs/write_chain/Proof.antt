@@ -3,40 +3,15 @@ use Rattle.chain.proofs.WriteLaws.{write-refused, write-ready, write-wr
 use borrow.Author.Needs.{needs}
 use Rattle.chain.proofs.write_chain.Statement.{statement}
 use Rattle.chain.proofs.write_chain.Tie as tie
-use Rattle.chain.proofs.write_chain.Reads as reads
-use Rattle.chain.proofs.write_chain.Lts as lts
-use Rattle.chain.proofs.check_write.Reads as check-write-reads
-use Rattle.chain.proofs.write_text.Reads as write-text-reads
-
-check-write-requires : tie.Need-check-write-requires
-check-write-requires c κs = search needs
-
-enum-known-x : tie.Need-enum-known-x
-enum-known-x c = search needs
-
-enum-told : tie.Need-enum-told
-enum-told c = search needs
-
-write-text-requires : tie.Need-write-text-requires
-write-text-requires c κs = search write-ready
-
-returns : tie.Need-returns
-returns c = search (write-refused, write-wrote)
-
-same-length : tie.Need-same-length
-same-length c = search needs
-
-returns-2 : tie.Need-returns-2
-returns-2 c = search (write-refused, write-wrote)
 
 pub write-chain-spec : {M : Type 1} → statement M
 write-chain-spec =
     tie.close
     (tie.spec
-    check-write-requires
-    enum-known-x
-    enum-told
-    write-text-requires
-    returns
-    same-length
-    returns-2)
+    (λ c κs. search needs)
+    (λ c. search needs)
+    (λ c. search needs)
+    (λ c κs. search write-ready)
+    (λ c. search (write-refused, write-wrote))
+    (λ c. search needs)
+    (λ c. search (write-refused, write-wrote)))

@@ -11,13 +11,6 @@ use Rattle.columns.specs.Columns.{columnsFrom, valuesFrom, listsFrom}
 use Rattle.columns.proofs.ReadLaws.{columns-done, columns-bad, columns-more, values-done, values-more, lists-done, lists-more}
 use Rattle.columns.proofs.walk_columns.Statement.{statement}
 use Rattle.columns.proofs.walk_columns.Tie as tie
-use Rattle.columns.proofs.walk_columns.Reads as reads
-use Rattle.columns.proofs.walk_columns.Lts as lts
-use Rattle.columns.proofs.base_after.Reads as base-after-reads
-use Rattle.columns.proofs.read_field.Reads as read-field-reads
-use Rattle.columns.proofs.store_pair.Reads as store-pair-reads
-use Rattle.kinds.proofs.count_after.Reads as count-after-reads
-use Rattle.kinds.proofs.kind_of.Reads as kind-of-reads
 
 abbrev Inv-loop : tie.InvT-loop
 Inv-loop text from table out₀ lists₀ at₀ count₀ base₀ k₀ out lists at count base k = (k ≤ length table) × (base ≤ blockLimit * k) × (length out ≡ length out₀) × (length lists ≡ length lists₀)
@@ -31,46 +24,10 @@ abbrev μ-loop : tie.MeasureT-loop
 loop-holds : tie.Need-loop-holds Inv-loop μ-loop
 loop-holds c = (search needs, search needs, refl, refl, refl, refl, refl)
 
-shared-slice-read-kind-of : tie.Need-shared-slice-read-kind-of Inv-loop μ-loop
-shared-slice-read-kind-of c = search needs
-
-kind-of-requires : tie.Need-kind-of-requires Inv-loop μ-loop
-kind-of-requires c κs = search needs
-
-read-field-requires : tie.Need-read-field-requires Inv-loop μ-loop
-read-field-requires c κs = search needs
-
-enum-known-v : tie.Need-enum-known-v Inv-loop μ-loop
-enum-known-v c = search needs
-
-store-pair-requires : tie.Need-store-pair-requires Inv-loop μ-loop
-store-pair-requires c κs = search needs
-
-count-after-requires : tie.Need-count-after-requires Inv-loop μ-loop
-count-after-requires c κs = search needs
-
-base-after-requires : tie.Need-base-after-requires Inv-loop μ-loop
-base-after-requires c κs = search needs
-
-enum-known-x : tie.Need-enum-known-x Inv-loop μ-loop
-enum-known-x c = search needs
-
-same-length : tie.Need-same-length Inv-loop μ-loop
-same-length c = search needs
-
-same-length-2 : tie.Need-same-length-2 Inv-loop μ-loop
-same-length-2 c = search needs
-
 returns : tie.Need-returns Inv-loop μ-loop
 returns c = let f = c .before .before .before .before .before in
     let t = f .before .before .before .before in
     record { result = columns-bad _ _ _ _ _ _ (t .loop-test .taken) _ (f .before .before .kind-of .ensures) _ (f .read-field .ensures .result) (t .before .loop .inv .4) _ (c .before .x .given .1); stored = λ m q. cc; held = λ m q. cc }
-
-add-k : tie.Need-add-k Inv-loop μ-loop
-add-k c = search needs
-
-loop-less : tie.Need-loop-less Inv-loop μ-loop
-loop-less c = search needs
 
 loop-again : tie.Need-loop-again Inv-loop μ-loop
 loop-again c = let f = c .before .before .before .before .before .before .before .before .before .before .before in
@@ -85,12 +42,6 @@ loop-again c = let f = c .before .before .before .before .before .before .before
       lists-more _ _ _ _ _ _ (t .loop-test .taken) _ (f .before .before .kind-of .ensures) _ (f .read-field .ensures .result) _ _ (c .before .before .before .before .before .before .before .v .given .1) _ (c .before .count-after .ensures) _ _ _ _ _ (c .base-after .ensures .0) (f .read-field .ensures .stored) (l .inv .6),
     )
 
-same-length-3 : tie.Need-same-length-3 Inv-loop μ-loop
-same-length-3 c = search needs
-
-same-length-4 : tie.Need-same-length-4 Inv-loop μ-loop
-same-length-4 c = search needs
-
 returns-2 : tie.Need-returns-2 Inv-loop μ-loop
 returns-2 c = record { result = search columns-done; stored = λ m q. search values-done; held = λ m q. search lists-done }
 
@@ -101,20 +52,20 @@ walk-columns-spec =
     Inv-loop
     μ-loop
     loop-holds
-    shared-slice-read-kind-of
-    kind-of-requires
-    read-field-requires
-    enum-known-v
-    store-pair-requires
-    count-after-requires
-    base-after-requires
-    enum-known-x
-    same-length
-    same-length-2
+    (λ c. search needs)
+    (λ c κs. search needs)
+    (λ c κs. search needs)
+    (λ c. search needs)
+    (λ c κs. search needs)
+    (λ c κs. search needs)
+    (λ c κs. search needs)
+    (λ c. search needs)
+    (λ c. search needs)
+    (λ c. search needs)
     returns
-    add-k
-    loop-less
+    (λ c. search needs)
+    (λ c. search needs)
     loop-again
-    same-length-3
-    same-length-4
+    (λ c. search needs)
+    (λ c. search needs)
     returns-2)

@@ -5,18 +5,6 @@ use borrow.Author.Needs.{needs}
 use Rattle.desk.proofs.tenderchock_check.Statement.{statement}
 use Rattle.desk.proofs.tenderchock_check.Tie as tie
 
-check-bed-requires : tie.Need-check-bed-requires
-check-bed-requires c κs = search needs
-
-check-psl-requires : tie.Need-check-psl-requires
-check-psl-requires c κs = search needs
-
-check-chain-requires : tie.Need-check-chain-requires
-check-chain-requires c κs = search needs
-
-refused-by-requires : tie.Need-refused-by-requires
-refused-by-requires c κs = search needs
-
 returns : tie.Need-returns
 unfolding checked
 returns c = search code-bed
@@ -37,10 +25,10 @@ pub tenderchock-check-spec : {M : Type 1} → statement M
 tenderchock-check-spec =
     tie.close
     (tie.spec
-    check-bed-requires
-    check-psl-requires
-    check-chain-requires
-    refused-by-requires
+    (λ c κs. search needs)
+    (λ c κs. search needs)
+    (λ c κs. search needs)
+    (λ c κs. search needs)
     returns
     returns-2
     returns-3

@@ -4,12 +4,6 @@ use borrow.Author.Needs.{needs}
 use Rattle.desk.proofs.tenderchock_lift_batch.Statement.{statement}
 use Rattle.desk.proofs.tenderchock_lift_batch.Tie as tie
 
-returns : tie.Need-returns
-returns c = search batch-refused
-
-returns-2 : tie.Need-returns-2
-returns-2 c = search batch-told
-
 pub tenderchock-lift-batch-spec : {M : Type 1} → statement M
 tenderchock-lift-batch-spec =
     tie.close
@@ -23,7 +17,7 @@ tenderchock-lift-batch-spec =
     (λ c κs. search needs)
     (λ c. search needs)
     (λ c. search needs)
-    returns
+    (λ c. search batch-refused)
     (λ c. search needs)
     (λ c. search needs)
-    returns-2)
+    (λ c. search batch-told))

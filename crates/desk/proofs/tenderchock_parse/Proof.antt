@@ -5,34 +5,13 @@ use borrow.Author.Needs.{needs}
 use Rattle.desk.proofs.tenderchock_parse.Statement.{statement}
 use Rattle.desk.proofs.tenderchock_parse.Tie as tie
 
-parse-bed-requires : tie.Need-parse-bed-requires
-parse-bed-requires c κs = search needs
-
-parse-psl-requires : tie.Need-parse-psl-requires
-parse-psl-requires c κs = search needs
-
-parse-chain-requires : tie.Need-parse-chain-requires
-parse-chain-requires c κs = search needs
-
-refused-by-requires : tie.Need-refused-by-requires
-refused-by-requires c κs = search needs
-
-same-length : tie.Need-same-length
-same-length c = search needs
-
 returns : tie.Need-returns
 unfolding parsed
 returns c = search by-bed
 
-same-length-2 : tie.Need-same-length-2
-same-length-2 c = search needs
-
 returns-2 : tie.Need-returns-2
 unfolding parsed
 returns-2 c = search by-psl
-
-same-length-3 : tie.Need-same-length-3
-same-length-3 c = search needs
 
 returns-3 : tie.Need-returns-3
 unfolding parsed
@@ -46,14 +25,14 @@ pub tenderchock-parse-spec : {M : Type 1} → statement M
 tenderchock-parse-spec =
     tie.close
     (tie.spec
-    parse-bed-requires
-    parse-psl-requires
-    parse-chain-requires
-    refused-by-requires
-    same-length
+    (λ c κs. search needs)
+    (λ c κs. search needs)
+    (λ c κs. search needs)
+    (λ c κs. search needs)
+    (λ c. search needs)
     returns
-    same-length-2
+    (λ c. search needs)
     returns-2
-    same-length-3
+    (λ c. search needs)
     returns-3
     returns-4)

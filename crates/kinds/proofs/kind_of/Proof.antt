@@ -3,8 +3,6 @@ use Rattle.kinds.specs.Kinds.{kindOf}
 use borrow.Author.Tests.{ne-eqb}
 use Rattle.kinds.proofs.kind_of.Statement.{statement}
 use Rattle.kinds.proofs.kind_of.Tie as tie
-use Rattle.kinds.proofs.kind_of.Reads as reads
-use Rattle.kinds.proofs.kind_of.Lts as lts
 
 returns : tie.Need-returns
 unfolding kindOf

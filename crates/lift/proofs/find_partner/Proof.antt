@@ -7,10 +7,6 @@ use Rattle.lift.specs.Pairs.{forwardOn, pairs}
 use Rattle.lift.proofs.FindLaws.{held, Seeking, seek-on, seek-found, seek-past, told-low}
 use Rattle.lift.proofs.find_partner.Statement.{statement}
 use Rattle.lift.proofs.find_partner.Tie as tie
-use Rattle.lift.proofs.find_partner.Reads as reads
-use Rattle.lift.proofs.find_partner.Lts as lts
-use Rattle.lift.proofs.forward_base.Reads as forward-base-reads
-use Rattle.lift.proofs.in_block.Reads as in-block-reads
 
 abbrev Inv-loop : tie.InvT-loop
 Inv-loop targets queries sizes p n k size i₀ i = Seeking (forwardOn k size) targets queries sizes p n i
@@ -23,33 +19,12 @@ loop-holds : tie.Need-loop-holds Inv-loop μ-loop
 loop-holds c = record { to = search needs; same = refl }
 
 -- src/lib.rt:109:17
-mul-t : tie.Need-mul-t Inv-loop μ-loop
-mul-t c = search needs
-
 -- src/lib.rt:109:17
-shared-slice-read-t : tie.Need-shared-slice-read-t Inv-loop μ-loop
-shared-slice-read-t c = search needs
-
 -- src/lib.rt:110:17
-mul-z : tie.Need-mul-z Inv-loop μ-loop
-mul-z c = search needs
-
 -- src/lib.rt:110:17
-shared-slice-read-z : tie.Need-shared-slice-read-z Inv-loop μ-loop
-shared-slice-read-z c = search needs
-
 -- src/lib.rt:111:12
-in-block-requires : tie.Need-in-block-requires Inv-loop μ-loop
-in-block-requires c κs = search needs
-
 -- src/lib.rt:112:21
-mul-s : tie.Need-mul-s Inv-loop μ-loop
-mul-s c = search needs
-
 -- src/lib.rt:112:21
-shared-slice-read-s : tie.Need-shared-slice-read-s Inv-loop μ-loop
-shared-slice-read-s c = search needs
-
 -- src/lib.rt:112:35
 sub-s : tie.Need-sub-s Inv-loop μ-loop
 sub-s c = search told-low
@@ -76,13 +51,7 @@ unfolding pairs
 returns c = search seek-found
 
 -- src/lib.rt:115:9
-add-i : tie.Need-add-i Inv-loop μ-loop
-add-i c = search needs
-
 -- src/lib.rt:108:5
-loop-less : tie.Need-loop-less Inv-loop μ-loop
-loop-less c = search needs
-
 -- src/lib.rt:108:5
 loop-again : tie.Need-loop-again Inv-loop μ-loop
 loop-again c = search (seek-on, c .if1 .left, c .before .in-block .ensures, c .before .before .before .before .before .loop .inv)
@@ -99,18 +68,18 @@ find-partner-spec =
     Inv-loop
     μ-loop
     loop-holds
-    mul-t
-    shared-slice-read-t
-    mul-z
-    shared-slice-read-z
-    in-block-requires
-    mul-s
-    shared-slice-read-s
+    (λ c. search needs)
+    (λ c. search needs)
+    (λ c. search needs)
+    (λ c. search needs)
+    (λ c κs. search needs)
+    (λ c. search needs)
+    (λ c. search needs)
     sub-s
     add-s
     forward-base-requires
     returns
-    add-i
-    loop-less
+    (λ c. search needs)
+    (λ c. search needs)
     loop-again
     returns-2)

@@ -1,8 +1,6 @@
 use Rattle.lift.proofs.FindLaws.{outside-low, inside-is}
 use Rattle.lift.proofs.in_block.Statement.{statement}
 use Rattle.lift.proofs.in_block.Tie as tie
-use Rattle.lift.proofs.in_block.Reads as reads
-use Rattle.lift.proofs.in_block.Lts as lts
 
 -- src/lib.rt:94:9
 returns : tie.Need-returns

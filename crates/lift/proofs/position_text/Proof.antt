@@ -3,49 +3,17 @@ use Rattle.lift.proofs.TextLaws.{text-held, text-refused, text-lifted}
 use borrow.Author.Needs.{needs}
 use Rattle.lift.proofs.position_text.Statement.{statement}
 use Rattle.lift.proofs.position_text.Tie as tie
-use Rattle.lift.proofs.position_text.Reads as reads
-use Rattle.lift.proofs.position_text.Lts as lts
-use Rattle.blocks.proofs.working_room.Reads as working-room-reads
-use Rattle.chain.proofs.read_rows.Reads as read-rows-reads
-use Rattle.lift.proofs.position_rows.Reads as position-rows-reads
-
-working-room-requires : tie.Need-working-room-requires
-working-room-requires c κs = search needs
-
-slice-aggregate-read-rows : tie.Need-slice-aggregate-read-rows
-slice-aggregate-read-rows c = search needs
-
-read-rows-requires : tie.Need-read-rows-requires
-read-rows-requires c κs = search needs
-
-enum-known-x : tie.Need-enum-known-x
-enum-known-x c = search needs
-
-enum-known-c : tie.Need-enum-known-c
-enum-known-c c = search needs
-
-slice-aggregate-position-rows : tie.Need-slice-aggregate-position-rows
-slice-aggregate-position-rows c = search needs
-
-position-rows-requires : tie.Need-position-rows-requires
-position-rows-requires c κs = search text-held
-
-returns : tie.Need-returns
-returns c = search text-refused
-
-returns-2 : tie.Need-returns-2
-returns-2 c = search text-lifted
 
 pub position-text-spec : {M : Type 1} → statement M
 position-text-spec =
     tie.close
     (tie.spec
-    working-room-requires
-    slice-aggregate-read-rows
-    read-rows-requires
-    enum-known-x
-    enum-known-c
-    slice-aggregate-position-rows
-    position-rows-requires
-    returns
-    returns-2)
+    (λ c κs. search needs)
+    (λ c. search needs)
+    (λ c κs. search needs)
+    (λ c. search needs)
+    (λ c. search needs)
+    (λ c. search needs)
+    (λ c κs. search text-held)
+    (λ c. search text-refused)
+    (λ c. search text-lifted))

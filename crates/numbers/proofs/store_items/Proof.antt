@@ -8,10 +8,6 @@ use Rattle.numbers.specs.Lists.{itemsOf, testItems, goodValues}
 use Rattle.numbers.proofs.ListLaws.{list-bad, list-more, list-done, stored-more, stored-bad, stored-done}
 use Rattle.numbers.proofs.store_items.Statement.{statement}
 use Rattle.numbers.proofs.store_items.Tie as tie
-use Rattle.numbers.proofs.store_items.Reads as reads
-use Rattle.numbers.proofs.store_items.Lts as lts
-use Rattle.numbers.proofs.read_item.Reads as read-item-reads
-use Rattle.numbers.proofs.store.Reads as store-reads
 
 abbrev Inv-loop : tie.InvT-loop
 Inv-loop word least most out₀ i₀ n₀ out i n = (n ≤ i) × (i ≤ length word + 1) × (length out ≡ length out₀)
@@ -24,38 +20,11 @@ abbrev μ-loop : tie.MeasureT-loop
 loop-holds : tie.Need-loop-holds Inv-loop μ-loop
 loop-holds c = (search needs, search needs, refl, refl, refl)
 
-read-item-requires : tie.Need-read-item-requires Inv-loop μ-loop
-read-item-requires c κs = search needs
-
-enum-known-spelt : tie.Need-enum-known-spelt Inv-loop μ-loop
-enum-known-spelt c = search needs
-
-store-requires : tie.Need-store-requires Inv-loop μ-loop
-store-requires c κs = search needs
-
-enum-known-spelt-2 : tie.Need-enum-known-spelt-2 Inv-loop μ-loop
-enum-known-spelt-2 c = search needs
-
-same-length : tie.Need-same-length Inv-loop μ-loop
-same-length c = search needs
-
 returns : tie.Need-returns Inv-loop μ-loop
 returns c = record { is = search list-bad; stored = search stored-bad; near = search needs }
 
-add-n : tie.Need-add-n Inv-loop μ-loop
-add-n c = search needs
-
-add-i : tie.Need-add-i Inv-loop μ-loop
-add-i c = search needs
-
-loop-less : tie.Need-loop-less Inv-loop μ-loop
-loop-less c = search needs
-
 loop-again : tie.Need-loop-again Inv-loop μ-loop
 loop-again c = (search needs, search needs, search needs, search list-more, search stored-more)
-
-same-length-2 : tie.Need-same-length-2 Inv-loop μ-loop
-same-length-2 c = search needs
 
 returns-2 : tie.Need-returns-2 Inv-loop μ-loop
 returns-2 c = record { is = search list-done; stored = search stored-done; near = search needs }
@@ -67,15 +36,15 @@ store-items-spec =
     Inv-loop
     μ-loop
     loop-holds
-    read-item-requires
-    enum-known-spelt
-    store-requires
-    enum-known-spelt-2
-    same-length
+    (λ c κs. search needs)
+    (λ c. search needs)
+    (λ c κs. search needs)
+    (λ c. search needs)
+    (λ c. search needs)
     returns
-    add-n
-    add-i
-    loop-less
+    (λ c. search needs)
+    (λ c. search needs)
+    (λ c. search needs)
     loop-again
-    same-length-2
+    (λ c. search needs)
     returns-2)

@@ -4,22 +4,14 @@ use borrow.Author.Tests.{eq-eqb, ne-eqb}
 use borrow.Author.Needs.{needs}
 use Rattle.numbers.proofs.well_spelt.Statement.{statement}
 use Rattle.numbers.proofs.well_spelt.Tie as tie
-use Rattle.numbers.proofs.well_spelt.Reads as reads
-use Rattle.numbers.proofs.well_spelt.Lts as lts
 
 returns : tie.Need-returns
 unfolding wellSpelt
 returns c = simp (eq-eqb _ _ (c .if1 .taken))
-
-scan-requires : tie.Need-scan-requires
-scan-requires c κs = search needs
-
-shared-slice-read-result : tie.Need-shared-slice-read-result
-shared-slice-read-result c = search needs
 
 returns-2 : tie.Need-returns-2
 unfolding wellSpelt
 returns-2 c = search spelt-is
 
 pub well-spelt-spec : {M : Type 1} → statement M
-well-spelt-spec = tie.close (tie.spec returns scan-requires shared-slice-read-result returns-2)
+well-spelt-spec = tie.close (tie.spec returns (λ c κs. search needs) (λ c. search needs) returns-2)

@@ -3,29 +3,6 @@ use Rattle.psl.specs.Read.{spanCheck}
 use borrow.Author.Needs.{needs}
 use Rattle.psl.proofs.check_spans.Statement.{statement}
 use Rattle.psl.proofs.check_spans.Tie as tie
-use Rattle.psl.proofs.check_spans.Reads as reads
-use Rattle.psl.proofs.check_spans.Lts as lts
-use Rattle.blocks.proofs.span_fits.Reads as span-fits-reads
-use Rattle.columns.proofs.value_at.Reads as value-at-reads
-use Rattle.text.proofs.require.Reads as require-reads
-
-value-at-requires : tie.Need-value-at-requires
-value-at-requires c κs = search needs
-
-value-at-requires-2 : tie.Need-value-at-requires-2
-value-at-requires-2 c κs = search needs
-
-span-fits-requires : tie.Need-span-fits-requires
-span-fits-requires c κs = search needs
-
-require-requires : tie.Need-require-requires
-require-requires c κs = search needs
-
-span-fits-requires-2 : tie.Need-span-fits-requires-2
-span-fits-requires-2 c κs = search needs
-
-require-requires-2 : tie.Need-require-requires-2
-require-requires-2 c κs = search needs
 
 returns : tie.Need-returns
 unfolding spanCheck
@@ -42,10 +19,10 @@ pub check-spans-spec : {M : Type 1} → statement M
 check-spans-spec =
     tie.close
     (tie.spec
-    value-at-requires
-    value-at-requires-2
-    span-fits-requires
-    require-requires
-    span-fits-requires-2
-    require-requires-2
+    (λ c κs. search needs)
+    (λ c κs. search needs)
+    (λ c κs. search needs)
+    (λ c κs. search needs)
+    (λ c κs. search needs)
+    (λ c κs. search needs)
     returns)

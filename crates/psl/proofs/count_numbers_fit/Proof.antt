@@ -3,8 +3,6 @@ use mathlib.Core.Path.{refl}
 use Rattle.psl.specs.Tests.{countNumbersFit}
 use Rattle.psl.proofs.count_numbers_fit.Statement.{statement}
 use Rattle.psl.proofs.count_numbers_fit.Tie as tie
-use Rattle.psl.proofs.count_numbers_fit.Reads as reads
-use Rattle.psl.proofs.count_numbers_fit.Lts as lts
 
 returns : tie.Need-returns
 unfolding countNumbersFit

@@ -2,32 +2,11 @@
 use borrow.Author.Needs.{needs}
 use Rattle.psl.proofs.first_on.Statement.{statement}
 use Rattle.psl.proofs.first_on.Tie as tie
-use Rattle.psl.proofs.first_on.Reads as reads
-use Rattle.psl.proofs.first_on.Lts as lts
-use Rattle.blocks.proofs.less.Reads as less-reads
-
-enum-told : tie.Need-enum-told
-enum-told c = search needs
-
-enum-told-2 : tie.Need-enum-told-2
-enum-told-2 c = search needs
-
-less-requires : tie.Need-less-requires
-less-requires c κs = search needs
-
-enum-told-3 : tie.Need-enum-told-3
-enum-told-3 c = search needs
-
-returns : tie.Need-returns
-returns c = search needs
 
 returns-2 : tie.Need-returns-2
 returns-2 c = rw (c .before .enum-told2 .given .1) (c .less .ensures)
 
-returns-3 : tie.Need-returns-3
-returns-3 c = search needs
-
 pub first-on-spec : {M : Type 1} → statement M
 first-on-spec =
     tie.close
-    (tie.spec enum-told enum-told-2 less-requires enum-told-3 returns returns-2 returns-3)
+    (tie.spec (λ c. search needs) (λ c. search needs) (λ c κs. search needs) (λ c. search needs) (λ c. search needs) returns-2 (λ c. search needs))

@@ -3,19 +3,10 @@ use Rattle.psl.specs.Tests.{spansFit}
 use borrow.Author.Needs.{needs}
 use Rattle.psl.proofs.spans_fit.Statement.{statement}
 use Rattle.psl.proofs.spans_fit.Tie as tie
-use Rattle.psl.proofs.spans_fit.Reads as reads
-use Rattle.psl.proofs.spans_fit.Lts as lts
-use Rattle.blocks.proofs.span_fits.Reads as span-fits-reads
-
-span-fits-requires : tie.Need-span-fits-requires
-span-fits-requires c κs = search needs
-
-span-fits-requires-2 : tie.Need-span-fits-requires-2
-span-fits-requires-2 c κs = search needs
 
 returns : tie.Need-returns
 unfolding spansFit
 returns c = rw (c .before .span-fits .ensures, c .span-fits2 .ensures)
 
 pub spans-fit-spec : {M : Type 1} → statement M
-spans-fit-spec = tie.close (tie.spec span-fits-requires span-fits-requires-2 returns)
+spans-fit-spec = tie.close (tie.spec (λ c κs. search needs) (λ c κs. search needs) returns)

@@ -5,17 +5,8 @@ use borrow.Author.Needs.{needs}
 use Rattle.region.proofs.batch_text.Statement.{statement}
 use Rattle.region.proofs.batch_text.Tie as tie
 
-returns : tie.Need-returns
-returns c = search text-no-room
-
 put-text-requires : tie.Need-put-text-requires
 put-text-requires c κs = (search text-held, search room-there)
-
-returns-2 : tie.Need-returns-2
-returns-2 c = search text-refused
-
-returns-3 : tie.Need-returns-3
-returns-3 c = search text-answered
 
 pub batch-text-spec : {M : Type 1} → statement M
 batch-text-spec =
@@ -23,7 +14,7 @@ batch-text-spec =
     (tie.spec
     (λ c κs. search needs)
     (λ c κs. search needs)
-    returns
+    (λ c. search text-no-room)
     (λ c κs. search needs)
     (λ c. search needs)
     (λ c κs. search needs)
@@ -32,6 +23,6 @@ batch-text-spec =
     (λ c. search needs)
     put-text-requires
     (λ c κs. search needs)
-    returns-2
+    (λ c. search text-refused)
     (λ c. search needs)
-    returns-3)
+    (λ c. search text-answered))

@@ -2,8 +2,6 @@ use Rattle.region.proofs.TallyLaws.{kept-over, dropped-over, asked-test
 use borrow.Author.Needs.{needs}
 use Rattle.region.proofs.is_good.Statement.{statement}
 use Rattle.region.proofs.is_good.Tie as tie
-use Rattle.region.proofs.is_good.Reads as reads
-use Rattle.region.proofs.is_good.Lts as lts
 
 -- src/lib.rt:196:9
 returns : tie.Need-returns
@@ -14,12 +12,9 @@ returns-2 : tie.Need-returns-2
 returns-2 c = search dropped-over
 
 -- src/lib.rt:201:26
-add-result : tie.Need-add-result
-add-result c = search needs
-
 -- src/lib.rt:191:1
 returns-3 : tie.Need-returns-3
 returns-3 c = search asked-tested
 
 pub is-good-spec : {M : Type 1} → statement M
-is-good-spec = tie.close (tie.spec returns returns-2 add-result returns-3)
+is-good-spec = tie.close (tie.spec returns returns-2 (λ c. search needs) returns-3)

@@ -11,12 +11,6 @@ Inv-loop starts n p low₀ width₀ low width = Halving starts n p low width
 abbrev μ-loop : tie.MeasureT-loop
 μ-loop starts n p low₀ width₀ low width = width
 
-loop-holds : tie.Need-loop-holds Inv-loop μ-loop
-loop-holds c = search halving-all
-
-shared-slice-read-starts-below : tie.Need-shared-slice-read-starts-below Inv-loop μ-loop
-shared-slice-read-starts-below c = search halving-mid
-
 starts-below-requires : tie.Need-starts-below-requires Inv-loop μ-loop
 starts-below-requires c κs =
     let o = c .before .before .before .before .args in let r = c .before .before .before .before .pre in let l = c .before .before .loop in
@@ -32,26 +26,20 @@ add-low c =
     let o = c .before .before .before .before .before .args in let r = c .before .before .before .before .before .pre in let l = c .before .before .before .loop in
     omega (arith, halving-low (o .starts .now) (o .n) (o .p) (l .low) (l .width) (r .0) (omega arith) (l .inv) (c .starts-below .result) (c .starts-below .ensures), l .inv .room)
 
-loop-again : tie.Need-loop-again Inv-loop μ-loop
-loop-again c = search halving-step
-
-returns : tie.Need-returns Inv-loop μ-loop
-returns c = search halving-done
-
 pub last-below-spec : {M : Type 1} → statement M
 last-below-spec =
     tie.close
     (tie.spec
     Inv-loop
     μ-loop
-    loop-holds
+    (λ c. search halving-all)
     (λ c. search needs)
     (λ c. search needs)
-    shared-slice-read-starts-below
+    (λ c. search halving-mid)
     starts-below-requires
     mul-low
     add-low
     (λ c. search needs)
     (λ c. search needs)
-    loop-again
-    returns)
+    (λ c. search halving-step)
+    (λ c. search halving-done))

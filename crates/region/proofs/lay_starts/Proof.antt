@@ -21,9 +21,6 @@ loop-again c =
     let o = c .before .before .before .args in let l = c .before .before .loop in
     (search needs, lay-more (o .targets .now) (l .starts) (l .i) (search needs) (l .inv .1))
 
-returns : tie.Need-returns Inv-loop μ-loop
-returns c = search lay-done
-
 pub lay-starts-spec : {M : Type 1} → statement M
 lay-starts-spec =
     tie.close
@@ -39,4 +36,4 @@ lay-starts-spec =
     (λ c. search needs)
     loop-again
     (λ c. search needs)
-    returns)
+    (λ c. search lay-done))

@@ -5,23 +5,14 @@ use borrow.Author.Needs.{needs}
 use Rattle.region.proofs.lift_ready.Statement.{statement}
 use Rattle.region.proofs.lift_ready.Tie as tie
 
-returns : tie.Need-returns
-returns c = search region-outside
-
-sub-answer-of : tie.Need-sub-answer-of
-sub-answer-of c = search inside-order
-
-returns-2 : tie.Need-returns-2
-returns-2 c = search region-carried
-
 pub lift-ready-spec : {M : Type 1} → statement M
 lift-ready-spec =
     tie.close
     (tie.spec
     (λ c κs. search needs)
     (λ c κs. search needs)
-    returns
+    (λ c. search region-outside)
     (λ c κs. search needs)
-    sub-answer-of
+    (λ c. search inside-order)
     (λ c κs. search needs)
-    returns-2)
+    (λ c. search region-carried))

@@ -4,8 +4,5 @@ use borrow.Author.Needs.{needs}
 use Rattle.region.proofs.outside.Statement.{statement}
 use Rattle.region.proofs.outside.Tie as tie
 
-returns : tie.Need-returns
-returns c = search outside-is
-
 pub outside-spec : {M : Type 1} → statement M
-outside-spec = tie.close (tie.spec returns)
+outside-spec = tie.close (tie.spec (λ c. search outside-is))

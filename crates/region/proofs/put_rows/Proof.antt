@@ -33,12 +33,6 @@ loop-holds c =
       put-first (o .c) (tableOf (o .targets .now) (o .queries .now) (o .sizes .now)) (o .regions .now) (length (o .regions .now) / regionSize) (o .tally) (o .out .now),
     )
 
-region-at-requires : tie.Need-region-at-requires Inv-loop μ-loop
-region-at-requires c κs = search region-there
-
-put-row-requires : tie.Need-put-row-requires Inv-loop μ-loop
-put-row-requires c κs = search row-there
-
 loop-again : tie.Need-loop-again Inv-loop μ-loop
 loop-again c =
     let s = c .before .before .before .before .before .before .before .before .before .before .before .before .before .before .before .before .before .before in let o = s .args in let l = c .before .before .before .before .before .before .before .before .before .before .loop in let h = c .before .before .before .before .before .before .before .before .before .loop-test .taken in
@@ -66,13 +60,13 @@ put-rows-spec =
     Inv-loop
     μ-loop
     loop-holds
-    region-at-requires
+    (λ c κs. search region-there)
     (λ c. search needs)
     (λ c. search needs)
     (λ c κs. search needs)
     (λ c κs. search needs)
     (λ c κs. search needs)
-    put-row-requires
+    (λ c κs. search row-there)
     (λ c. search needs)
     (λ c. search needs)
     loop-again

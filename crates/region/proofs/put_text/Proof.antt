@@ -5,15 +5,6 @@ use borrow.Author.Needs.{needs}
 use Rattle.region.proofs.put_text.Statement.{statement}
 use Rattle.region.proofs.put_text.Tie as tie
 
-slice-aggregate-put-ready : tie.Need-slice-aggregate-put-ready
-slice-aggregate-put-ready c = search rows-count
-
-put-ready-requires : tie.Need-put-ready-requires
-put-ready-requires c κs = search rows-ready
-
-returns : tie.Need-returns
-returns c = search rows-put
-
 pub put-text-spec : {M : Type 1} → statement M
 put-text-spec =
     tie.close
@@ -21,7 +12,7 @@ put-text-spec =
     (λ c. search needs)
     (λ c. search needs)
     (λ c. search needs)
-    slice-aggregate-put-ready
+    (λ c. search rows-count)
     (λ c. search needs)
     (λ c. search needs)
     (λ c. search needs)
@@ -30,6 +21,6 @@ put-text-spec =
     (λ c. search needs)
     (λ c. search needs)
     (λ c. search needs)
-    put-ready-requires
+    (λ c κs. search rows-ready)
     (λ c. search needs)
-    returns)
+    (λ c. search rows-put))

@@ -5,9 +5,6 @@ use borrow.Author.Needs.{needs}
 use Rattle.region.proofs.quick_reach.Statement.{statement}
 use Rattle.region.proofs.quick_reach.Tie as tie
 
-returns : tie.Need-returns
-returns c = search outside-found
-
 add-last-below : tie.Need-add-last-below
 add-last-below c = let p = c .before .before .before .before .before .before .before .pre in search start-fits
 
@@ -88,16 +85,13 @@ reach-across-requires c κs =
     let m = meets-if (o .c) (o .targets .now) (o .queries .now) (o .sizes .now) (p .ready) (o .start) (o .end) (h .result) (i .result) (j .result) (inside-some (o .c .tSize) (o .start) (o .end) (out .result) (out .ensures) inn) bh (i .ensures) bj (c .before .before .if2 .left) in
     (p .ready, m, column-inner (o .c) (o .targets .now) (o .queries .now) (o .sizes .now) (p .ready) (o .before .now) (p .summed) (i .result) (j .result) (m .order) (m .inside), inside-some (o .c .tSize) (o .start) (o .end) (out .result) (out .ensures) inn, inside-last (o .c .tSize) (o .start) (o .end) (out .result) (out .ensures) inn)
 
-returns-3 : tie.Need-returns-3
-returns-3 c = search reached-found
-
 pub quick-reach-spec : {M : Type 1} → statement M
 quick-reach-spec =
     tie.close
     (tie.spec
     (λ c κs. search needs)
     (λ c κs. search needs)
-    returns
+    (λ c. search outside-found)
     add-last-below
     last-below-requires
     (λ c. search needs)
@@ -117,4 +111,4 @@ quick-reach-spec =
     shared-slice-read-inner-2
     sub-inner
     reach-across-requires
-    returns-3)
+    (λ c. search reached-found))

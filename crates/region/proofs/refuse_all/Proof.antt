@@ -23,9 +23,6 @@ loop-again c =
     let o = c .before .before .before .before .args in let l = c .before .before .before .loop in
     (search needs, search needs, refused-next (l .answers) _ (o .count) (l .i) (c .answer-row .result) (search needs) (search needs) (refused-row _ _ (c .before .not-lifted .ensures) (c .answer-row .ensures)) (l .inv .2))
 
-returns : tie.Need-returns Inv-loop μ-loop
-returns c = search refused-done
-
 pub refuse-all-spec : {M : Type 1} → statement M
 refuse-all-spec =
     tie.close
@@ -41,4 +38,4 @@ refuse-all-spec =
     (λ c. search needs)
     loop-again
     (λ c. search needs)
-    returns)
+    (λ c. search refused-done))

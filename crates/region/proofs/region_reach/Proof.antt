@@ -5,20 +5,8 @@ use borrow.Author.Needs.{needs}
 use Rattle.region.proofs.region_reach.Statement.{statement}
 use Rattle.region.proofs.region_reach.Tie as tie
 
-returns : tie.Need-returns
-returns c = search outside-found
-
-add-last-below : tie.Need-add-last-below
-add-last-below c = search start-fits
-
 last-below-requires : tie.Need-last-below-requires
 last-below-requires c κs = (search starts-rise, search start-small)
-
-add-block-past : tie.Need-add-block-past
-add-block-past c = search found-end
-
-block-past-requires : tie.Need-block-past-requires
-block-past-requires c κs = search found-few
 
 last-below-requires-2 : tie.Need-last-below-requires-2
 last-below-requires-2 c κs = (search starts-rise, search end-small)
@@ -42,24 +30,21 @@ reach-across-requires c κs =
     let out = c .before .before .before .before .before .before .before .before .before .outside in let inn = c .before .before .before .before .before .before .before .before .if1 .left in let h = c .before .before .before .before .before .before .before .last-below in let i = c .before .before .before .before .block-past in let j = c .before .before .before .last-below2 in
     (p, meets-if (o .c) (o .targets .now) (o .queries .now) (o .sizes .now) p (o .start) (o .end) (h .result) (i .result) (j .result) (inside-some (o .c .tSize) (o .start) (o .end) (out .result) (out .ensures) inn) (h .ensures) (i .ensures) (j .ensures) (c .before .if2 .left), c .sizes-between .ensures, inside-some (o .c .tSize) (o .start) (o .end) (out .result) (out .ensures) inn, inside-last (o .c .tSize) (o .start) (o .end) (out .result) (out .ensures) inn)
 
-returns-3 : tie.Need-returns-3
-returns-3 c = search reached-found
-
 pub region-reach-spec : {M : Type 1} → statement M
 region-reach-spec =
     tie.close
     (tie.spec
     (λ c κs. search needs)
     (λ c κs. search needs)
-    returns
-    add-last-below
+    (λ c. search outside-found)
+    (λ c. search start-fits)
     last-below-requires
     (λ c. search needs)
     (λ c. search needs)
     (λ c. search needs)
     (λ c. search needs)
-    add-block-past
-    block-past-requires
+    (λ c. search found-end)
+    (λ c κs. search found-few)
     last-below-requires-2
     (λ c. search needs)
     (λ c. search needs)
@@ -67,4 +52,4 @@ region-reach-spec =
     returns-2
     sizes-between-requires
     reach-across-requires
-    returns-3)
+    (λ c. search reached-found))

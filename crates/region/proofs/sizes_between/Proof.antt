@@ -15,16 +15,10 @@ abbrev μ-loop : tie.MeasureT-loop
 loop-holds : tie.Need-loop-holds Inv-loop μ-loop
 loop-holds c = (search needs, search from-none)
 
-add-sum : tie.Need-add-sum Inv-loop μ-loop
-add-sum c = search from-fits
-
 loop-again : tie.Need-loop-again Inv-loop μ-loop
 loop-again c =
     let o = c .before .before .before .args in let l = c .before .before .loop in
     (search needs, from-more (o .sizes .now) (o .i) (l .k) (l .sum) (search needs) (l .inv .1))
-
-returns : tie.Need-returns Inv-loop μ-loop
-returns c = search from-done
 
 pub sizes-between-spec : {M : Type 1} → statement M
 sizes-between-spec =
@@ -35,8 +29,8 @@ sizes-between-spec =
     loop-holds
     (λ c. search needs)
     (λ c. search needs)
-    add-sum
+    (λ c. search from-fits)
     (λ c. search needs)
     (λ c. search needs)
     loop-again
-    returns)
+    (λ c. search from-done))

@@ -4,18 +4,6 @@ use borrow.Author.Needs.{needs}
 use Rattle.region.proofs.step_ready.Statement.{statement}
 use Rattle.region.proofs.step_ready.Tie as tie
 
-sub-grow : tie.Need-sub-grow
-sub-grow c = search step-order
-
-grow-requires : tie.Need-grow-requires
-grow-requires c κs = search step-growable
-
-returns : tie.Need-returns
-returns c = search step-stays
-
-returns-2 : tie.Need-returns-2
-returns-2 c = search step-grows
-
 pub step-ready-spec : {M : Type 1} → statement M
 step-ready-spec =
     tie.close
@@ -24,7 +12,7 @@ step-ready-spec =
     (λ c. search needs)
     (λ c κs. search needs)
     (λ c. search needs)
-    sub-grow
-    grow-requires
-    returns
-    returns-2)
+    (λ c. search step-order)
+    (λ c κs. search step-growable)
+    (λ c. search step-stays)
+    (λ c. search step-grows))

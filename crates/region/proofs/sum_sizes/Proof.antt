@@ -19,9 +19,6 @@ abbrev μ-loop : tie.MeasureT-loop
 loop-holds : tie.Need-loop-holds Inv-loop μ-loop
 loop-holds c = (search needs, search needs, sym (sizes-none _), λ k h. absurd (omega arith))
 
-add-sum : tie.Need-add-sum Inv-loop μ-loop
-add-sum c = search sum-fits
-
 loop-again : tie.Need-loop-again Inv-loop μ-loop
 loop-again c =
     let o = c .before .before .before .args in let l = c .before .before .loop in (
@@ -45,7 +42,7 @@ sum-sizes-spec =
     (λ c. search needs)
     (λ c. search needs)
     (λ c. search needs)
-    add-sum
+    (λ c. search sum-fits)
     (λ c. search needs)
     (λ c. search needs)
     loop-again

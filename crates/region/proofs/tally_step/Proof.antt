@@ -5,22 +5,13 @@ use borrow.Author.Needs.{needs}
 use Rattle.region.proofs.tally_step.Statement.{statement}
 use Rattle.region.proofs.tally_step.Tie as tie
 
-returns : tie.Need-returns
-returns c = search step-not-accepted
-
-region-reach-requires : tie.Need-region-reach-requires
-region-reach-requires c κs = search ready-if
-
-returns-2 : tie.Need-returns-2
-returns-2 c = search step-ready
-
 pub tally-step-spec : {M : Type 1} → statement M
 tally-step-spec =
     tie.close
     (tie.spec
     (λ c κs. search needs)
     (λ c κs. search needs)
-    returns
-    region-reach-requires
+    (λ c. search step-not-accepted)
+    (λ c κs. search ready-if)
     (λ c κs. search needs)
-    returns-2)
+    (λ c. search step-ready))

@@ -15,26 +15,11 @@ Inv-loop text line w₀ n₀ w n =
 abbrev μ-loop : tie.MeasureT-loop
 μ-loop text line w₀ n₀ w n = max line (length text) - w .start
 
-next-word-requires : tie.Need-next-word-requires Inv-loop μ-loop
-next-word-requires c κs = search needs
-
 loop-holds : tie.Need-loop-holds Inv-loop μ-loop
 loop-holds c = (search word-again, search count-first, search needs, search needs, search needs)
 
-next-word-requires-2 : tie.Need-next-word-requires-2 Inv-loop μ-loop
-next-word-requires-2 c κs = search needs
-
-add-n : tie.Need-add-n Inv-loop μ-loop
-add-n c = search needs
-
-loop-less : tie.Need-loop-less Inv-loop μ-loop
-loop-less c = search needs
-
 loop-again : tie.Need-loop-again Inv-loop μ-loop
 loop-again c = (search word-again, search count-next, search needs, search needs, search needs)
-
-returns : tie.Need-returns Inv-loop μ-loop
-returns c = search count-done
 
 pub count-words-spec : {M : Type 1} → statement M
 count-words-spec =
@@ -42,10 +27,10 @@ count-words-spec =
     (tie.spec
     Inv-loop
     μ-loop
-    next-word-requires
+    (λ c κs. search needs)
     loop-holds
-    next-word-requires-2
-    add-n
-    loop-less
+    (λ c κs. search needs)
+    (λ c. search needs)
+    (λ c. search needs)
     loop-again
-    returns)
+    (λ c. search count-done))

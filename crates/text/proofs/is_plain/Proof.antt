@@ -18,9 +18,6 @@ loop-holds c = (search needs, λ l. l)
 returns-2 : tie.Need-returns-2 Inv-loop μ-loop
 returns-2 c = λ q. search onward-last
 
-returns-3 : tie.Need-returns-3 Inv-loop μ-loop
-returns-3 c = search onward-fed
-
 loop-again : tie.Need-loop-again Inv-loop μ-loop
 loop-again c = (search needs, search onward-more)
 
@@ -36,7 +33,7 @@ is-plain-spec =
     returns-2
     (λ c. search needs)
     (λ c. search needs)
-    returns-3
+    (λ c. search onward-fed)
     (λ c. search needs)
     (λ c. search needs)
     loop-again

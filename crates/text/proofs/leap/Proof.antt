@@ -7,9 +7,6 @@ use lib.ListN.{length}
 use Rattle.text.specs.Scan.{endOf}
 use Rattle.text.proofs.leap.Statement.{statement}
 use Rattle.text.proofs.leap.Tie as tie
-use Rattle.text.proofs.leap.Reads as reads
-use Rattle.text.proofs.leap.Lts as lts
-use Rattle.text.proofs.all_in.Reads as all-in-reads
 
 abbrev Inv-loop : tie.InvT-loop
 Inv-loop text from class n i₀ i = (from ≤ i) × (i ≤ max from (length text)) × (endOf class text i ≡ endOf class text from)
@@ -20,32 +17,11 @@ abbrev μ-loop : tie.MeasureT-loop
 loop-holds : tie.Need-loop-holds Inv-loop μ-loop
 loop-holds c = (search needs, search needs, refl)
 
-sub-if1 : tie.Need-sub-if1 Inv-loop μ-loop
-sub-if1 c = search needs
-
 returns : tie.Need-returns Inv-loop μ-loop
 returns c = record { is = search needs; low = search needs; high = search needs }
 
-add-e : tie.Need-add-e Inv-loop μ-loop
-add-e c = search needs
-
-sub-all-in : tie.Need-sub-all-in Inv-loop μ-loop
-sub-all-in c = search needs
-
-part-all-in-start : tie.Need-part-all-in-start Inv-loop μ-loop
-part-all-in-start c = search needs
-
-part-all-in-end : tie.Need-part-all-in-end Inv-loop μ-loop
-part-all-in-end c = search needs
-
-all-in-requires : tie.Need-all-in-requires Inv-loop μ-loop
-all-in-requires c κs = search needs
-
 returns-2 : tie.Need-returns-2 Inv-loop μ-loop
 returns-2 c = record { is = search needs; low = search needs; high = search needs }
-
-loop-less : tie.Need-loop-less Inv-loop μ-loop
-loop-less c = search needs
 
 loop-again : tie.Need-loop-again Inv-loop μ-loop
 loop-again c = (search needs, search needs, search stride-more)
@@ -60,14 +36,14 @@ leap-spec =
     Inv-loop
     μ-loop
     loop-holds
-    sub-if1
+    (λ c. search needs)
     returns
-    add-e
-    sub-all-in
-    part-all-in-start
-    part-all-in-end
-    all-in-requires
+    (λ c. search needs)
+    (λ c. search needs)
+    (λ c. search needs)
+    (λ c. search needs)
+    (λ c κs. search needs)
     returns-2
-    loop-less
+    (λ c. search needs)
     loop-again
     returns-3)

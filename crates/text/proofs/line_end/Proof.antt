@@ -4,12 +4,9 @@ use Rattle.text.specs.Words.{lineEnd}
 use Rattle.text.proofs.line_end.Statement.{statement}
 use Rattle.text.proofs.line_end.Tie as tie
 
-scan-far-requires : tie.Need-scan-far-requires
-scan-far-requires c κs = search needs
-
 returns : tie.Need-returns
 unfolding lineEnd
 returns c = record { is = c .scan-far .ensures .is; low = search needs; high = search needs }
 
 pub line-end-spec : {M : Type 1} → statement M
-line-end-spec = tie.close (tie.spec scan-far-requires returns)
+line-end-spec = tie.close (tie.spec (λ c κs. search needs) returns)

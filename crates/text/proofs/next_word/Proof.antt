@@ -4,15 +4,9 @@ use borrow.Author.Needs.{needs}
 use Rattle.text.proofs.next_word.Statement.{statement}
 use Rattle.text.proofs.next_word.Tie as tie
 
-scan-requires : tie.Need-scan-requires
-scan-requires c κs = search needs
-
-word-end-requires : tie.Need-word-end-requires
-word-end-requires c κs = search needs
-
 returns : tie.Need-returns
 unfolding nextWord
 returns c = record { is = cc; low = search needs; mid = search needs; high = search needs }
 
 pub next-word-spec : {M : Type 1} → statement M
-next-word-spec = tie.close (tie.spec scan-requires word-end-requires returns)
+next-word-spec = tie.close (tie.spec (λ c κs. search needs) (λ c κs. search needs) returns)

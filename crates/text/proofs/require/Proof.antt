@@ -2,8 +2,6 @@
 use borrow.Author.Needs.{needs}
 use Rattle.text.proofs.require.Statement.{statement}
 use Rattle.text.proofs.require.Tie as tie
-use Rattle.text.proofs.require.Reads as reads
-use Rattle.text.proofs.require.Lts as lts
 
 returns : tie.Need-returns
 returns c = rw (c .if1 .taken)

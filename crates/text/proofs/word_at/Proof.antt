@@ -15,24 +15,12 @@ Inv-loop text line k w₀ i₀ w i = (i ≤ k) × (w ≡ wordAt text line i) × 
 abbrev μ-loop : tie.MeasureT-loop
 μ-loop text line k w₀ i₀ w i = k - i
 
-next-word-requires : tie.Need-next-word-requires Inv-loop μ-loop
-next-word-requires c κs = search needs
-
 loop-holds : tie.Need-loop-holds Inv-loop μ-loop
 unfolding wordAt
 loop-holds c = (search needs, c .next-word .ensures .is, search needs, search needs, search needs)
 
 returns : tie.Need-returns Inv-loop μ-loop
 returns c = record { is = search (word-stays, eqb-true); low = search needs; mid = search needs; high = search needs }
-
-next-word-requires-2 : tie.Need-next-word-requires-2 Inv-loop μ-loop
-next-word-requires-2 c κs = search needs
-
-add-i : tie.Need-add-i Inv-loop μ-loop
-add-i c = search needs
-
-loop-less : tie.Need-loop-less Inv-loop μ-loop
-loop-less c = search needs
 
 loop-again : tie.Need-loop-again Inv-loop μ-loop
 loop-again c = (search needs, search word-next, search needs, search needs, search needs)
@@ -46,11 +34,11 @@ word-at-spec =
     (tie.spec
     Inv-loop
     μ-loop
-    next-word-requires
+    (λ c κs. search needs)
     loop-holds
     returns
-    next-word-requires-2
-    add-i
-    loop-less
+    (λ c κs. search needs)
+    (λ c. search needs)
+    (λ c. search needs)
     loop-again
     returns-2)

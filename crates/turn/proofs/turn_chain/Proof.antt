@@ -35,29 +35,8 @@ module _ (e : Passed) where
   is-turned = let a = e .before .before .before .before .before .before in let o = a .before .before .before .before .before .before .before .args in
       turn-made (o .c) (tableOf (o .targets .now) (o .queries .now) (o .sizes .now)) (rowsOf (o .newTargets .now) (o .newQueries .now) (o .newSizes .now)) _ (a .is-accepted .ensures) (e .before .before .before .before .before .if1 .left) _ (e .before .rows-of .ensures) (e .if2 .left)
 
-is-accepted-requires : tie.Need-is-accepted-requires
-is-accepted-requires c κs = search needs
-
-not-turned-requires : tie.Need-not-turned-requires
-not-turned-requires c κs = search needs
-
 returns : tie.Need-returns
 returns c = record { is = search turn-bad; targets = search as-before; queries = search as-before; sizes = search as-before }
-
-rows-of-requires : tie.Need-rows-of-requires
-rows-of-requires c κs = search needs
-
-not-turned-requires-2 : tie.Need-not-turned-requires-2
-not-turned-requires-2 c κs = search needs
-
-same-length : tie.Need-same-length
-same-length c = search needs
-
-same-length-2 : tie.Need-same-length-2
-same-length-2 c = search needs
-
-same-length-3 : tie.Need-same-length-3
-same-length-3 c = search needs
 
 returns-2 : tie.Need-returns-2
 returns-2 c = record { is = search turn-full; targets = search as-before; queries = search as-before; sizes = search as-before }
@@ -76,15 +55,6 @@ fill-sizes-requires c κs = let e = c .before .before .before .before .before .b
 turn-record-requires : tie.Need-turn-record-requires
 turn-record-requires c κs = let e = c .before .before .before .before .before .before .before .before .before .before .before .before in spans-fit _ _ (is-ready e .ok)
 
-same-length-4 : tie.Need-same-length-4
-same-length-4 c = search needs
-
-same-length-5 : tie.Need-same-length-5
-same-length-5 c = search needs
-
-same-length-6 : tie.Need-same-length-6
-same-length-6 c = search needs
-
 returns-3 : tie.Need-returns-3
 returns-3 c = let e = c .before .before .before .before .before .before .before .before .before .before .before .before .before in record {
   is = is-turned e _ (c .turn-record .ensures);
@@ -97,20 +67,20 @@ pub turn-chain-spec : {M : Type 1} → statement M
 turn-chain-spec =
     tie.close
     (tie.spec
-    is-accepted-requires
-    not-turned-requires
+    (λ c κs. search needs)
+    (λ c κs. search needs)
     returns
-    rows-of-requires
-    not-turned-requires-2
-    same-length
-    same-length-2
-    same-length-3
+    (λ c κs. search needs)
+    (λ c κs. search needs)
+    (λ c. search needs)
+    (λ c. search needs)
+    (λ c. search needs)
     returns-2
     fill-starts-requires
     fill-starts-requires-2
     fill-sizes-requires
     turn-record-requires
-    same-length-4
-    same-length-5
-    same-length-6
+    (λ c. search needs)
+    (λ c. search needs)
+    (λ c. search needs)
     returns-3)

@@ -3,11 +3,5 @@ use Rattle.writing.proofs.StoreLaws.{room-none, room-is}
 use Rattle.writing.proofs.has_room.Statement.{statement}
 use Rattle.writing.proofs.has_room.Tie as tie
 
-returns : tie.Need-returns
-returns c = search room-none
-
-returns-2 : tie.Need-returns-2
-returns-2 c = search room-is
-
 pub has-room-spec : {M : Type 1} → statement M
-has-room-spec = tie.close (tie.spec returns returns-2)
+has-room-spec = tie.close (tie.spec (λ c. search room-none) (λ c. search room-is))

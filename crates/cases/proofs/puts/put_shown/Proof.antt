@@ -9,9 +9,6 @@ use Rattle.cases.proofs.CaseLaws.{shown-step, shown-done}
 use borrow.Author.Needs.{needs}
 use Rattle.cases.proofs.puts.put_shown.Statement.{statement}
 use Rattle.cases.proofs.puts.put_shown.Tie as tie
-use Rattle.cases.proofs.puts.put_shown.Reads as reads
-use Rattle.cases.proofs.puts.put_shown.Lts as lts
-use Rattle.cases.proofs.puts.put_shown_byte.Reads as put-shown-byte-reads
 
 abbrev Inv-loop : tie.InvT-loop
 Inv-loop out₀ at bytes p₀ i₀ out p i = (i ≤ length bytes) × (length out ≡ length out₀) × (length out ≤ largestPlace) × (p ≤ largestPlace) × Completes (shownText (drop i bytes)) p out (shownText bytes) at out₀
@@ -22,26 +19,8 @@ abbrev μ-loop : tie.MeasureT-loop
 loop-holds : tie.Need-loop-holds Inv-loop μ-loop
 loop-holds c = (search needs, refl, search needs, search needs, completes-all _ _ _)
 
-shared-slice-read-put-shown-byte : tie.Need-shared-slice-read-put-shown-byte Inv-loop μ-loop
-shared-slice-read-put-shown-byte c = search needs
-
-put-shown-byte-requires : tie.Need-put-shown-byte-requires Inv-loop μ-loop
-put-shown-byte-requires c κs = search needs
-
-add-i : tie.Need-add-i Inv-loop μ-loop
-add-i c = search needs
-
-loop-less : tie.Need-loop-less Inv-loop μ-loop
-loop-less c = search needs
-
 loop-again : tie.Need-loop-again Inv-loop μ-loop
 loop-again c = (search needs, search needs, search needs, search needs, search shown-step)
-
-same-length : tie.Need-same-length Inv-loop μ-loop
-same-length c = search needs
-
-returns : tie.Need-returns Inv-loop μ-loop
-returns c = search shown-done
 
 pub put-shown-spec : {M : Type 1} → statement M
 put-shown-spec =
@@ -50,10 +29,10 @@ put-shown-spec =
     Inv-loop
     μ-loop
     loop-holds
-    shared-slice-read-put-shown-byte
-    put-shown-byte-requires
-    add-i
-    loop-less
+    (λ c. search needs)
+    (λ c κs. search needs)
+    (λ c. search needs)
+    (λ c. search needs)
     loop-again
-    same-length
-    returns)
+    (λ c. search needs)
+    (λ c. search shown-done))

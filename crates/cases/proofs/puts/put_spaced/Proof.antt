@@ -9,9 +9,6 @@ use Rattle.cases.proofs.CaseLaws.{spaced-step, spaced-done}
 use borrow.Author.Needs.{needs}
 use Rattle.cases.proofs.puts.put_spaced.Statement.{statement}
 use Rattle.cases.proofs.puts.put_spaced.Tie as tie
-use Rattle.cases.proofs.puts.put_spaced.Reads as reads
-use Rattle.cases.proofs.puts.put_spaced.Lts as lts
-use Rattle.cases.proofs.puts.put_labelled.Reads as put-labelled-reads
 
 abbrev Inv-loop : tie.InvT-loop
 Inv-loop out₀ at vs p₀ i₀ t6 out p i = (i ≤ length vs) × (length out ≡ length out₀) × (length out ≤ largestPlace) × (p ≤ largestPlace) × Completes (spacedText (drop i vs)) p out (spacedText vs) at out₀
@@ -22,32 +19,8 @@ abbrev μ-loop : tie.MeasureT-loop
 loop-holds : tie.Need-loop-holds Inv-loop μ-loop
 loop-holds c = (search needs, refl, search needs, search needs, completes-all _ _ _)
 
-slice-aggregate-put-labelled : tie.Need-slice-aggregate-put-labelled Inv-loop μ-loop
-slice-aggregate-put-labelled c = search needs
-
-mul-put-labelled : tie.Need-mul-put-labelled Inv-loop μ-loop
-mul-put-labelled c = search needs
-
-shared-slice-read-put-labelled : tie.Need-shared-slice-read-put-labelled Inv-loop μ-loop
-shared-slice-read-put-labelled c = search needs
-
-put-labelled-requires : tie.Need-put-labelled-requires Inv-loop μ-loop
-put-labelled-requires c κs = search needs
-
-add-i : tie.Need-add-i Inv-loop μ-loop
-add-i c = search needs
-
-loop-less : tie.Need-loop-less Inv-loop μ-loop
-loop-less c = search needs
-
 loop-again : tie.Need-loop-again Inv-loop μ-loop
 loop-again c = (search needs, search needs, search needs, search needs, search spaced-step)
-
-same-length : tie.Need-same-length Inv-loop μ-loop
-same-length c = search needs
-
-returns : tie.Need-returns Inv-loop μ-loop
-returns c = search spaced-done
 
 pub put-spaced-spec : {M : Type 1} → statement M
 put-spaced-spec =
@@ -56,12 +29,12 @@ put-spaced-spec =
     Inv-loop
     μ-loop
     loop-holds
-    slice-aggregate-put-labelled
-    mul-put-labelled
-    shared-slice-read-put-labelled
-    put-labelled-requires
-    add-i
-    loop-less
+    (λ c. search needs)
+    (λ c. search needs)
+    (λ c. search needs)
+    (λ c κs. search needs)
+    (λ c. search needs)
+    (λ c. search needs)
     loop-again
-    same-length
-    returns)
+    (λ c. search needs)
+    (λ c. search spaced-done))

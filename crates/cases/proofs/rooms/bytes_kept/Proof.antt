@@ -7,8 +7,6 @@ use Rattle.cases.proofs.CaseLaws.{mark-kept, mark-lost, marks-end}
 use borrow.Author.Needs.{needs}
 use Rattle.cases.proofs.rooms.bytes_kept.Statement.{statement}
 use Rattle.cases.proofs.rooms.bytes_kept.Tie as tie
-use Rattle.cases.proofs.rooms.bytes_kept.Reads as reads
-use Rattle.cases.proofs.rooms.bytes_kept.Lts as lts
 
 abbrev Inv-loop : tie.InvT-loop
 Inv-loop buf from i₀ i = (from ≤ i) × (allMarked (drop i buf) ≡ allMarked (drop from buf))
@@ -19,23 +17,8 @@ abbrev μ-loop : tie.MeasureT-loop
 loop-holds : tie.Need-loop-holds Inv-loop μ-loop
 loop-holds c = (search needs, refl)
 
-shared-slice-read-if1 : tie.Need-shared-slice-read-if1 Inv-loop μ-loop
-shared-slice-read-if1 c = search needs
-
-returns : tie.Need-returns Inv-loop μ-loop
-returns c = search mark-lost
-
-add-i : tie.Need-add-i Inv-loop μ-loop
-add-i c = search needs
-
-loop-less : tie.Need-loop-less Inv-loop μ-loop
-loop-less c = search needs
-
 loop-again : tie.Need-loop-again Inv-loop μ-loop
 loop-again c = (search needs, search mark-kept)
-
-returns-2 : tie.Need-returns-2 Inv-loop μ-loop
-returns-2 c = search marks-end
 
 pub bytes-kept-spec : {M : Type 1} → statement M
 bytes-kept-spec =
@@ -44,9 +27,9 @@ bytes-kept-spec =
     Inv-loop
     μ-loop
     loop-holds
-    shared-slice-read-if1
-    returns
-    add-i
-    loop-less
+    (λ c. search needs)
+    (λ c. search mark-lost)
+    (λ c. search needs)
+    (λ c. search needs)
     loop-again
-    returns-2)
+    (λ c. search marks-end))

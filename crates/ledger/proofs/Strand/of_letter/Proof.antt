@@ -2,8 +2,6 @@
 use borrow.Author.Tests.{ne-eqb}
 use Rattle.ledger.proofs.Strand.of_letter.Statement.{statement}
 use Rattle.ledger.proofs.Strand.of_letter.Tie as tie
-use Rattle.ledger.proofs.Strand.of_letter.Reads as reads
-use Rattle.ledger.proofs.Strand.of_letter.Lts as lts
 
 -- src/lib.rt:126:5
 returns : tie.Need-returns
