@@ -11,12 +11,16 @@ use lib.Dec.{leb, eqb}
 use borrow.Author.Tests.{leb-true, leb-false, le-leb, lt-leb, eqb-true, ne-eqb}
 use Rattle.ledger.specs.Limits.{textLimit}
 use Rattle.ledger.specs.declared.Reason.the-variants.{NoRoom}
+use Rattle.ledger.specs.declared.Fault.{Fault}
 use Rattle.ledger.specs.declared.Refusal.{Refusal}
-use Rattle.text.specs.declared.Check.{Check}
-use Rattle.text.specs.declared.Check.the-variants as check
+use Rattle.ledger.specs.Refusals.{refusalAt}
+use Rattle.number_line.specs.declared.NumbersAnswer.{NumbersAnswer}
+use Rattle.number_line.specs.declared.NumbersAnswer.the-variants.{Accepted, Refused}
+use Rattle.text.specs.declared.Stage.{Stage}
+use Rattle.text.specs.declared.Stage.the-variants as stage
 use Rattle.text.specs.declared.Class.the-variants.{Blank, Line, Allowed}
 use Rattle.text.specs.Scan.{isIn, run, endOf}
-use Rattle.text.specs.Checks.{textCheck, lastLineCheck}
+use Rattle.text.specs.Checks.{thenCheck, textCheck, lastLineCheck}
 use Rattle.text.specs.Pieces.{lineOf, wordsOf}
 use Rattle.text.specs.Words.{lineEnd, nextLine, wordCount}
 use Rattle.text.proofs.Laws.{run-append, next-fed, next-none, line-last}
@@ -25,11 +29,12 @@ use Rattle.text.proofs.PieceLaws.{line-fed}
 use Rattle.numbers.specs.Numbers.{value}
 use Rattle.writing.specs.Puts.{Put}
 use Rattle.binary.specs.Bytes.{wordSize, wordsBytes}
-use Rattle.number_line.specs.declared.NumbersAnswer.{NumbersAnswer}
-use Rattle.number_line.specs.declared.NumbersAnswer.the-variants.{Accepted, Refused}
+use Rattle.number_line.specs.declared.NumbersReading.{NumbersReading}
+use Rattle.number_line.specs.declared.NumbersReading.the-variants.{Counted}
+use Rattle.number_line.specs.declared.NumbersReading.the-variants as reading
 use Rattle.number_line.specs.declared.Quick.{Quick}
-use Rattle.number_line.specs.Numbers.{wordsFrom, numbersIn, thenNumbers, numbersCheck, numbersRead, NumbersStored}
-use Rattle.number_line.specs.Walks.{Walked, lineCheck, feedless, isGap, QuickRead, QuickText, Handed}
+use Rattle.number_line.specs.Numbers.{wordsFrom, numbersIn, numbersAnswer, numbersStages, numbersCheck, numbersRead, bytesAfter, NumbersStored}
+use Rattle.number_line.specs.Walks.{Walked, lineCheck, feedless, isGap, QuickRead, QuickText, Handed, bytesHeld, NumbersHeld}
 use Rattle.number_line.proofs.LineLaws.{words-good, all-good, checked-of, checked-is}
 
 -- ---- small tests
@@ -71,64 +76,62 @@ pub feedless-count : (s : List ℕ) (m : ℕ) → m ≡ feedless s → m ≡ len
 feedless-count s m e = sym (length-take-le m s (omega (arith, e, feedless-few s)))
 
 -- ---- the checks one after the other
-module _ (s before after : List ℕ) (r : NumbersAnswer) (walked : Walked s before after r) where
-  words-hold : (n : ℕ) → r ≡ Accepted n → (wordsFrom s 0 (wordsOf (lineOf s)) ≡ check.Holds) × (n ≡ wordCount s 0)
+module _ (s before after : List ℕ) (r : NumbersReading) (walked : Walked s before after r) where
+  words-hold : (n : ℕ) → r ≡ Counted n → (wordsFrom s 0 (wordsOf (lineOf s)) ≡ stage.Passes) × (n ≡ wordCount s 0)
   words-hold n e = go (wordsFrom s 0 (wordsOf (lineOf s))) refl (sym e ∙ walked .is)
     where
-      go : (c : Check) → wordsFrom s 0 (wordsOf (lineOf s)) ≡ c → Accepted n ≡ thenNumbers c (Accepted (wordCount s 0)) → (wordsFrom s 0 (wordsOf (lineOf s)) ≡ check.Holds) × (n ≡ wordCount s 0)
-      go check.Holds p k = (p, cc)
-      go (check.Refused x) p k = absurd (let o : _≡_ {A = ℕ} 0 1 = cc in omega arith)
+      go : (c : Stage) → wordsFrom s 0 (wordsOf (lineOf s)) ≡ c → Counted n ≡ thenCheck reading.Faulty c (Counted (wordCount s 0)) → (wordsFrom s 0 (wordsOf (lineOf s)) ≡ stage.Passes) × (n ≡ wordCount s 0)
+      go stage.Passes p k = (p, cc)
+      go (stage.Faulty x) p k = absurd (let o : _≡_ {A = ℕ} 0 1 = cc in omega arith)
 
   count-is : wordCount s 0 ≡ length (numbersIn s)
   unfolding wordCount numbersIn
   count-is = sym (length-map (wordsOf (lineOf s)) value)
 
-  pub line-bad : (x : Refusal) → r ≡ Refused x → Refused x ≡ lineCheck s
+  pub line-bad : (x : Fault) → r ≡ reading.Faulty x → reading.Faulty x ≡ lineCheck s
   unfolding lineCheck
   line-bad x e = go (wordsFrom s 0 (wordsOf (lineOf s))) refl (sym e ∙ walked .is)
     where
-      go : (c : Check) → wordsFrom s 0 (wordsOf (lineOf s)) ≡ c → Refused x ≡ thenNumbers c (Accepted (wordCount s 0)) → Refused x ≡ thenNumbers (wordsFrom s 0 (wordsOf (lineOf s))) (thenNumbers (lastLineCheck s 0) (Accepted (length (numbersIn s))))
-      go check.Holds p k = absurd (let o : _≡_ {A = ℕ} 0 1 = cc in omega arith)
-      go (check.Refused y) p k = rw p k
+      go : (c : Stage) → wordsFrom s 0 (wordsOf (lineOf s)) ≡ c → reading.Faulty x ≡ thenCheck reading.Faulty c (Counted (wordCount s 0)) → reading.Faulty x ≡ thenCheck reading.Faulty (wordsFrom s 0 (wordsOf (lineOf s))) (thenCheck reading.Faulty (lastLineCheck s 0) (Counted (length (numbersIn s))))
+      go stage.Passes p k = absurd (let o : _≡_ {A = ℕ} 0 1 = cc in omega arith)
+      go (stage.Faulty y) p k = rw p k
 
-  module _ (n : ℕ) (e : r ≡ Accepted n) (c : Check) (ec : c ≡ lastLineCheck s 0) where
-    pub line-surplus : (x : Refusal) → c ≡ check.Refused x → Refused x ≡ lineCheck s
+  module _ (n : ℕ) (e : r ≡ Counted n) (c : Stage) (ec : c ≡ lastLineCheck s 0) where
+    pub line-surplus : (x : Fault) → c ≡ stage.Faulty x → reading.Faulty x ≡ lineCheck s
     unfolding lineCheck
     line-surplus x q = rw (words-hold n e .0, ← ec, q)
 
-    pub line-good : c ≡ check.Holds → Accepted n ≡ lineCheck s
+    pub line-good : c ≡ stage.Passes → Counted n ≡ lineCheck s
     unfolding lineCheck
     line-good q = rw (words-hold n e .0, ← ec, q, words-hold n e .1, count-is)
 
   -- the second walk, after all was tested
-  pub tested-read : (x : NumbersAnswer) (n : ℕ) (t : Bool) → x ≡ numbersCheck s → x ≡ Accepted n → t ≡ leb (wordSize * n) (length before) → t ≡ true → NumbersStored s before after r
-  unfolding numbersRead numbersIn
+  pub tested-read : (x : NumbersReading) (n : ℕ) (t : Bool) → x ≡ numbersStages s → x ≡ Counted n → t ≡ leb (wordSize * n) (length before) → t ≡ true → NumbersHeld s before after r
+  unfolding numbersIn
   tested-read x n t ex q et yes′ =
-      let e : Accepted n ≡ numbersCheck s = sym q ∙ ex in
+      let e : Counted n ≡ numbersStages s = sym q ∙ ex in
       let c = checked-of s n (sym e) in
       let g = words-good s 0 (wordsOf (lineOf s)) (c .words) in
-      let a : r ≡ Accepted n = walked .is ∙ rw (c .words, count-is, c .count) in
+      let a : r ≡ Counted n = walked .is ∙ rw (c .words, count-is, c .count) in
       record {
         is = rw (← e, ← et, yes′) a;
         left = rw a (walked .stored ∙ ap (λ (vs : List ℕ). sets before 0 (wordsBytes vs)) (g .values));
       }
 
-module _ (s : List ℕ) (c : Check) (ec : c ≡ textCheck s) where
-  pub text-bad : (x : Refusal) → c ≡ check.Refused x → Refused x ≡ numbersCheck s
-  unfolding numbersCheck
+module _ (s : List ℕ) (c : Stage) (ec : c ≡ textCheck s) where
+  pub text-bad : (x : Fault) → c ≡ stage.Faulty x → reading.Faulty x ≡ numbersStages s
+  unfolding numbersStages
   text-bad x q = rw (← ec, q)
 
-  pub text-good : (r : NumbersAnswer) → c ≡ check.Holds → r ≡ lineCheck s → r ≡ numbersCheck s
-  unfolding numbersCheck lineCheck
+  pub text-good : (r : NumbersReading) → c ≡ stage.Passes → r ≡ lineCheck s → r ≡ numbersStages s
+  unfolding numbersStages lineCheck
   text-good r q e = rw (← ec, q) e
 
-module _ (s before : List ℕ) (r : NumbersAnswer) (er : r ≡ numbersCheck s) where
-  pub tested-bad : (x : Refusal) → r ≡ Refused x → NumbersStored s before before (Refused x)
-  unfolding numbersRead
+module _ (s before : List ℕ) (r : NumbersReading) (er : r ≡ numbersStages s) where
+  pub tested-bad : (x : Fault) → r ≡ reading.Faulty x → NumbersHeld s before before (reading.Faulty x)
   tested-bad x q = record { is = rw (← er, q); left = refl }
 
-  pub tested-full : (n : ℕ) (t : Bool) → r ≡ Accepted n → t ≡ leb (wordSize * n) (length before) → t ≡ false → NumbersStored s before before (Refused (record { reason = NoRoom; place = length s }))
-  unfolding numbersRead
+  pub tested-full : (n : ℕ) (t : Bool) → r ≡ Counted n → t ≡ leb (wordSize * n) (length before) → t ≡ false → NumbersHeld s before before (reading.Faulty (record { reason = NoRoom; place = length s }))
   tested-full n t q et no′ = record { is = rw (← er, q, ← et, no′); left = refl }
 
 -- ---- the quick way through a text
@@ -158,7 +161,7 @@ fed-or-not (b ∷ s) = go (eqb (getD (b ∷ s) (length (b ∷ s) - 1) 0) 10) ref
 record Lined (s line : List ℕ) : Type 0 where
   pub allowed : run Allowed s ≡ length s
   pub first : lineOf s ≡ line
-  pub last : lastLineCheck s 0 ≡ check.Holds
+  pub last : lastLineCheck s 0 ≡ stage.Passes
 
 feed-lined : (t line : List ℕ) → t ≡ line ++ (10 ∷ []) → run Allowed line ≡ length line → run Line line ≡ length line → Lined t line
 unfolding lineEnd endOf run
@@ -200,10 +203,10 @@ module _ (s room : List ℕ) (m : ℕ) (em : m ≡ feedless s) (short : length s
       whole : r .good ≡ true → Lined s (take m s)
       whole g = lined s (take m s) (rw em (fed-or-not s)) (q .plain g .allowed) (q .plain g .inLine)
 
-      good-line : r .good ≡ true → wordsFrom s 0 (wordsOf (take m s)) ≡ check.Holds
+      good-line : r .good ≡ true → wordsFrom s 0 (wordsOf (take m s)) ≡ stage.Passes
       good-line g = all-good s 0 (wordsOf (take m s)) (ap length (q .plain g .values) ∙ length-take-le (r .count) room (q .few) ∙ sym (q .plain g .count))
 
-      good : r .good ≡ true → wordsFrom s 0 (wordsOf (lineOf s)) ≡ check.Holds
+      good : r .good ≡ true → wordsFrom s 0 (wordsOf (lineOf s)) ≡ stage.Passes
       good g = rw (whole g .first) (good-line g)
 
       count-is : r .good ≡ true → r .count ≡ length (map value (wordsOf (lineOf s)))
@@ -220,15 +223,36 @@ quick-count s room q t = sym (length-take-le (q .count) room (t .few))
 
 -- ---- the numbers handed over
 module _ (end : ℕ) (vs before : List ℕ) (t : Bool) (et : t ≡ leb (wordSize * length vs) (length before)) where
-  pub handed-put : (after : List ℕ) (p : ℕ) → t ≡ true → Put (wordsBytes vs) 0 before after p → Handed end vs before after (Accepted (length vs))
+  pub handed-put : (after : List ℕ) (p : ℕ) → t ≡ true → Put (wordsBytes vs) 0 before after p → Handed end vs before after (Counted (length vs))
   handed-put after p q f = record { is = rw (← et, q); left = f .stored }
 
-  pub handed-full : t ≡ false → Handed end vs before before (Refused (record { reason = NoRoom; place = end }))
+  pub handed-full : t ≡ false → Handed end vs before before (reading.Faulty (record { reason = NoRoom; place = end }))
   handed-full q = record { is = rw (← et, q); left = refl }
 
-pub handed-read : (s room before after : List ℕ) (q : Quick) (n : ℕ) (r : NumbersAnswer) → QuickText s room q → q .good ≡ true → n ≡ q .count → Handed (length s) (take n room) before after r → NumbersStored s before after r
-unfolding numbersRead
+pub handed-read : (s room before after : List ℕ) (q : Quick) (n : ℕ) (r : NumbersReading) → QuickText s room q → q .good ≡ true → n ≡ q .count → Handed (length s) (take n room) before after r → NumbersHeld s before after r
 handed-read s room before after q n r t g en h =
     let l : length (take n room) ≡ q .count = rw en (length-take-le (q .count) room (t .few)) in
     let v : take n room ≡ numbersIn s = rw en (sym (t .values g)) in
     record { is = rw (t .is g, ← l) (h .is); left = rw (← v) (h .left) }
+
+-- as a caller is told
+bytes-told : (x : NumbersReading) (vs before : List ℕ) → bytesAfter (numbersAnswer x) vs before ≡ bytesHeld x vs before
+bytes-told (Counted n) vs before = refl
+bytes-told (reading.Faulty y) vs before = refl
+
+pub numbers-told : (s before after : List ℕ) (x : NumbersReading) (r : NumbersAnswer) → NumbersHeld s before after x → r ≡ numbersAnswer x → NumbersStored s before after r
+unfolding numbersRead
+numbers-told s before after x r h e = record {
+  is = e ∙ ap numbersAnswer (h .is);
+  left = h .left ∙ sym (rw e (bytes-told x (numbersIn s) before));
+}
+
+pub check-told : (s : List ℕ) (x : NumbersReading) (r : NumbersAnswer) → x ≡ numbersStages s → r ≡ numbersAnswer x → r ≡ numbersCheck s
+unfolding numbersCheck
+check-told s x r e q = q ∙ ap numbersAnswer e
+
+pub counted-told : (n : ℕ) (x : NumbersReading) → x ≡ Counted n → Accepted n ≡ numbersAnswer x
+counted-told n x e = rw e
+
+pub faulty-told : (f : Fault) (y : Refusal) (x : NumbersReading) → x ≡ reading.Faulty f → y ≡ refusalAt f → Refused y ≡ numbersAnswer x
+faulty-told f y x e q = rw (e, q)

@@ -6,8 +6,9 @@ use native.Mathlib.Omega.{arith}
 use lib.ListN.{length, take, drop}
 use Rattle.ledger.specs.Limits.{largestPlace}
 use Rattle.ledger.specs.declared.Reason.{Reason}
-use Rattle.text.specs.declared.Check.{Check}
-use Rattle.text.specs.declared.Check.the-variants as check
+use Rattle.text.specs.declared.Stage.{Stage}
+use Rattle.text.specs.Checks.{thenCheck}
+use Rattle.text.specs.declared.Stage.the-variants as stage
 use Rattle.text.specs.declared.Extent.{Extent}
 use Rattle.text.specs.Pieces.{lineOf, wordsOf}
 use Rattle.text.specs.Words.{nextWord, bytesOf, wordCount}
@@ -19,9 +20,10 @@ use Rattle.numbers.specs.Lists.{goodValues}
 use Rattle.writing.specs.Puts.{Put}
 use Rattle.writing.proofs.PutLaws.{Completes, completes-step, completes-done}
 use Rattle.binary.specs.Bytes.{wordSize, lowBytes, wordsBytes}
-use Rattle.number_line.specs.declared.NumbersAnswer.{NumbersAnswer}
-use Rattle.number_line.specs.declared.NumbersAnswer.the-variants.{Accepted, Refused}
-use Rattle.number_line.specs.Numbers.{largestListed, wordsFrom, thenNumbers}
+use Rattle.number_line.specs.declared.NumbersReading.{NumbersReading}
+use Rattle.number_line.specs.declared.NumbersReading.the-variants.{Counted}
+use Rattle.number_line.specs.declared.NumbersReading.the-variants as reading
+use Rattle.number_line.specs.Numbers.{largestListed, wordsFrom}
 use Rattle.number_line.specs.Walks.{Walked}
 
 -- the words from a place on
@@ -60,13 +62,13 @@ module _ (s : List ℕ) (w : Extent) (is : w ≡ nextWord s (w .start)) where
       words-none s (w .start) k
 
   -- tested alike
-  module _ (all : Check) (tested : wordsFrom s (w .start) (restOf s (w .start)) ≡ all) where
-    tested-done : w .start ≤ w .end → w .end ≤ w .start → check.Holds ≡ all
+  module _ (all : Stage) (tested : wordsFrom s (w .start) (restOf s (w .start)) ≡ all) where
+    tested-done : w .start ≤ w .end → w .end ≤ w .start → stage.Passes ≡ all
     unfolding wordsFrom
     tested-done l h = rw (words-over l h) at tested
 
     module _ (r : Spelt) (h : w .start < w .end) (read : NumberRead 0 largestListed (take (w .end - w .start) (drop (w .start) s)) r) where
-      tested-bad : (why : Reason) (off : ℕ) → r ≡ Faulty why off → check.Refused (record { reason = why; place = w .start }) ≡ all
+      tested-bad : (why : Reason) (off : ℕ) → r ≡ Faulty why off → stage.Faulty (record { reason = why; place = w .start }) ≡ all
       unfolding wordsFrom bytesOf
       tested-bad why off e = rw (words-there h, ← (read .is), e, ← is) at tested
 
@@ -95,18 +97,18 @@ module _ (s : List ℕ) (w : Extent) (is : w ≡ nextWord s (w .start)) where
   -- the walk's answer
   module _ (tested : wordsFrom s (w .start) (restOf s (w .start)) ≡ wordsFrom s 0 (restOf s 0)) (p : ℕ) (b b₀ : List ℕ) (inv : Completes (goodFrom s (w .start)) p b (goodFrom s 0) 0 b₀)
       (hp : p ≤ largestPlace) (hb : length b ≤ largestPlace) where
-    answer : Check → NumbersAnswer
-    answer c = thenNumbers c (Accepted (wordCount s 0))
+    answer : Stage → NumbersReading
+    answer c = thenCheck reading.Faulty c (Counted (wordCount s 0))
 
     pub walked-bad : (r : Spelt) → w .start < w .end → NumberRead 0 largestListed (take (w .end - w .start) (drop (w .start) s)) r → (why : Reason) (off : ℕ) → r ≡ Faulty why off
-        → Walked s b₀ b (Refused (record { reason = why; place = w .start }))
+        → Walked s b₀ b (reading.Faulty (record { reason = why; place = w .start }))
     unfolding answer
     walked-bad r h read why off e = record {
       is = ap answer (tested-bad (wordsFrom s 0 (restOf s 0)) tested r h read why off e);
       stored = stored-bad p 0 b b₀ (goodFrom s 0) inv r h read why off e hp hb .stored;
     }
 
-    pub walked-all : (n : ℕ) → w .start ≤ w .end → w .end ≤ w .start → n + wordCount s (w .start) ≡ wordCount s 0 → Walked s b₀ b (Accepted n)
+    pub walked-all : (n : ℕ) → w .start ≤ w .end → w .end ≤ w .start → n + wordCount s (w .start) ≡ wordCount s 0 → Walked s b₀ b (Counted n)
     unfolding answer
     walked-all n l h count = record {
       is = rw (count-done s 0 n w is count l h) (ap answer (tested-done (wordsFrom s 0 (restOf s 0)) tested l h));

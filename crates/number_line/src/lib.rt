@@ -5,18 +5,35 @@ ghost use Prim.Native.Nat.{_*_};
 ghost use lib.Dec.{leb};
 ghost use lib.ListN.{length};
 ghost use Rattle.binary.specs.Bytes.{wordSize};
-ghost use Rattle.number_line.specs.Numbers.{numbersCheck, NumbersStored};
-ghost use Rattle.number_line.specs.Walks.{Walked, lineCheck, feedless, isGap, QuickRead, QuickText, Handed};
+ghost use Rattle.number_line.specs.Numbers.{numbersAnswer, numbersStages, numbersCheck, NumbersStored};
+ghost use Rattle.number_line.specs.Walks.{Walked, lineCheck, feedless, isGap, QuickRead, QuickText, Handed, NumbersHeld};
+use ledger::Fault;
 use ledger::Reason;
 use ledger::Refusal;
 use numbers::Spelt;
-use text::Check;
 use text::Class;
+use text::Stage;
 
-// How many numbers a text has, or its first refusal.
+// How many numbers a text has, or its first fault.
+pub enum NumbersReading {
+    Counted(usize),
+    Faulty(Fault),
+}
+
+// The same, as a caller is told.
 pub enum NumbersAnswer {
     Accepted(usize),
     Refused(Refusal),
+}
+
+// The one place where a fault becomes a refusal.
+fn answered(x: NumbersReading) -> NumbersAnswer
+    ensures { λ r. ⌜ r ≡ numbersAnswer x ⌝ }
+{
+    match x {
+        NumbersReading::Counted(n) => NumbersAnswer::Accepted(n),
+        NumbersReading::Faulty(f) => NumbersAnswer::Refused(Refusal::at(f)),
+    }
 }
 
 // The greatest number, and how many digits it has.
@@ -25,7 +42,7 @@ const LARGEST: u64 = 999999999999999999;
 const DIGITS: usize = 18;
 
 // The words from the left, each a number; the good ones are stored, 8 bytes each, as far as the bytes reach.
-fn walk_numbers(text: &[u8], out: &mut [u8]) -> NumbersAnswer
+fn walk_numbers(text: &[u8], out: &mut [u8]) -> NumbersReading
     ensures { λ r. ⌜ Walked (now (text .entry)) (now (out .entry)) (now (out .exit)) r ⌝ }
 {
     let mut w = text::next_word(text, 0);
@@ -39,26 +56,36 @@ fn walk_numbers(text: &[u8], out: &mut [u8]) -> NumbersAnswer
                 p = binary::put_low(out, p, v, binary::WORD_SIZE);
             }
             Spelt::Faulty(reason, _) => {
-                return NumbersAnswer::Refused(Refusal { reason, place: a });
+                return NumbersReading::Faulty(Fault { reason, place: a });
             }
         }
         w = text::next_word(text, e);
         n += 1;
     }
-    NumbersAnswer::Accepted(n)
+    NumbersReading::Counted(n)
 }
 
 // The words, then a surplus line.
-fn check_line(text: &[u8]) -> NumbersAnswer
+fn check_line(text: &[u8]) -> NumbersReading
     ensures { λ r. ⌜ r ≡ lineCheck (now (text .entry)) ⌝ }
 {
     let mut none = [0u8; 0];
     match walk_numbers(text, &mut none) {
-        NumbersAnswer::Refused(x) => NumbersAnswer::Refused(x),
-        NumbersAnswer::Accepted(n) => match text::check_last_line(text, 0) {
-            Check::Refused(x) => NumbersAnswer::Refused(x),
-            Check::Holds => NumbersAnswer::Accepted(n),
+        NumbersReading::Faulty(x) => NumbersReading::Faulty(x),
+        NumbersReading::Counted(n) => match text::check_last_line(text, 0) {
+            Stage::Faulty(x) => NumbersReading::Faulty(x),
+            Stage::Passes => NumbersReading::Counted(n),
         },
+    }
+}
+
+// The length and the bytes, then the line.
+fn stage(text: &[u8]) -> NumbersReading
+    ensures { λ r. ⌜ r ≡ numbersStages (now (text .entry)) ⌝ }
+{
+    match text::check_text(text) {
+        Stage::Faulty(x) => NumbersReading::Faulty(x),
+        Stage::Passes => check_line(text),
     }
 }
 
@@ -66,10 +93,7 @@ fn check_line(text: &[u8]) -> NumbersAnswer
 pub fn check_numbers(text: &[u8]) -> NumbersAnswer
     ensures { λ r. ⌜ r ≡ numbersCheck (now (text .entry)) ⌝ }
 {
-    match text::check_text(text) {
-        Check::Refused(x) => NumbersAnswer::Refused(x),
-        Check::Holds => check_line(text),
-    }
+    answered(stage(text))
 }
 
 fn numbers_fit(n: usize, room: usize) -> bool
@@ -79,16 +103,16 @@ fn numbers_fit(n: usize, room: usize) -> bool
 }
 
 // All is tested in a first walk, so that a refusal leaves the lent bytes as they were.
-fn read_tested(text: &[u8], out: &mut [u8]) -> NumbersAnswer
-    ensures { λ r. ⌜ NumbersStored (now (text .entry)) (now (out .entry)) (now (out .exit)) r ⌝ }
+fn read_tested(text: &[u8], out: &mut [u8]) -> NumbersReading
+    ensures { λ r. ⌜ NumbersHeld (now (text .entry)) (now (out .entry)) (now (out .exit)) r ⌝ }
 {
-    match check_numbers(text) {
-        NumbersAnswer::Refused(x) => NumbersAnswer::Refused(x),
-        NumbersAnswer::Accepted(n) => {
+    match stage(text) {
+        NumbersReading::Faulty(x) => NumbersReading::Faulty(x),
+        NumbersReading::Counted(n) => {
             if numbers_fit(n, out.len()) {
                 return walk_numbers(text, out);
             }
-            NumbersAnswer::Refused(Refusal {
+            NumbersReading::Faulty(Fault {
                 reason: Reason::NoRoom,
                 place: text.len(),
             })
@@ -171,22 +195,22 @@ fn quick_text(text: &[u8], room: &mut [u64]) -> Quick
 }
 
 // Stores numbers, or 11 at the text's end.
-fn hand_over(end: usize, vs: &[u64], out: &mut [u8]) -> NumbersAnswer
+fn hand_over(end: usize, vs: &[u64], out: &mut [u8]) -> NumbersReading
     ensures { λ r. ⌜ Handed end (now (vs .entry)) (now (out .entry)) (now (out .exit)) r ⌝ }
 {
     if numbers_fit(vs.len(), out.len()) {
         binary::put_words(out, 0, vs);
-        return NumbersAnswer::Accepted(vs.len());
+        return NumbersReading::Counted(vs.len());
     }
-    NumbersAnswer::Refused(Refusal {
+    NumbersReading::Faulty(Fault {
         reason: Reason::NoRoom,
         place: end,
     })
 }
 
 // The numbers of a text by way of working room: the quick way if they fit there, else with more care.
-fn read_by(text: &[u8], room: &mut [u64], out: &mut [u8]) -> NumbersAnswer
-    ensures { λ r. ⌜ NumbersStored (now (text .entry)) (now (out .entry)) (now (out .exit)) r ⌝ }
+fn read_by(text: &[u8], room: &mut [u64], out: &mut [u8]) -> NumbersReading
+    ensures { λ r. ⌜ NumbersHeld (now (text .entry)) (now (out .entry)) (now (out .exit)) r ⌝ }
 {
     let q = quick_text(text, room);
     if q.good {
@@ -201,8 +225,8 @@ const SHORT: usize = 512;
 
 const FEW: usize = SHORT / 2;
 
-fn read_short(text: &[u8], out: &mut [u8]) -> NumbersAnswer
-    ensures { λ r. ⌜ NumbersStored (now (text .entry)) (now (out .entry)) (now (out .exit)) r ⌝ }
+fn read_short(text: &[u8], out: &mut [u8]) -> NumbersReading
+    ensures { λ r. ⌜ NumbersHeld (now (text .entry)) (now (out .entry)) (now (out .exit)) r ⌝ }
 {
     let mut room = [0u64; FEW];
     read_by(text, &mut room, out)
@@ -212,19 +236,26 @@ fn read_short(text: &[u8], out: &mut [u8]) -> NumbersAnswer
 // numbers each; zeros are left to the C library, which stores as fast but is counted by the byte (docs/BENCHMARKS.md).
 const ROOM: usize = 4096;
 
-fn read_long(text: &[u8], out: &mut [u8]) -> NumbersAnswer
-    ensures { λ r. ⌜ NumbersStored (now (text .entry)) (now (out .entry)) (now (out .exit)) r ⌝ }
+fn read_long(text: &[u8], out: &mut [u8]) -> NumbersReading
+    ensures { λ r. ⌜ NumbersHeld (now (text .entry)) (now (out .entry)) (now (out .exit)) r ⌝ }
 {
     let mut room = [1u64; ROOM];
     read_by(text, &mut room, out)
+}
+
+// All ways answer alike; which is the quickest depends on the length.
+fn read_any(text: &[u8], out: &mut [u8]) -> NumbersReading
+    ensures { λ r. ⌜ NumbersHeld (now (text .entry)) (now (out .entry)) (now (out .exit)) r ⌝ }
+{
+    if SHORT < text.len() {
+        return read_long(text, out);
+    }
+    read_short(text, out)
 }
 
 // The numbers of a text to the front of the lent bytes, 8 bytes each, the lowest first; too little room is 11 at the text's end, last.
 pub fn read_numbers(text: &[u8], out: &mut [u8]) -> NumbersAnswer
     ensures { λ r. ⌜ NumbersStored (now (text .entry)) (now (out .entry)) (now (out .exit)) r ⌝ }
 {
-    if SHORT < text.len() {
-        return read_long(text, out);
-    }
-    read_short(text, out)
+    answered(read_any(text, out))
 }

@@ -1,5 +1,5 @@
--- The text's own checks, then those of its line. Assumes nothing.
-use Rattle.number_line.proofs.ReadLaws.{text-bad, text-good}
+-- As a caller is told. Assumes nothing.
+use Rattle.number_line.proofs.ReadLaws.{check-told}
 use borrow.Author.Needs.{needs}
 use Rattle.number_line.proofs.check_numbers.Statement.{statement}
 use Rattle.number_line.proofs.check_numbers.Tie as tie
@@ -7,4 +7,4 @@ use Rattle.number_line.proofs.check_numbers.Tie as tie
 pub check-numbers-spec : {M : Type 1} → statement M
 check-numbers-spec =
     tie.close
-    (tie.spec (λ c κs. search needs) (λ c. search needs) (λ c. search needs) (λ c κs. search needs) (λ c. search text-bad) (λ c. search text-good))
+    (tie.spec (λ c κs. search needs) (λ c κs. search needs) (λ c. search check-told))
