@@ -54,14 +54,17 @@ reason-few OutsideTarget = omega arith
 pub code-fits : (v n m : ℕ) (x : Reason) → n ≡ told v → m ≡ reasonNumber x → n + m < 2 ^ 64
 code-fits v n m x e f = omega (arith, told-fits v, reason-few x)
 
+pub code-of : (r : ℕ) (x y : Refusal) → x ≡ y → r ≡ refusalCode x → r ≡ refusalCode y
+code-of r x y e h = rw e at h
+
 -- a refusal leaves what was lent
 pub refused-is : (x : Refusal) (b : List ℕ) (r : ℕ) → r ≡ refusalCode x → Answered (refuses x) b b r
 refused-is x b r e = record { is = e; left = refl }
 
-module _ (end count : ℕ) (bytes b : List ℕ) where
-  pub room-short : (r : ℕ) → length b < length bytes → r ≡ refusalCode (record { reason = NoRoom; place = end }) → Answered (roomed end (length b) count bytes) b b r
+module _ (short : Refusal) (count : ℕ) (bytes b : List ℕ) where
+  pub room-short : (r : ℕ) → length b < length bytes → r ≡ refusalCode short → Answered (roomed short (length b) count bytes) b b r
   unfolding roomed
-  room-short r h e = rw (lt-leb (length bytes) (length b) h) (refused-is (record { reason = NoRoom; place = end }) b r e)
+  room-short r h e = rw (lt-leb (length bytes) (length b) h) (refused-is short b r e)
 
   -- what was put at the front, and the rest as before
   pub put-front : (b′ : List ℕ) → length bytes ≤ length b → b′ ≡ sets b 0 bytes → b′ ≡ bytes ++ drop (length bytes) b
@@ -70,19 +73,19 @@ module _ (end count : ℕ) (bytes b : List ℕ) where
       let s : sets b 0 bytes ≡ bytes ++ drop (0 + length bytes) b = sets-eq bytes b 0 (omega arith) in
       f ∙ rw z at s
 
-  pub room-put : (b′ : List ℕ) (r : ℕ) → length bytes ≤ length b → b′ ≡ sets b 0 bytes → r ≡ told count → Answered (roomed end (length b) count bytes) b b′ r
+  pub room-put : (b′ : List ℕ) (r : ℕ) → length bytes ≤ length b → b′ ≡ sets b 0 bytes → r ≡ told count → Answered (roomed short (length b) count bytes) b b′ r
   unfolding roomed
   room-put b′ r h f e = rw (le-leb (length bytes) (length b) h) (record { is = e; left = put-front b′ h f })
 
 -- numbers
-module _ (end : ℕ) (vs b : List ℕ) where
-  pub numbers-short : (r : ℕ) → length b / wordSize < length vs → r ≡ refusalCode (record { reason = NoRoom; place = end }) → Answered (numbered end (length b) vs) b b r
+module _ (short : Refusal) (vs b : List ℕ) where
+  pub numbers-short : (r : ℕ) → length b / wordSize < length vs → r ≡ refusalCode short → Answered (numbered short (length b) vs) b b r
   unfolding numbered
-  numbers-short r h e = room-short end (length vs) (wordsBytes vs) b r (omega (arith, words-length vs)) e
+  numbers-short r h e = room-short short (length vs) (wordsBytes vs) b r (omega (arith, words-length vs)) e
 
-  pub numbers-put : (b′ : List ℕ) (r : ℕ) → length vs ≤ length b / wordSize → b′ ≡ sets b 0 (wordsBytes vs) → r ≡ told (length vs) → Answered (numbered end (length b) vs) b b′ r
+  pub numbers-put : (b′ : List ℕ) (r : ℕ) → length vs ≤ length b / wordSize → b′ ≡ sets b 0 (wordsBytes vs) → r ≡ told (length vs) → Answered (numbered short (length b) vs) b b′ r
   unfolding numbered
-  numbers-put b′ r h f e = room-put end (length vs) (wordsBytes vs) b b′ r (omega (arith, words-length vs)) f e
+  numbers-put b′ r h f e = room-put short (length vs) (wordsBytes vs) b b′ r (omega (arith, words-length vs)) f e
 
 -- a part of a slice has as many numbers as were asked for
 pub part-count : (n : ℕ) (xs : List ℕ) → n ≤ length xs → length (take n xs) ≡ n
@@ -104,7 +107,7 @@ pub record-stored : (m : ℕ) (fields ts qs zs b b₁ b₂ : List ℕ) (p q : �
 record-stored m fields ts qs zs b b₁ b₂ p q f g = rw (words-append fields (rowsNumbers (take m (tableOf ts qs zs))), table-take m ts qs zs) (put-then f g)
 
 -- its first n rows, of which there are m
-module _ (end n m : ℕ) (fields ts qs zs b : List ℕ) (em : m ≡ min n (rowsOf ts qs zs)) where
+module _ (short : Refusal) (n m : ℕ) (fields ts qs zs b : List ℕ) (em : m ≡ min n (rowsOf ts qs zs)) where
   abbrev rows : List Row
   rows = take n (tableOf ts qs zs)
 
@@ -121,18 +124,18 @@ module _ (end n m : ℕ) (fields ts qs zs b : List ℕ) (em : m ≡ min n (rowsO
       rw (length-append, rows-length rows, length-take) (omega (arith, t))
 
   module _ (t : Bool) (et : t ≡ leb (wordSize * (length fields + 3 * m)) (length b)) where
-    pub record-short : (r : ℕ) → t ≡ false → r ≡ refusalCode (record { reason = NoRoom; place = end }) → Answered (recorded end (length b) fields rows) b b r
+    pub record-short : (r : ℕ) → t ≡ false → r ≡ refusalCode short → Answered (recorded short (length b) fields rows) b b r
     unfolding recorded
     record-short r h e =
-        numbers-short end (recordNumbers fields rows) b r (omega (arith, all-length, leb-false (wordSize * (length fields + 3 * m)) (length b) (sym et ∙ h))) e
+        numbers-short short (recordNumbers fields rows) b r (omega (arith, all-length, leb-false (wordSize * (length fields + 3 * m)) (length b) (sym et ∙ h))) e
 
     pub record-put : (q r : ℕ) (b′ : List ℕ) → t ≡ true → Put (recordBytes fields (take m (tableOf ts qs zs))) 0 b b′ q → r ≡ told (length fields + 3 * m)
-        → Answered (recorded end (length b) fields rows) b b′ r
+        → Answered (recorded short (length b) fields rows) b b′ r
     unfolding recorded
     record-put q r b′ h f e =
         let f′ : Put (recordBytes fields rows) 0 b b′ q = rw rows-are at f in
         let e′ : r ≡ told (length (recordNumbers fields rows)) = rw (← all-length) at e in
-        numbers-put end (recordNumbers fields rows) b b′ r (omega (arith, all-length, leb-true (wordSize * (length fields + 3 * m)) (length b) (sym et ∙ h))) (f′ .stored) e′
+        numbers-put short (recordNumbers fields rows) b b′ r (omega (arith, all-length, leb-true (wordSize * (length fields + 3 * m)) (length b) (sym et ∙ h))) (f′ .stored) e′
 
 -- an answer tells its reason and its value
 pub accepted-reason : (v : ℕ) → told v % 16 ≡ 0

@@ -1,7 +1,6 @@
 -- What an entry for another language answers (docs/DESK.md, "Answers"), and what the lent bytes hold then.
 use Prim.Native.Nat.{ℕ, _+_, _*_, min}
 use mathlib.Core.Path.{_≡_}
-use mathlib.Core.Bool.{cond}
 use mathlib.Core.List.{List, [], _++_}
 use lib.ListN.{length, drop}
 use lib.Dec.{leb}
@@ -9,6 +8,7 @@ use Rattle.ledger.specs.declared.Reason.{Reason}
 use Rattle.ledger.specs.declared.Reason.the-variants.{NoRoom}
 use Rattle.ledger.specs.declared.Refusal.{Refusal}
 use Rattle.ledger.specs.Reasons.{reasonNumber}
+use Rattle.ledger.specs.Refusals.{faultAt, refusalAt, withoutText, require}
 use Rattle.ledger.specs.declared.Row.{Row}
 use Rattle.binary.specs.Bytes.{wordsBytes, rowsNumbers}
 
@@ -36,21 +36,26 @@ refusalCode x = told (x .place) + reasonNumber (x .reason)
 abbrev pub refuses : Refusal → Outcome
 refuses x = record { answer = refusalCode x; bytes = [] }
 
-abbrev pub refusesBy : Reason → ℕ → Outcome
-refusesBy why place = refuses (record { reason = why; place = place })
+-- what is wrong with an entry's own arguments is no fault of a text
+abbrev pub refusesBy : Reason → Outcome
+refusesBy why = refuses (withoutText why)
+
+-- the want of room of an entry with a text stands at the text's end
+abbrev pub noRoomAt : ℕ → Refusal
+noRoomAt end = refusalAt (faultAt NoRoom end)
 
 -- what an entry promises of its answer and of what was lent to it
 pub record Answered (o : Outcome) (before after : List ℕ) (r : ℕ) : Type 0 where
   pub is : r ≡ o .answer
   pub left : after ≡ o .bytes ++ drop (length (o .bytes)) before
 
--- bytes into so much room, or 11 at the text's end
-unfoldable pub roomed : ℕ → ℕ → ℕ → List ℕ → Outcome
-roomed end room count bytes = cond (leb (length bytes) room) (gives count bytes) (refusesBy NoRoom end)
+-- bytes into so much room, or the refusal for want of it
+unfoldable pub roomed : Refusal → ℕ → ℕ → List ℕ → Outcome
+roomed short room count bytes = require (leb (length bytes) room) (refuses short) (gives count bytes)
 
 -- numbers, 8 bytes each, the lowest first; the count is how many
-unfoldable pub numbered : ℕ → ℕ → List ℕ → Outcome
-numbered end room vs = roomed end room (length vs) (wordsBytes vs)
+unfoldable pub numbered : Refusal → ℕ → List ℕ → Outcome
+numbered short room vs = roomed short room (length vs) (wordsBytes vs)
 
 -- a record's numbers, then those of its rows
 abbrev pub recordNumbers : List ℕ → List Row → List ℕ
@@ -59,5 +64,5 @@ recordNumbers fields rows = fields ++ rowsNumbers rows
 abbrev pub recordBytes : List ℕ → List Row → List ℕ
 recordBytes fields rows = wordsBytes (recordNumbers fields rows)
 
-unfoldable pub recorded : ℕ → ℕ → List ℕ → List Row → Outcome
-recorded end room fields rows = numbered end room (recordNumbers fields rows)
+unfoldable pub recorded : Refusal → ℕ → List ℕ → List Row → Outcome
+recorded short room fields rows = numbered short room (recordNumbers fields rows)

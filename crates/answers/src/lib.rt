@@ -7,7 +7,10 @@ ghost use Rattle.blocks.specs.Blocks.{rowsOf};
 ghost use Rattle.blocks.specs.Rows.{tableOf};
 ghost use Rattle.writing.specs.Puts.{Put};
 ghost use Rattle.binary.specs.Bytes.{wordSize};
-ghost use Rattle.answers.specs.Answers.{told, refusalCode, Answered, numbered, recordBytes, recorded};
+ghost use Rattle.answers.specs.Answers.{told, refusalCode, noRoomAt, Answered, numbered, recordBytes, recorded};
+ghost use Rattle.ledger.specs.Refusals.{faultAt, refusalAt, withoutText};
+ghost use Rattle.ledger.specs.declared.Reason.the-variants.{NoRoom};
+use ledger::Fault;
 use ledger::Reason;
 use ledger::Refusal;
 
@@ -32,19 +35,39 @@ pub fn refusal_code(x: Refusal) -> u64
     told_as(x.place as u64) + reason.number()
 }
 
-pub fn refused_by(reason: Reason, place: usize) -> u64
-    ensures { λ r. ⌜ r ≡ refusalCode (record { reason = reason; place = place }) ⌝ }
+// The refusal of a text's fault.
+pub fn refused_at(reason: Reason, place: usize) -> u64
+    ensures { λ r. ⌜ r ≡ refusalCode (refusalAt (faultAt reason place)) ⌝ }
 {
-    refusal_code(Refusal { reason, place })
+    refusal_code(Refusal::at(Fault { reason, place }))
 }
 
-// Numbers, a word each, to the front of the lent bytes, or 11 at a place.
+// The refusal of an entry's own arguments.
+pub fn refused_by(reason: Reason) -> u64
+    ensures { λ r. ⌜ r ≡ refusalCode (withoutText reason) ⌝ }
+{
+    refusal_code(Refusal::without_text(reason))
+}
+
+// Numbers, 8 bytes each, to the front of the lent bytes, or 11 at a text's end.
 pub fn answer_numbers(end: usize, vs: &[u64], out: &mut [u8]) -> u64
-    ensures { λ r. ⌜ Answered (numbered end (length (now (out .entry))) (now (vs .entry)))
+    ensures { λ r. ⌜ Answered (numbered (noRoomAt end) (length (now (out .entry))) (now (vs .entry)))
         (now (out .entry)) (now (out .exit)) r ⌝ }
 {
     if out.len() / binary::WORD_SIZE < vs.len() {
-        return refused_by(Reason::NoRoom, end);
+        return refused_at(Reason::NoRoom, end);
+    }
+    binary::put_words(out, 0, vs);
+    told_as(vs.len() as u64)
+}
+
+// The same of an entry without a text.
+pub fn answer_without_text(vs: &[u64], out: &mut [u8]) -> u64
+    ensures { λ r. ⌜ Answered (numbered (withoutText NoRoom) (length (now (out .entry))) (now (vs .entry)))
+        (now (out .entry)) (now (out .exit)) r ⌝ }
+{
+    if out.len() / binary::WORD_SIZE < vs.len() {
+        return refused_by(Reason::NoRoom);
     }
     binary::put_words(out, 0, vs);
     told_as(vs.len() as u64)
@@ -86,7 +109,7 @@ fn put_record(
     binary::put_rows(out, p, &targets[..rows], &queries[..rows], &sizes[..rows])
 }
 
-// A record's numbers and its first so many rows, a word for each number, to the front of the lent bytes, or 11 at a place.
+// A record's numbers and its first so many rows, a word for each number, to the front of the lent bytes, or 11 at a text's end.
 pub fn answer_record(
     end: usize,
     fields: &[u64],
@@ -96,7 +119,7 @@ pub fn answer_record(
     n: usize,
     out: &mut [u8],
 ) -> u64
-    ensures { λ r. ⌜ Answered (recorded end (length (now (out .entry))) (now (fields .entry)) (take n (tableOf (now (targets .entry))
+    ensures { λ r. ⌜ Answered (recorded (noRoomAt end) (length (now (out .entry))) (now (fields .entry)) (take n (tableOf (now (targets .entry))
         (now (queries .entry)) (now (sizes .entry))))) (now (out .entry)) (now (out .exit)) r ⌝ }
 {
     let rows = first_rows(n, targets, queries, sizes);
@@ -104,5 +127,5 @@ pub fn answer_record(
         put_record(fields, targets, queries, sizes, rows, out);
         return told_as((fields.len() + 3 * rows) as u64);
     }
-    refused_by(Reason::NoRoom, end)
+    refused_at(Reason::NoRoom, end)
 }
