@@ -38,7 +38,7 @@ use Rattle.binary.specs.Bytes.{wordSize}
 use Rattle.binary.proofs.BackLaws.{words-length, words-back}
 use Rattle.answers.specs.Answers.{mostTold, gives, refuses, refusalCode, Answered}
 use Rattle.answers.proofs.AnswerLaws.{told-itself}
-use Rattle.desk.specs.Entries.{ofChain, ofTallied, tallyOutcome, tallyBytes, tallyIn, tallied, onCheck, batchLifted, tallyKept, tallyAfter}
+use Rattle.entries.specs.Entries.{ofChain, ofTallied, tallyOutcome, tallyBytes, tallyIn, tallied, onCheck, batchLifted, tallyKept, tallyAfter}
 use Rattle.demands.specs.Chain.{ChainSpells}
 use Rattle.demands.specs.Desk.{TallyCode}
 use Rattle.demands.specs.Calls.{EntryCall, single, many, textOf, sentWith, Called, called-none, called-single, called-many, Sends, sends-none, sends-chain, sends-other, Batches}

@@ -12,7 +12,7 @@ use Rattle.table_psl.proofs.TableLaws as pslTable
 use Rattle.table_chain.proofs.TableLaws as chainTable
 use Rattle.table_turn.proofs.TableLaws as turnTable
 use Rattle.table_lift.proofs.TableLaws.{tally-left, tally-added, batch-refused}
-use Rattle.desk.proofs.QuietLaws as desk
+use Rattle.entries.proofs.QuietLaws as desk
 use Rattle.demands.specs.Bed.{bed}
 use Rattle.demands.specs.Psl.{psl}
 use Rattle.demands.specs.Chain.{chain}

@@ -8,6 +8,7 @@ use native.Mathlib.Omega.{arith}
 use lib.ListN.{length, take, drop, getD}
 use lib.Seq.{take-append-seam}
 use borrow.Author.Tests.{lt-leb, le-leb}
+use Rattle.ledger.specs.Refusals.{withoutText}
 use Rattle.ledger.specs.declared.Row.{Row}
 use Rattle.ledger.specs.declared.Reason.the-variants.{NoRoom}
 use Rattle.text.specs.declared.Check.{Check}
@@ -111,7 +112,7 @@ region-counts c rows a e r h =
 
 -- a batch, by the single calls
 module _ (t u : Tally) (c : Chain) (rows : List Row) (regions before after : List (List ℕ)) (x : Check) (h : BatchLifted t c rows regions before u after x) where
-  refuses : length before < length regions → x ≡ check.Refused (record { reason = NoRoom; place = 0 })
+  refuses : length before < length regions → x ≡ check.Refused (withoutText NoRoom)
   unfolding batchCheck
   refuses k = rw (lt-leb (length regions) (length before) k) at (h .check)
 
@@ -119,7 +120,7 @@ module _ (t u : Tally) (c : Chain) (rows : List Row) (regions before after : Lis
   unfolding batchCheck
   holds k = rw (le-leb (length regions) (length before) k) at (h .check)
 
-  eleven-if : x ≡ check.Refused (record { reason = NoRoom; place = 0 }) → length before < length regions
+  eleven-if : x ≡ check.Refused (withoutText NoRoom) → length before < length regions
   eleven-if e = either (length regions) (length before) _ (λ k. absurd (let w = sym (holds k) ∙ e in let z : _≡_ {A = ℕ} 0 1 = cc in omega arith)) (λ k. k)
 
   holds-only : x ≡ check.Holds → length regions ≤ length before

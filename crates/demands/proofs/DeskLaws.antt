@@ -8,6 +8,7 @@ use native.Mathlib.Omega.{arith}
 use lib.ListN.{length, length-append, length-map, length-take}
 use lib.Seq.{take-all, ext-getD}
 use borrow.Author.Tests.{le-leb, lt-leb, ne-eqb}
+use Rattle.ledger.specs.Refusals.{withoutText}
 use Rattle.ledger.specs.declared.Row.{Row}
 use Rattle.ledger.specs.declared.Reason.the-variants.{BadWord, NoRoom}
 use Rattle.ledger.specs.declared.Refusal.{Refusal}
@@ -57,10 +58,10 @@ use Rattle.table_psl.proofs.RowLaws.{psl-reads}
 use Rattle.table_chain.proofs.RowLaws.{chain-reads}
 use Rattle.binary.specs.Bytes.{wordSize, wordsBytes, lowAt}
 use Rattle.binary.proofs.BackLaws.{rows-length, words-length, words-back}
-use Rattle.answers.specs.Answers.{mostTold, told, Outcome, gives, refuses, refusalCode, Answered, roomed, numbered, recordNumbers, recorded}
+use Rattle.answers.specs.Answers.{mostTold, told, Outcome, gives, refuses, refusalCode, Answered, roomed, numbered, recordNumbers, recorded, noRoomAt}
 use Rattle.answers.proofs.AnswerLaws.{told-itself, refused-reason}
-use Rattle.desk.specs.Records.{bedNumbers, pslNumbers, chainNumbers}
-use Rattle.desk.specs.Entries.{byKind, written, nameBytes, bedWritten, pslWritten, chainWritten, checkedBed, checkedPsl, checkedChain, checked, parsedBed, parsedPsl, parsedChain, parsed, formattedBed, formattedPsl, formattedChain, formatted, ofNumbers, numbersGiven, inWord, ofPosition, positionLifted, ofRegion, regionLifted, turnWritten, turnedText, tallyIn, tallied, onCheck, batchLifted, tallyAfter, BatchTold}
+use Rattle.entries.specs.Records.{bedNumbers, pslNumbers, chainNumbers}
+use Rattle.entries.specs.Entries.{byKind, written, nameBytes, bedWritten, pslWritten, chainWritten, checkedBed, checkedPsl, checkedChain, checked, parsedBed, parsedPsl, parsedChain, parsed, formattedBed, formattedPsl, formattedChain, formatted, ofNumbers, numbersGiven, inWord, ofPosition, positionLifted, ofRegion, regionLifted, turnWritten, turnedText, tallyIn, tallied, onCheck, batchLifted, tallyAfter, BatchTold}
 use Rattle.demands.specs.Formats.{Names, Format}
 use Rattle.demands.specs.Demand2.{Demand2}
 use Rattle.demands.specs.Bed.{BedSpells, bedNames, bed}
@@ -88,24 +89,24 @@ module _ (b b′ : List ℕ) (a : ℕ) where
   given : (n : ℕ) (bytes : List ℕ) → n ≤ mostTold → Answered (gives n bytes) b b′ a → Gives n bytes b b′ a
   given n bytes h k = record { code = k .is ∙ sym (told-itself n h); left = k .left }
 
-  numbers-given : (end : ℕ) (vs : List ℕ) → end ≤ mostTold → length vs ≤ mostTold → Answered (numbered end (length b) vs) b b′ a → GivenRoom end (length vs) (wordsBytes vs) b b′ a
+  numbers-given : (end : ℕ) (vs : List ℕ) → end ≤ mostTold → length vs ≤ mostTold → Answered (numbered (noRoomAt end) (length b) vs) b b′ a → GivenRoom end (length vs) (wordsBytes vs) b b′ a
   unfolding numbered roomed
   numbers-given end vs h l k = record {
     enough = λ m. given (length vs) (wordsBytes vs) l (rw (le-leb (length (wordsBytes vs)) (length b) m) at k);
-    short = λ m. refused-by (record { reason = NoRoom; place = end }) h (rw (lt-leb (length (wordsBytes vs)) (length b) m) at k);
+    short = λ m. refused-by (noRoomAt end) h (rw (lt-leb (length (wordsBytes vs)) (length b) m) at k);
   }
 
   text-given : (end : ℕ) (text : List ℕ) → end ≤ mostTold → length text ≤ textLimit → Answered (written end (roomAnswer (length text) (length b)) text) b b′ a → GivenRoom end (length text) text b b′ a
   unfolding roomAnswer
   text-given end text h l k = record {
     enough = λ m. given (length text) text (omega arith) (rw (le-leb (length text) textLimit l, le-leb (length text) (length b) m) at k);
-    short = λ m. refused-by (record { reason = NoRoom; place = end }) h (rw (le-leb (length text) textLimit l, lt-leb (length text) (length b) m) at k);
+    short = λ m. refused-by (noRoomAt end) h (rw (le-leb (length text) textLimit l, lt-leb (length text) (length b) m) at k);
   }
 
 -- ---- what the three formats share: the outcomes of a text that spells a record, and of one that is refused
 record Entries (f : Format) : Type 1 where
   checkedAs : (s : List ℕ) (r : f .Record) (rows : List Row) → f .Spells s r rows → checked (f .kind) s ≡ gives (f .blocks r) []
-  parsedAs : (s : List ℕ) (r : f .Record) (rows : List Row) → f .Spells s r rows → (room : ℕ) → parsed (f .kind) s room ≡ recorded (length s) room (f .numbers r) rows
+  parsedAs : (s : List ℕ) (r : f .Record) (rows : List Row) → f .Spells s r rows → (room : ℕ) → parsed (f .kind) s room ≡ recorded (noRoomAt (length s)) room (f .numbers r) rows
   formattedAs : (s : List ℕ) (r : f .Record) (rows : List Row) → f .Spells s r rows → (room : ℕ)
       → formatted (f .kind) s room ≡ written (length s) (roomAnswer (length (f .text r (f .names s r) rows)) room) (f .text r (f .names s r) rows)
   fewBlocks : (s : List ℕ) (r : f .Record) (rows : List Row) → f .Spells s r rows → f .blocks r ≤ blockLimit
@@ -382,7 +383,7 @@ batch-only s regions lent lent′ b b′ a h z = spelt-or s _ (λ y. y) (λ x e.
   where
     go : (v : Bool) (x : Refusal) → a ≡ onCheck (require v NoRoom 0 (checkAnswer.Refused x)) refuses (gives (length regions / regionSize) (rowsBytes (answerRows (tallyIn lent) (sentText s regions (length b))))) .answer → ⊥
     go true x e = no-count x a e z
-    go false x e = no-count (record { reason = NoRoom; place = 0 }) a e z
+    go false x e = no-count (withoutText NoRoom) a e z
 
 chain-calls : ChainsAtDesk
 unfolding chain positionLifted regionLifted turnedText tallied turned batchLifted tallyAfter textBatchCheck
@@ -403,7 +404,7 @@ chain-calls =
         h .tallyLeft ∙ batch-kept s c rows p regions (length b) fits t u lentRows leftRows d e g rest,
       );
       batchNoRoom = λ s regions lent lent′ b b′ a h fits.
-          check-none (textBatchCheck s regions (length b)) _ lent _ (record { reason = NoRoom; place = 0 }) (rw fits) (omega arith) b b′ lent′ _ a (h .rowsTold) (h .tallyLeft);
+          check-none (textBatchCheck s regions (length b)) _ lent _ (withoutText NoRoom) (rw fits) (omega arith) b b′ lent′ _ a (h .rowsTold) (h .tallyLeft);
       positionOnly = λ s q b b′ a h z. spelt-or s _ (λ y. y) (λ x e. absurd (no-count x a (rw e at (h .is)) z));
       regionOnly = λ s start end b b′ a h z. spelt-or s _ (λ y. y) (λ x e. absurd (no-count x a (rw e at (h .is)) z));
       turnOnly = λ s b b′ a h z. spelt-or s _ (λ y. y) (λ x e. absurd (no-count x a (rw e at (h .is)) z));
@@ -427,7 +428,7 @@ desk = record {
   numbers = numbers-calls;
   chainCalls = chain-calls;
   otherKind = λ kind s f g h b b′ a.
-      let other : Refusal = record { reason = BadWord; place = 0 } in (
+      let other : Refusal = withoutText BadWord in (
         λ e. e ∙ rw (ne-eqb kind 1 f, ne-eqb kind 2 g, ne-eqb kind 3 h) (unfold told in refl),
         λ k. refused-by b b′ a other (omega arith) (rw (ne-eqb kind 1 f, ne-eqb kind 2 g, ne-eqb kind 3 h) at k),
         λ k. refused-by b b′ a other (omega arith) (rw (ne-eqb kind 1 f, ne-eqb kind 2 g, ne-eqb kind 3 h) at k),

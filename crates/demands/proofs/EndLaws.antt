@@ -7,6 +7,7 @@ use native.Mathlib.Omega.{arith}
 use native.Mathlib.Nat.{le-refl}
 use lib.ListN.{length, take}
 use lib.Dec.{leb, ltb, eqb}
+use Rattle.ledger.specs.Refusals.{withoutText, require}
 use Rattle.ledger.specs.declared.Row.{Row}
 use Rattle.ledger.specs.declared.Reason.{Reason}
 use Rattle.ledger.specs.declared.Reason.the-variants.{NumberOutOfRange, BadWord, SpanDisagrees, BlockRules, CountsDisagree, NoRoom, NoPair, OutsideTarget, TextTooLong}
@@ -49,7 +50,7 @@ use Rattle.number_line.specs.Numbers.{numbersIn, numbersCheck}
 use Rattle.lift.specs.declared.Partner.{Partner}
 use Rattle.lift.specs.declared.Partner.the-variants.{Base, Alone}
 use Rattle.lift.specs.Accepted.{accepted}
-use Rattle.lift.specs.Conversion.{ifConverted, otherStrand, converted}
+use Rattle.lift.specs.Conversion.{notConverted, otherStrand, converted}
 use Rattle.lift.specs.declared.SpanAnswer.the-variants as span
 use Rattle.lift.specs.Pairs.{pairs, partnerOf}
 use Rattle.lift.specs.Positions as positions
@@ -64,8 +65,8 @@ use Rattle.lift.specs.Texts.{ofChecked}
 use Rattle.turn.specs.declared.TurnAnswer.the-variants.{Turned}
 use Rattle.turn.specs.Turns as turns
 use Rattle.binary.specs.Bytes.{wordsBytes}
-use Rattle.answers.specs.Answers.{mostTold, told, Outcome, gives, refuses, refusalCode, Answered, roomed, numbered, recorded}
-use Rattle.desk.specs.Entries.{byKind, ofBed, ofPsl, ofChain, ofNumbers, ofSpan, ofPosition, ofRegion, ofTurn, ofTallied, atEnd, nameBytes, written, bedWritten, pslWritten, chainWritten, checkedBed, checkedPsl, checkedChain, checked, parsedBed, parsedPsl, parsedChain, parsed, formattedBed, formattedPsl, formattedChain, formatted, numbersGiven, convertedNumbers, positionLifted, regionLifted, turnWritten, turnedText, tallyIn, tallyBytes, tallied, onCheck, batchLifted, BatchTold}
+use Rattle.answers.specs.Answers.{mostTold, told, Outcome, gives, refuses, refusalCode, Answered, roomed, numbered, recorded, noRoomAt}
+use Rattle.entries.specs.Entries.{byKind, ofBed, ofPsl, ofChain, ofNumbers, ofSpan, ofPosition, ofRegion, ofTurn, ofTallied, atEnd, nameBytes, written, bedWritten, pslWritten, chainWritten, checkedBed, checkedPsl, checkedChain, checked, parsedBed, parsedPsl, parsedChain, parsed, formattedBed, formattedPsl, formattedChain, formatted, numbersGiven, convertedNumbers, positionLifted, regionLifted, turnWritten, turnedText, tallyIn, tallyBytes, tallied, onCheck, batchLifted, BatchTold}
 use Rattle.demands.specs.Demand1.{Ended, with-count, with-place}
 use Rattle.demands.proofs.PlaceLaws.{placeOf, required}
 use Rattle.demands.proofs.TextPlaceLaws.{bedPlace, bed-in, pslPlace, psl-in, numbersPlace, numbers-in, chainPlace, chain-in}
@@ -86,14 +87,14 @@ pick-ends : (end : ℕ) (t : Bool) (a b : Outcome) → Ends end a → Ends end b
 pick-ends end true a b p q = p
 pick-ends end false a b p q = q
 
-numbered-ends : (end room : ℕ) (vs : List ℕ) → Ends end (numbered end room vs)
+numbered-ends : (end room : ℕ) (vs : List ℕ) → Ends end (numbered (noRoomAt end) room vs)
 unfolding numbered roomed
-numbered-ends end room vs = pick-ends end (leb (length (wordsBytes vs)) room) _ _ (gives-ends end (length vs) (wordsBytes vs)) (code-ends end (record { reason = NoRoom; place = end }) (le-refl end))
+numbered-ends end room vs = pick-ends end (leb (length (wordsBytes vs)) room) _ _ (gives-ends end (length vs) (wordsBytes vs)) (code-ends end (noRoomAt end) (le-refl end))
 
 kind-ends : (end kind : ℕ) (x y z : Outcome) → Ends end x → Ends end y → Ends end z → Ends end (byKind kind x y z)
 unfolding byKind
 kind-ends end kind x y z p q r =
-    pick-ends end (eqb kind 1) x _ p (pick-ends end (eqb kind 2) y _ q (pick-ends end (eqb kind 3) z _ r (code-ends end (record { reason = BadWord; place = 0 }) zero-le)))
+    pick-ends end (eqb kind 1) x _ p (pick-ends end (eqb kind 2) y _ q (pick-ends end (eqb kind 3) z _ r (code-ends end (withoutText BadWord) zero-le)))
 
 -- a text of a format
 bed-ends : (end : ℕ) (a : BedAnswer) (rest : Bed → Outcome) → bedPlace a ≤ end → ((r : Bed) → Ends end (rest r)) → Ends end (ofBed a rest)
@@ -124,8 +125,8 @@ writing-ends end Holds n room bytes h = go (leb n textLimit) (leb n room)
   where
     go : (t u : Bool) → Ends end (written end (answers.require t TextTooLong (answers.require u NoRoom (writing.Written n))) bytes)
     go true true = gives-ends end n bytes
-    go true false = code-ends end (record { reason = NoRoom; place = end }) (le-refl end)
-    go false u = code-ends end (record { reason = TextTooLong; place = 0 }) zero-le
+    go true false = code-ends end (noRoomAt end) (le-refl end)
+    go false u = code-ends end (withoutText TextTooLong) zero-le
 
 write-place : (c : Check) (n room : ℕ) (x : Refusal) → placeOf c ≤ 0 → writing.Refused x ≡ thenWrite c (roomAnswer n room) → x .place ≡ 0
 unfolding roomAnswer
@@ -196,14 +197,14 @@ module _ (s : List ℕ) (ts qs zs : List ℕ) (room : ℕ) where
   chain-written r = let t = nameBytes s (r .tName) in let q = nameBytes s (r .qName) in writing-ends (length s) (chain.writeCheck r t q ts qs zs) (length (chain.chainText r t q ts qs zs)) room _ (chain-place r t q ts qs zs)
 
 -- ---- lifts, turns and tallies refuse at place 0
-refused-ends : (end : ℕ) (why : Reason) → Ended end (refusalCode (record { reason = why; place = 0 }))
-refused-ends end why = code-ends end (record { reason = why; place = 0 }) zero-le
+refused-ends : (end : ℕ) (why : Reason) → Ended end (refusalCode (withoutText why))
+refused-ends end why = code-ends end (withoutText why) zero-le
 
 position-ends : (c : Chain) (rows : List Row) (p end room : ℕ) → Ends end (ofPosition (positions.liftPosition c rows p) end room)
 unfolding positions.liftPosition
 position-ends c rows p end room = go (accepted c rows) (ltb p (c .tSize)) (partnerOf p (pairs c rows))
   where
-    go : (t u : Bool) (x : Partner) → Ends end (ofPosition (positions.ifLifted t BlockRules (positions.ifLifted u OutsideTarget (positions.atPartner p x))) end room)
+    go : (t u : Bool) (x : Partner) → Ends end (ofPosition (require t (positions.notLifted BlockRules) (require u (positions.notLifted OutsideTarget) (positions.atPartner p x))) end room)
     go false u x = refused-ends end BlockRules
     go true false x = refused-ends end OutsideTarget
     go true true Alone = refused-ends end NoPair
@@ -213,17 +214,17 @@ region-ends : (c : Chain) (rows : List Row) (a e end room : ℕ) → Ends end (o
 unfolding regions.liftRegion regions.carried
 region-ends c rows a e end room = go (accepted c rows) (regions.inside c a e) (leb 1 (regions.kept (pairs c rows) a e)) _
   where
-    go : (t u v : Bool) (r : Region) → Ends end (ofRegion (regions.ifLifted t BlockRules (regions.ifLifted u OutsideTarget (regions.ifLifted v NoPair (region.Lifted r)))) end room)
+    go : (t u v : Bool) (r : Region) → Ends end (ofRegion (require t (regions.notLifted BlockRules) (require u (regions.notLifted OutsideTarget) (require v (regions.notLifted NoPair) (region.Lifted r)))) end room)
     go false u v r = refused-ends end BlockRules
     go true false v r = refused-ends end OutsideTarget
     go true true false r = refused-ends end NoPair
     go true true true r = numbered-ends end room _
 
-span-ends : (start end size room : ℕ) → Ends 0 (ofSpan (converted start end size) (λ x. numbered 0 room (x .start ∷ x .end ∷ [])))
+span-ends : (start end size room : ℕ) → Ends 0 (ofSpan (converted start end size) (λ x. numbered (withoutText NoRoom) room (x .start ∷ x .end ∷ [])))
 unfolding converted
 span-ends start end size room = go (inCoordinates start && (inCoordinates end && inCoordinates size)) (ltb start end && leb end size)
   where
-    go : (t u : Bool) → Ends 0 (ofSpan (ifConverted t NumberOutOfRange (ifConverted u SpanDisagrees (span.Converted (otherStrand start end size)))) (λ x. numbered 0 room (x .start ∷ x .end ∷ [])))
+    go : (t u : Bool) → Ends 0 (ofSpan (require t (notConverted NumberOutOfRange) (require u (notConverted SpanDisagrees) (span.Converted (otherStrand start end size)))) (λ x. numbered (withoutText NoRoom) room (x .start ∷ x .end ∷ [])))
     go false u = refused-ends 0 NumberOutOfRange
     go true false = refused-ends 0 SpanDisagrees
     go true true = numbered-ends 0 room _
@@ -232,7 +233,7 @@ turn-ends : (s : List ℕ) (c : Chain) (rows : List Row) (room : ℕ) → Ends (
 unfolding turnWritten turns.turn
 turn-ends s c rows room = go (accepted c rows) (leb (c .blockCount) blockLimit) _ (λ d. chain-written s _ _ _ room d)
   where
-    go : (t u : Bool) (rest : Chain → Outcome) → ((d : Chain) → Ends (length s) (rest d)) → Ends (length s) (ofTurn (turns.ifTurned t BlockRules (turns.ifTurned u NoRoom (Turned (turns.turned c)))) rest)
+    go : (t u : Bool) (rest : Chain → Outcome) → ((d : Chain) → Ends (length s) (rest d)) → Ends (length s) (ofTurn (require t (turns.notTurned BlockRules) (require u (turns.notTurned NoRoom) (Turned (turns.turned c)))) rest)
     go false u rest f = refused-ends (length s) BlockRules
     go true false rest f = refused-ends (length s) NoRoom
     go true true rest f = f (turns.turned c)
@@ -243,7 +244,7 @@ tally-ends end t c rows a e =
     go (accepted c rows) (regions.inside c a e) (tallies.goodTally t) (leb (t .asked + (e - a)) tallyLimit) (leb 1 (regions.kept (pairs c rows) a e)) _ _
   where
     go : (v w x y z : Bool) (u : Tally) (r : Region)
-        → let d : Tallied = tallies.ifTallied v t BlockRules (tallies.ifTallied w t OutsideTarget (tallies.ifTallied x t CountsDisagree (tallies.ifTallied y t NumberOutOfRange (record { tally = u; answer = regions.ifLifted z NoPair (region.Lifted r) }))))
+        → let d : Tallied = require v (tallies.notTallied t BlockRules) (require w (tallies.notTallied t OutsideTarget) (require x (tallies.notTallied t CountsDisagree) (require y (tallies.notTallied t NumberOutOfRange) (record { tally = u; answer = require z (regions.notLifted NoPair) (region.Lifted r) }))))
         in Ends end (ofTallied (d .answer) (d .tally))
     go false w x y z u r = refused-ends end BlockRules
     go true false x y z u r = refused-ends end OutsideTarget
@@ -313,4 +314,4 @@ batch-ends s regions lent lent′ b b′ r h = answered-ends (length s) _ b b′
         → Ends (length s) (onCheck (require v NoRoom 0 (ofChecked check.Refused (λ _. check.Holds) x)) refuses (gives (length regions / regionSize) (rowsBytes (answerRows (tallyIn lent) (sentText s regions (length b))))))
     go true (chainAnswer.Accepted c) k = gives-ends (length s) (length regions / regionSize) (rowsBytes (answerRows (tallyIn lent) (sentText s regions (length b))))
     go true (chainAnswer.Refused x) k = code-ends (length s) x k
-    go false x k = code-ends (length s) (record { reason = NoRoom; place = 0 }) zero-le
+    go false x k = code-ends (length s) (withoutText NoRoom) zero-le

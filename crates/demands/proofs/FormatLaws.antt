@@ -5,6 +5,7 @@ use mathlib.Core.List.{List, _++_}
 use Prim.Native.Nat.{ℕ, _≤_}
 use native.Mathlib.Omega.{arith}
 use lib.ListN.{length, drop}
+use Rattle.ledger.specs.Refusals.{faultAt, refusalAt}
 use Rattle.ledger.specs.declared.Row.{Row}
 use Rattle.ledger.specs.declared.Reason.the-variants.{BlockRules, NoRoom}
 use Rattle.ledger.specs.Limits.{textLimit}
@@ -27,7 +28,7 @@ pub record Shown (f : Format) : Type 1 where
   pub targets : List ℕ → f .Record → List ℕ
   pub queries : List ℕ → f .Record → List ℕ
   pub sizes : List ℕ → f .Record → List ℕ
-  pub reads : (s : List ℕ) → Reads (f .accepted) (f .refused) (f .blocks) filled (checkText s) (read s) (record { reason = NoRoom; place = length s }) (targets s) (queries s) (sizes s)
+  pub reads : (s : List ℕ) → Reads (f .accepted) (f .refused) (f .blocks) filled (checkText s) (read s) (refusalAt (faultAt NoRoom (length s))) (targets s) (queries s) (sizes s)
   -- the reader's promise is that answer, and those rows in the table
   pub answered : (s : List ℕ) (before after : List Row) (x : f .Answer) → f .Reads s before after x → x ≡ read s (length before)
   pub stored : (s : List ℕ) (before after : List Row) (r : f .Record) → f .Reads s before after (f .accepted r) → after ≡ tableOf (targets s r) (queries s r) (sizes s r) ++ drop (f .blocks r) before

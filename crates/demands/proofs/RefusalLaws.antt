@@ -6,6 +6,7 @@ use Prim.Native.Nat.{ℕ, _+_, _-_, _≤_, _<_}
 use native.Mathlib.Omega.{arith}
 use lib.Dec.{leb, ltb}
 use borrow.Author.Tests.{lt-ltb, le-ltb, le-leb, lt-leb, ltb-true, leb-true}
+use Rattle.ledger.specs.Refusals.{withoutText, require}
 use Rattle.ledger.specs.declared.Row.{Row}
 use Rattle.ledger.specs.declared.Reason.{Reason}
 use Rattle.ledger.specs.declared.Reason.the-variants.{NumberOutOfRange, BlockRules, CountsDisagree, NoRoom, NoPair, OutsideTarget}
@@ -27,7 +28,7 @@ use Rattle.region.specs.declared.RegionAnswer.the-variants.{Lifted}
 use Rattle.region.specs.declared.RegionAnswer.the-variants as ofRegion
 use Rattle.region.specs.declared.Tally.{Tally}
 use Rattle.region.specs.declared.Tallied.{Tallied}
-use Rattle.region.specs.Tallies.{goodTally, grown, ifTallied, tallyStep}
+use Rattle.region.specs.Tallies.{goodTally, grown, notTallied, tallyStep}
 use Rattle.region.proofs.TallyLaws.{good-of, step-lifts}
 use Rattle.table_lift.specs.Lifts.{RegionTallied}
 use Rattle.region.specs.Regions as region
@@ -38,7 +39,7 @@ use Rattle.demands.specs.Demand3.{InNone, Inside, PositionRefused, Regio
 
 -- one refusal at place 0 has one number
 abbrev atNone : Reason → Refusal
-atNone why = record { reason = why; place = 0 }
+atNone why = withoutText why
 
 one-number : (a b : Reason) → atNone a ≡ atNone b → reasonNumber a ≡ reasonNumber b
 one-number a b e = ap (λ (x : Refusal). reasonNumber (x .reason)) e
@@ -96,7 +97,7 @@ module _ (c : Chain) (rows : List Row) (p : ℕ) where
       at : (why : Reason) → position.notLifted why ≡ Refused x → x .place ≡ 0
       at why k = let e : atNone why ≡ x = cc in sym (ap (λ (y : Refusal). y .place) e)
 
-      go : (t u : Bool) (y : Partner) → position.ifLifted t BlockRules (position.ifLifted u OutsideTarget (position.atPartner p y)) ≡ Refused x → x .place ≡ 0
+      go : (t u : Bool) (y : Partner) → require t (position.notLifted BlockRules) (require u (position.notLifted OutsideTarget) (position.atPartner p y)) ≡ Refused x → x .place ≡ 0
       go false u y k = at BlockRules k
       go true false y k = at OutsideTarget k
       go true true Alone k = at NoPair k
@@ -125,7 +126,7 @@ module _ (c : Chain) (rows : List Row) (a e : ℕ) where
   unfolding region.liftRegion region.inside region.carried
   region-inside k w why h = go (leb 1 (region.kept (pairs c rows) a e)) (rw (k, lt-ltb a e (w .0), le-leb e (c .tSize) (w .1)) at h)
     where
-      go : (t : Bool) → region.ifLifted t NoPair (Lifted (regionOf (c .qSize) (pairs c rows) a e)) ≡ region.notLifted why → reasonNumber why ≡ 12
+      go : (t : Bool) → require t (region.notLifted NoPair) (Lifted (regionOf (c .qSize) (pairs c rows) a e)) ≡ region.notLifted why → reasonNumber why ≡ 12
       go true q = absurd (let z : _≡_ {A = ℕ} 0 1 = cc in omega arith)
       go false q = sym (same-region NoPair why q)
 
@@ -160,7 +161,7 @@ module _ (c : Chain) (rows : List Row) (a e : ℕ) where
       at : (why : Reason) → region.notLifted why ≡ ofRegion.Refused x → x .place ≡ 0
       at why k = let w : atNone why ≡ x = cc in sym (ap (λ (y : Refusal). y .place) w)
 
-      go : (t u v : Bool) → region.ifLifted t BlockRules (region.ifLifted u OutsideTarget (region.ifLifted v NoPair (Lifted (regionOf (c .qSize) (pairs c rows) a e)))) ≡ ofRegion.Refused x → x .place ≡ 0
+      go : (t u v : Bool) → require t (region.notLifted BlockRules) (require u (region.notLifted OutsideTarget) (require v (region.notLifted NoPair) (Lifted (regionOf (c .qSize) (pairs c rows) a e)))) ≡ ofRegion.Refused x → x .place ≡ 0
       go false u v k = at BlockRules k
       go true false v k = at OutsideTarget k
       go true true false k = at NoPair k
@@ -267,7 +268,7 @@ pub turn-at : (c : Chain) (rows : List Row) (room : ℕ) (x : Refusal) → ofTur
 unfolding turn.turn
 turn-at c rows room x h = go (accepted c rows) (leb (c .blockCount) room) h
   where
-    go : (t u : Bool) → ofTurn.Refused x ≡ turn.ifTurned t BlockRules (turn.ifTurned u NoRoom (ofTurn.Turned (turn.turned c))) → x .place ≡ 0
+    go : (t u : Bool) → ofTurn.Refused x ≡ require t (turn.notTurned BlockRules) (require u (turn.notTurned NoRoom) (ofTurn.Turned (turn.turned c))) → x .place ≡ 0
     go false u k = cc
     go true false k = cc
     go true true k = absurd (let z : _≡_ {A = ℕ} 0 1 = cc in omega arith)
@@ -278,7 +279,7 @@ unfolding tallyStep region.carried
 tally-at t c rows a e x h = go (accepted c rows) (region.inside c a e) (goodTally t) (leb (t .asked + (e - a)) tallyLimit) (leb 1 (region.kept (pairs c rows) a e)) _ _ h
   where
     go : (v w y z o : Bool) (u : Tally) (r : Region)
-        → ifTallied v t BlockRules (ifTallied w t OutsideTarget (ifTallied y t CountsDisagree (ifTallied z t NumberOutOfRange (record { tally = u; answer = region.ifLifted o NoPair (Lifted r) })))) .answer ≡ ofRegion.Refused x
+        → require v (notTallied t BlockRules) (require w (notTallied t OutsideTarget) (require y (notTallied t CountsDisagree) (require z (notTallied t NumberOutOfRange) (record { tally = u; answer = require o (region.notLifted NoPair) (Lifted r) })))) .answer ≡ ofRegion.Refused x
         → x .place ≡ 0
     go false w y z o u r k = let q = sym k in cc
     go true false y z o u r k = let q = sym k in cc
@@ -293,8 +294,8 @@ unfolding tallyStep region.liftRegion
 lifted-step t c rows a e r h = go (accepted c rows) (region.inside c a e) (goodTally t) (leb (t .asked + (e - a)) tallyLimit) _ (region.carried (c .qSize) (pairs c rows) a e) h
   where
     go : (v w x y : Bool) (u : Tally) (z : RegionAnswer)
-        → ifTallied v t BlockRules (ifTallied w t OutsideTarget (ifTallied x t CountsDisagree (ifTallied y t NumberOutOfRange (record { tally = u; answer = z })))) .answer ≡ Lifted r
-        → region.ifLifted v BlockRules (region.ifLifted w OutsideTarget z) ≡ Lifted r
+        → require v (notTallied t BlockRules) (require w (notTallied t OutsideTarget) (require x (notTallied t CountsDisagree) (require y (notTallied t NumberOutOfRange) (record { tally = u; answer = z })))) .answer ≡ Lifted r
+        → require v (region.notLifted BlockRules) (require w (region.notLifted OutsideTarget) z) ≡ Lifted r
     go false w x y u z k = absurd (let o : _≡_ {A = ℕ} 0 1 = cc in omega arith)
     go true false x y u z k = absurd (let o : _≡_ {A = ℕ} 0 1 = cc in omega arith)
     go true true false y u z k = absurd (let o : _≡_ {A = ℕ} 0 1 = cc in omega arith)
@@ -309,13 +310,13 @@ tally-grows t u c rows a e r h =
   where
     done : Bool → Bool → Bool → Bool → Bool → Tallied
     done v w x y z =
-        ifTallied v t BlockRules
-        (ifTallied w t OutsideTarget
-        (ifTallied x t CountsDisagree
-        (ifTallied y t NumberOutOfRange
+        require v (notTallied t BlockRules)
+        (require w (notTallied t OutsideTarget)
+        (require x (notTallied t CountsDisagree)
+        (require y (notTallied t NumberOutOfRange)
         (record {
           tally = grown t (e - a) (region.kept (pairs c rows) a e) (region.dropped (pairs c rows) a e);
-          answer = region.ifLifted z NoPair (Lifted (regionOf (c .qSize) (pairs c rows) a e));
+          answer = require z (region.notLifted NoPair) (Lifted (regionOf (c .qSize) (pairs c rows) a e));
         }))))
 
     go : (v w x y z : Bool) → Lifted r ≡ done v w x y z .answer → done v w x y z .tally ≡ grown t (e - a) (r .kept) (r .dropped)

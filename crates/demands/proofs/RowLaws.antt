@@ -6,6 +6,7 @@ use Prim.Native.Nat.{ℕ, _≤_, _<_}
 use native.Mathlib.Omega.{arith}
 use lib.ListN.{length, drop, drop-of-length-le}
 use borrow.Author.Tests.{le-leb, lt-leb}
+use Rattle.ledger.specs.Refusals.{withoutText}
 use Rattle.ledger.specs.Limits.{textLimit, blockLimit}
 use Rattle.ledger.specs.declared.Reason.the-variants.{BlockRules, NoRoom}
 use Rattle.ledger.specs.declared.Refusal.{Refusal}
@@ -60,7 +61,7 @@ holds-if true e = refl
 holds-if false e = absurd (let z : _≡_ {A = ℕ} 0 1 = cc in omega arith)
 
 -- and one that it did not pass: 9 at place 0
-pub breach-if : (t : Bool) (x : Refusal) → require t BlockRules 0 Holds ≡ check.Refused x → x ≡ record { reason = BlockRules; place = 0 }
+pub breach-if : (t : Bool) (x : Refusal) → require t BlockRules 0 Holds ≡ check.Refused x → x ≡ withoutText BlockRules
 breach-if true x e = absurd (let z : _≡_ {A = ℕ} 0 1 = cc in omega arith)
 breach-if false x e = cc
 
@@ -69,7 +70,7 @@ pub room-written : (text : List ℕ) (room : ℕ) → length text ≤ textLimit 
 unfolding roomAnswer
 room-written text room short h = rw (le-leb (length text) textLimit short, le-leb (length text) room h)
 
-pub room-short : (text : List ℕ) (room : ℕ) → length text ≤ textLimit → room < length text → roomAnswer (length text) room ≡ writing.Refused (record { reason = NoRoom; place = 0 })
+pub room-short : (text : List ℕ) (room : ℕ) → length text ≤ textLimit → room < length text → roomAnswer (length text) room ≡ writing.Refused (withoutText NoRoom)
 unfolding roomAnswer
 room-short text room short h = rw (le-leb (length text) textLimit short, lt-leb (length text) room h)
 

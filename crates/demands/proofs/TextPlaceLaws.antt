@@ -6,6 +6,7 @@ use Prim.Native.Nat.{ℕ, zero, suc, _+_, _-_, _*_, _≤_, _<_, zero-le}
 use native.Mathlib.Nat.{le-refl}
 use lib.ListN.{length, take, getD}
 use lib.Dec.{leb, ltb, eqb}
+use Rattle.ledger.specs.Refusals.{faultAt, refusalAt}
 use Rattle.ledger.specs.declared.Reason.the-variants.{WrongCount, SpanDisagrees, BlockRules, CountsDisagree, NoRoom}
 use Rattle.ledger.specs.Limits.{textLimit, blockLimit}
 use Rattle.text.specs.declared.Check.{Check}
@@ -183,7 +184,7 @@ module _ (s : List ℕ) where
   unfolding numbers.numbersRead
   numbers-read-in room = go (numbers.numbersCheck s) numbers-in
     where
-      fits : (t : Bool) (n : ℕ) → numbersPlace (cond t (numbersAnswer.Accepted n) (numbersAnswer.Refused (record { reason = NoRoom; place = length s }))) ≤ length s
+      fits : (t : Bool) (n : ℕ) → numbersPlace (cond t (numbersAnswer.Accepted n) (numbersAnswer.Refused (refusalAt (faultAt NoRoom (length s))))) ≤ length s
       fits true n = zero-le
       fits false n = le-refl (length s)
 

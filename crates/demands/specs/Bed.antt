@@ -16,7 +16,7 @@ use Rattle.bed.specs.declared.BedAnswer.the-variants.{Accepted, Refused}
 use Rattle.bed.specs.Rules.{BedLine, BedRules, named}
 use Rattle.bed.specs.Write.{bedText, BedWrote, recordCheck}
 use Rattle.table_bed.specs.Rows.{RowsRead}
-use Rattle.desk.specs.Records.{bedNumbers}
+use Rattle.entries.specs.Records.{bedNumbers}
 use Rattle.demands.specs.Formats.{Names, Format}
 
 -- the text is a BED line (bed, specs/Rules.antt): its words spell some values and lists, and record and rows are what they say

@@ -8,7 +8,7 @@ use Rattle.chain.specs.declared.Chain.{Chain}
 use Rattle.region.specs.Tallies.{Sent, sums, zeroTally}
 use Rattle.region.specs.Batches.{sentBytes}
 use Rattle.answers.specs.Answers.{Answered}
-use Rattle.desk.specs.Entries.{tallyBytes, tallied, BatchTold}
+use Rattle.entries.specs.Entries.{tallyBytes, tallied, BatchTold}
 use Rattle.demands.specs.Chain.{ChainSpells}
 
 -- a call of an entry: a chain's text and a region; or a chain's text, the bytes of many regions, and so many bytes for their rows

@@ -15,7 +15,7 @@ use Rattle.chain.specs.declared.ChainAnswer.the-variants.{Accepted, Refused}
 use Rattle.chain.specs.Rules.{ChainText, ChainRules, named}
 use Rattle.chain.specs.Write.{chainText, ChainWrote, recordCheck}
 use Rattle.table_chain.specs.Rows.{RowsRead}
-use Rattle.desk.specs.Records.{chainNumbers}
+use Rattle.entries.specs.Records.{chainNumbers}
 use Rattle.demands.specs.Formats.{Names, Format}
 
 -- the text is a chain (chain, specs/Rules.antt): the words of its header spell some values, its block lines say three lists, and record and rows are what they say

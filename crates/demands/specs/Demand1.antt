@@ -4,6 +4,7 @@ use Prim.Native.Nat.{ℕ, _+_, _-_, _*_, _%_, _≤_}
 use mathlib.Core.Path.{_≡_}
 use mathlib.Core.List.{List}
 use lib.ListN.{length}
+use Rattle.ledger.specs.Refusals.{withoutText}
 use Rattle.ledger.specs.declared.Row.{Row}
 use Rattle.ledger.specs.declared.Refusal.{Refusal}
 use Rattle.ledger.specs.declared.Reason.{Reason}
@@ -34,7 +35,7 @@ use Rattle.table_lift.specs.Lifts.{RegionTallied, BatchLifted}
 use Rattle.table_turn.specs.Turns.{RowsTurned}
 use Rattle.turn.specs.Turns.{TurnedInto}
 use Rattle.answers.specs.Answers.{Outcome, Answered}
-use Rattle.desk.specs.Entries.{checked, parsed, formatted, numbersGiven, convertedNumbers, positionLifted, regionLifted, turnedText, tallied, BatchTold, Refusing}
+use Rattle.entries.specs.Entries.{checked, parsed, formatted, numbersGiven, convertedNumbers, positionLifted, regionLifted, turnedText, tallied, BatchTold, Refusing}
 use Rattle.demands.specs.Formats.{Names, Format}
 use Rattle.demands.specs.Bed.{bed}
 use Rattle.demands.specs.Psl.{psl}
@@ -74,7 +75,7 @@ pub record Demand1 : Type 0 where
   pub tallyNone : (t u : Tally) (c : Chain) (rows : List Row) (a e : ℕ) (x : Refusal) → RegionTallied t c rows a e u (region.Refused x) → x .reason ≡ NoPair → u ≡ grown t (e - a) 0 (e - a)
   -- a batch is refused by 11 at place 0 alone, which leaves the tally and every row
   pub batch : (t u : Tally) (c : Chain) (rows : List Row) (regions before after : List (List ℕ)) (x : Refusal) → BatchLifted t c rows regions before u after (check.Refused x)
-      → (x ≡ record { reason = NoRoom; place = 0 }) × (u ≡ t) × (after ≡ before)
+      → (x ≡ withoutText NoRoom) × (u ≡ t) × (after ≡ before)
   -- the same functions over three flat slices: the slices, or the buffer
   pub bedSlices : (s ts ts′ qs qs′ zs zs′ : List ℕ) (x : Refusal) → BedRead s ts ts′ qs qs′ zs zs′ (bedAnswer.Refused x) → (ts′ ≡ ts) × (qs′ ≡ qs) × (zs′ ≡ zs)
   pub pslSlices : (s ts ts′ qs qs′ zs zs′ : List ℕ) (x : Refusal) → PslRead s ts ts′ qs qs′ zs zs′ (pslAnswer.Refused x) → (ts′ ≡ ts) × (qs′ ≡ qs) × (zs′ ≡ zs)

@@ -6,6 +6,7 @@ use mathlib.Core.Logic.{_↔_}
 use mathlib.Core.List.{List, [], _++_, map, reverse, List·Memᴰ}
 use lib.ListN.{length, take, drop, getD}
 use lib.IntN.{pos, _-ℤ_}
+use Rattle.ledger.specs.Refusals.{withoutText}
 use Rattle.ledger.specs.declared.Row.{Row}
 use Rattle.ledger.specs.Limits.{tallyLimit}
 use Rattle.ledger.specs.declared.Strand.{Strand}
@@ -117,7 +118,7 @@ singly c rows regions = map single (map (sentAs c rows) regions)
 -- a batch: refused by 11 alone, once and before all else, where there are fewer answer rows than regions, and then nothing moves; else row i is the answer of the single
 -- call for region i with the tally v as the regions before it left it, the rows past the regions stay, and the tally is that after the single calls
 pub record BatchRows (t : Tally) (c : Chain) (rows : List Row) (regions before after : List (List ℕ)) (u : Tally) (x : Check) : Type 0 where
-  pub eleven : (x ≡ check.Refused (record { reason = NoRoom; place = 0 })) ↔ (length before < length regions)
+  pub eleven : (x ≡ check.Refused (withoutText NoRoom)) ↔ (length before < length regions)
   pub answered : (x ≡ check.Holds) ↔ (length regions ≤ length before)
   pub left : length before < length regions → (u ≡ t) × (after ≡ before)
   pub rowIs : length regions ≤ length before → (i : ℕ) → i < length regions → (v w : Tally) (y : RegionAnswer) → Calls t (singly c rows (take i regions)) v

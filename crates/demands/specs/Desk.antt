@@ -5,6 +5,7 @@ use mathlib.Core.Logic.{_↔_}
 use mathlib.Core.Bool.{true, false}
 use mathlib.Core.List.{List, [], _∷_, _++_}
 use lib.ListN.{length, drop}
+use Rattle.ledger.specs.Refusals.{withoutText}
 use Rattle.ledger.specs.declared.Row.{Row}
 use Rattle.ledger.specs.declared.Reason.the-variants.{BadWord, NoRoom}
 use Rattle.ledger.specs.declared.Refusal.{Refusal}
@@ -30,8 +31,8 @@ use Rattle.table_lift.specs.Lifts.{RegionTallied, BatchLifted}
 use Rattle.numbers.specs.Ranges.{Between}
 use Rattle.turn.specs.Turns.{turned, turnedRows}
 use Rattle.binary.specs.Bytes.{wordSize, wordsBytes}
-use Rattle.answers.specs.Answers.{Answered, recordNumbers, recordBytes}
-use Rattle.desk.specs.Entries.{inWord, tallyBytes, checked, parsed, formatted, numbersGiven, positionLifted, regionLifted, turnedText, tallied, BatchTold}
+use Rattle.answers.specs.Answers.{Answered, recordNumbers, recordBytes, noRoomAt}
+use Rattle.entries.specs.Entries.{inWord, tallyBytes, checked, parsed, formatted, numbersGiven, positionLifted, regionLifted, turnedText, tallied, BatchTold}
 use Rattle.demands.specs.Formats.{Format}
 use Rattle.demands.specs.Bed.{bed}
 use Rattle.demands.specs.Psl.{psl}
@@ -50,7 +51,7 @@ pub record Gives (n : ℕ) (bytes b b′ : List ℕ) (a : ℕ) : Type 0 where
 -- so given room, and else 11 at the text's end
 pub record GivenRoom (end n : ℕ) (bytes b b′ : List ℕ) (a : ℕ) : Type 0 where
   pub enough : length bytes ≤ length b → Gives n bytes b b′ a
-  pub short : length b < length bytes → RefusedBy (record { reason = NoRoom; place = end }) b b′ a
+  pub short : length b < length bytes → RefusedBy (noRoomAt end) b b′ a
 
 -- the reader refuses the text, whatever room is lent
 pub record Refuses (f : Format) (s : List ℕ) (x : Refusal) : Type 0 where
@@ -136,7 +137,7 @@ pub record ChainsAtDesk : Type 0 where
       → Gives (length (regionsIn regions)) (rowsBytes leftRows) b b′ a × (lent′ ≡ tallyBytes u ++ rest)
   -- any other is 11 at place 0, whatever the text is
   pub batchNoRoom : (s regions lent lent′ b b′ : List ℕ) (a : ℕ) → BatchTold s regions lent lent′ b b′ a → roomInBytes regions (length b) ≡ false
-      → RefusedBy (record { reason = NoRoom; place = 0 }) b b′ a × (lent′ ≡ lent)
+      → RefusedBy (withoutText NoRoom) b b′ a × (lent′ ≡ lent)
   pub positionOnly : (s : List ℕ) (p : ℕ) (b b′ : List ℕ) (a : ℕ) → Answered (positionLifted s p (length b)) b b′ a → a % 16 ≡ 0 → SpellsOne chain s
   pub regionOnly : (s : List ℕ) (start end : ℕ) (b b′ : List ℕ) (a : ℕ) → Answered (regionLifted s start end (length b)) b b′ a → a % 16 ≡ 0 → SpellsOne chain s
   pub turnOnly : (s b b′ : List ℕ) (a : ℕ) → Answered (turnedText s (length b)) b b′ a → a % 16 ≡ 0 → SpellsOne chain s
@@ -157,5 +158,5 @@ pub record Desk : Type 0 where
   pub chainCalls : ChainsAtDesk
   -- any other kind of text is 6 at place 0
   pub otherKind : (kind : ℕ) (s : List ℕ) → (kind ≡ 1 → ⊥) → (kind ≡ 2 → ⊥) → (kind ≡ 3 → ⊥) → (b b′ : List ℕ) (a : ℕ)
-      → (a ≡ checked kind s .answer → a ≡ 6) × (Answered (parsed kind s (length b)) b b′ a → RefusedBy (record { reason = BadWord; place = 0 }) b b′ a)
-      × (Answered (formatted kind s (length b)) b b′ a → RefusedBy (record { reason = BadWord; place = 0 }) b b′ a)
+      → (a ≡ checked kind s .answer → a ≡ 6) × (Answered (parsed kind s (length b)) b b′ a → RefusedBy (withoutText BadWord) b b′ a)
+      × (Answered (formatted kind s (length b)) b b′ a → RefusedBy (withoutText BadWord) b b′ a)

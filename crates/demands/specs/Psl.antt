@@ -15,7 +15,7 @@ use Rattle.psl.specs.declared.PslAnswer.the-variants.{Accepted, Refused}
 use Rattle.psl.specs.Rules.{PslLine, PslRules, named}
 use Rattle.psl.specs.Write.{pslText, PslWrote, recordCheck}
 use Rattle.table_psl.specs.Rows.{RowsRead}
-use Rattle.desk.specs.Records.{pslNumbers}
+use Rattle.entries.specs.Records.{pslNumbers}
 use Rattle.demands.specs.Formats.{Names, Format}
 
 -- the text is a PSL line (psl, specs/Rules.antt): its words spell some values and lists, and record and rows are what they say

@@ -5,13 +5,14 @@ use Prim.Native.Nat.{ℕ, _-_, _≤_, _<_}
 use native.Mathlib.Omega.{arith}
 use lib.Dec.{leb, ltb}
 use borrow.Author.Tests.{lt-leb, le-leb, lt-ltb, le-ltb, not-true, not-false, leb-true, ltb-true}
+use Rattle.ledger.specs.Refusals.{require}
 use Rattle.ledger.specs.declared.Reason.the-variants.{NumberOutOfRange, SpanDisagrees}
 use Rattle.ledger.specs.Limits.{largestPosition, inCoordinates}
 use Rattle.blocks.proofs.RuleLaws.{both}
 use Rattle.lift.specs.declared.Span.{Span}
 use Rattle.lift.specs.declared.SpanAnswer.{SpanAnswer}
 use Rattle.lift.specs.declared.SpanAnswer.the-variants.{Converted}
-use Rattle.lift.specs.Conversion.{notConverted, ifConverted, otherStrand, converted}
+use Rattle.lift.specs.Conversion.{notConverted, otherStrand, converted}
 
 abbrev inRange : ℕ → ℕ → ℕ → Bool
 inRange start end size = leb start largestPosition && (leb end largestPosition && leb size largestPosition)
@@ -54,7 +55,7 @@ unfolding converted
 converts-of start end size s e = go (inCoordinates start && (inCoordinates end && inCoordinates size)) (ltb start end && leb end size) refl refl e
   where
     go : (t u : Bool) → (inCoordinates start && (inCoordinates end && inCoordinates size)) ≡ t → (ltb start end && leb end size) ≡ u
-        → ifConverted t NumberOutOfRange (ifConverted u SpanDisagrees (Converted (otherStrand start end size))) ≡ Converted s → Span-of start end size s
+        → require t (notConverted NumberOutOfRange) (require u (notConverted SpanDisagrees) (Converted (otherStrand start end size))) ≡ Converted s → Span-of start end size s
     go false u p q k = absurd (let z : _≡_ {A = ℕ} 0 1 = cc in omega arith)
     go true false p q k = absurd (let z : _≡_ {A = ℕ} 0 1 = cc in omega arith)
     go true true p q k =

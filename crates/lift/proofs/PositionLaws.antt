@@ -12,6 +12,7 @@ use borrow.Author.Tests.{lt-ltb, le-ltb, not-true}
 use mir.Syntax.{w64}
 use mir.Val.{SFits, toZ, ofZ}
 use mir.Facts.{toZ-pos, toZ-ofZ}
+use Rattle.ledger.specs.Refusals.{require}
 use Rattle.ledger.specs.declared.Strand.{Strand}
 use Rattle.ledger.specs.declared.Strand.the-variants.{Plus, Minus, Dot}
 use Rattle.ledger.specs.declared.Row.{Row}
@@ -25,7 +26,7 @@ use Rattle.lift.specs.declared.PositionAnswer.{PositionAnswer}
 use Rattle.lift.specs.declared.PositionAnswer.the-variants.{Lifted}
 use Rattle.lift.specs.Accepted.{accepted, used, Ready}
 use Rattle.lift.specs.Pairs.{Pair, pair, forwardOn, forward, blockPairs, pairsOf, pairs, partnerOf}
-use Rattle.lift.specs.Positions.{notLifted, ifLifted, atPartner, liftPosition}
+use Rattle.lift.specs.Positions.{notLifted, atPartner, liftPosition}
 use Rattle.lift.proofs.RunLaws.{either, Run, run-below}
 use Rattle.lift.proofs.PairLaws.{in-block, found-mem, mem-found}
 use Rattle.lift.proofs.AcceptLaws.{accepted-rules}
@@ -107,7 +108,7 @@ module _ (c : Chain) (rows : List Row) (ok : accepted c rows ≡ true) where
   unfolding liftPosition
   lifted p q d e = go (ltb p (c .tSize)) (partnerOf p (pairs c rows)) refl (rw ok at e)
     where
-      go : (t : Bool) (x : Partner) → partnerOf p (pairs c rows) ≡ x → ifLifted t OutsideTarget (atPartner p x) ≡ Lifted q d → List·Memᴰ (pair p q) (pairs c rows) × (d ≡ pos q -ℤ pos p)
+      go : (t : Bool) (x : Partner) → partnerOf p (pairs c rows) ≡ x → require t (notLifted OutsideTarget) (atPartner p x) ≡ Lifted q d → List·Memᴰ (pair p q) (pairs c rows) × (d ≡ pos q -ℤ pos p)
       go false x k h = absurd (let z : _≡_ {A = ℕ} 0 1 = cc in omega arith)
       go true Alone k h = absurd (let z : _≡_ {A = ℕ} 0 1 = cc in omega arith)
       go true (Base b) k h = let z : b ≡ q = cc in let y : pos b -ℤ pos p ≡ d = cc in

@@ -1,9 +1,9 @@
 -- Lifting a position: the refusals in the ledger's order, each at place 0, then its partner and the drift.
 use Prim.Native.Nat.{ℕ}
-use mathlib.Core.Bool.{Bool, true, false}
 use mathlib.Core.List.{List}
 use lib.Dec.{ltb}
 use lib.IntN.{pos, _-ℤ_}
+use Rattle.ledger.specs.Refusals.{withoutText, require}
 use Rattle.ledger.specs.declared.Reason.{Reason}
 use Rattle.ledger.specs.declared.Reason.the-variants.{BlockRules, NoPair, OutsideTarget}
 use Rattle.ledger.specs.declared.Row.{Row}
@@ -16,12 +16,7 @@ use Rattle.lift.specs.Accepted.{accepted}
 use Rattle.lift.specs.Pairs.{pairs, partnerOf}
 
 abbrev pub notLifted : Reason → PositionAnswer
-notLifted why = Refused (record { reason = why; place = 0 })
-
--- where a test holds go on, else stop with its reason
-abbrev pub ifLifted : Bool → Reason → PositionAnswer → PositionAnswer
-ifLifted true why rest = rest
-ifLifted false why rest = notLifted why
+notLifted why = Refused (withoutText why)
 
 -- the partner and the drift, partner minus position, a signed number
 abbrev pub atPartner : ℕ → Partner → PositionAnswer
@@ -31,6 +26,6 @@ atPartner p Alone = notLifted NoPair
 -- THE LIFT OF A POSITION: no accepted chain (9), not inside the target (13), no pair (12)
 unfoldable pub liftPosition : Chain → List Row → ℕ → PositionAnswer
 liftPosition c rows p =
-    ifLifted (accepted c rows) BlockRules
-    (ifLifted (ltb p (c .tSize)) OutsideTarget
+    require (accepted c rows) (notLifted BlockRules)
+    (require (ltb p (c .tSize)) (notLifted OutsideTarget)
     (atPartner p (partnerOf p (pairs c rows))))

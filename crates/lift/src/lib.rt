@@ -44,7 +44,7 @@ pub enum PositionAnswer {
 fn not_converted(reason: Reason) -> SpanAnswer
     ensures { λ r. ⌜ r ≡ notConverted reason ⌝ }
 {
-    SpanAnswer::Refused(Refusal { reason, place: 0 })
+    SpanAnswer::Refused(Refusal::without_text(reason))
 }
 
 // THE CONVERSION of a span to the other strand of a sequence of so many bases.
@@ -131,7 +131,7 @@ fn drift_of(p: u64, q: u64) -> i64
 fn not_lifted(reason: Reason) -> PositionAnswer
     ensures { λ r. ⌜ r ≡ notLifted reason ⌝ }
 {
-    PositionAnswer::Refused(Refusal { reason, place: 0 })
+    PositionAnswer::Refused(Refusal::without_text(reason))
 }
 
 // The lift of a position through rows of an accepted chain.

@@ -8,6 +8,7 @@ use native.Mathlib.Omega.{arith}
 use lib.ListN.{length, length-append}
 use lib.Dec.{leb, ltb}
 use borrow.Author.Tests.{lt-leb, le-leb, lt-ltb, le-ltb, leb-true, ltb-true, not-true, not-false}
+use Rattle.ledger.specs.Refusals.{require}
 use Rattle.ledger.specs.declared.Row.{Row}
 use Rattle.ledger.specs.declared.Reason.the-variants.{BlockRules, NoPair, OutsideTarget}
 use Rattle.blocks.specs.Rows.{tableOf}
@@ -21,7 +22,7 @@ use Rattle.region.specs.declared.Reach.{Reach}
 use Rattle.region.specs.declared.Region.{Region}
 use Rattle.region.specs.declared.RegionAnswer.{RegionAnswer}
 use Rattle.region.specs.declared.RegionAnswer.the-variants.{Lifted}
-use Rattle.region.specs.Regions.{kept, dropped, consIf, partnersIn, least, bound, notLifted, ifLifted, inside, carried, liftRegion}
+use Rattle.region.specs.Regions.{kept, dropped, consIf, partnersIn, least, bound, notLifted, inside, carried, liftRegion}
 use Rattle.region.specs.Reaches.{lap, covered, Found, answerOf}
 use Rattle.region.proofs.CountLaws.{kept-covered, kept-dropped}
 use Rattle.region.proofs.ReachLaws.{basesFrom, clip, partners-append}
@@ -149,7 +150,7 @@ unfolding liftRegion inside carried
 region-lifted c rows a e r h = go (accepted c rows) (ltb a e) (leb e (c .tSize)) (leb 1 (kept (pairs c rows) a e)) refl refl refl refl h
   where
     go : (x y z w : Bool) → accepted c rows ≡ x → ltb a e ≡ y → leb e (c .tSize) ≡ z → leb 1 (kept (pairs c rows) a e) ≡ w
-        → ifLifted x BlockRules (ifLifted (y && z) OutsideTarget (ifLifted w NoPair (Lifted (regionOf (c .qSize) (pairs c rows) a e)))) ≡ Lifted r → RegionLift c rows a e r
+        → require x (notLifted BlockRules) (require (y && z) (notLifted OutsideTarget) (require w (notLifted NoPair) (Lifted (regionOf (c .qSize) (pairs c rows) a e)))) ≡ Lifted r → RegionLift c rows a e r
     go false y z w ex ey ez ew k = absurd (let d : _≡_ {A = ℕ} 0 1 = cc in omega arith)
     go true false z w ex ey ez ew k = absurd (let d : _≡_ {A = ℕ} 0 1 = cc in omega arith)
     go true true false w ex ey ez ew k = absurd (let d : _≡_ {A = ℕ} 0 1 = cc in omega arith)
@@ -216,14 +217,14 @@ refused-exactly c rows ok a e h k = (λ r. none (rw (ok, lt-ltb a e h, le-leb e 
     l : a ≤ e
     l = omega arith
 
-    none : ifLifted (leb 1 (kept (pairs c rows) a e)) NoPair (Lifted (regionOf (c .qSize) (pairs c rows) a e)) ≡ notLifted NoPair → (p q : ℕ) → a ≤ p → p < e → List·Memᴰ (pair p q) (pairs c rows) → ⊥
+    none : require (leb 1 (kept (pairs c rows) a e)) (notLifted NoPair) (Lifted (regionOf (c .qSize) (pairs c rows) a e)) ≡ notLifted NoPair → (p q : ℕ) → a ≤ p → p < e → List·Memᴰ (pair p q) (pairs c rows) → ⊥
     none r p q i j m =
         let n = has-member _ q (partner-in a e (pairs c rows) p q m i j) in
         let some : 1 ≤ kept (pairs c rows) a e = omega (arith, kept-partners c rows ok a e l) in
         let d : Lifted (regionOf (c .qSize) (pairs c rows) a e) ≡ notLifted NoPair = rw (le-leb 1 (kept (pairs c rows) a e) some) at r in
         let z : _≡_ {A = ℕ} 0 1 = cc in omega arith
 
-    refused : ((p q : ℕ) → a ≤ p → p < e → List·Memᴰ (pair p q) (pairs c rows) → ⊥) → ifLifted (leb 1 (kept (pairs c rows) a e)) NoPair (Lifted (regionOf (c .qSize) (pairs c rows) a e)) ≡ notLifted NoPair
+    refused : ((p q : ℕ) → a ≤ p → p < e → List·Memᴰ (pair p q) (pairs c rows) → ⊥) → require (leb 1 (kept (pairs c rows) a e)) (notLifted NoPair) (Lifted (regionOf (c .qSize) (pairs c rows) a e)) ≡ notLifted NoPair
     refused f =
         let n = no-member (partnersIn a e (pairs c rows)) (λ q m. let v = in-partner a e (pairs c rows) q m in f (v .base) q (v .first) (v .below) (v .inPairs)) in
         let z : kept (pairs c rows) a e < 1 = omega (arith, kept-partners c rows ok a e l) in

@@ -9,6 +9,7 @@ use lib.ListN.{length, getD, set, length-set}
 use lib.Seq.{getD-set-same, getD-set-other}
 use lib.Dec.{leb, ltb}
 use borrow.Author.Tests.{lt-leb, le-leb, lt-ltb, le-ltb, leb-true, leb-false, ltb-true, ltb-false}
+use Rattle.blocks.specs.Strands.{strandStart, strandEnd}
 use Rattle.ledger.specs.Limits.{largestPosition, largestNumber, blockLimit}
 use Rattle.ledger.specs.declared.Strand.{Strand}
 use Rattle.ledger.specs.declared.Strand.the-variants.{Plus, Minus, Dot}
@@ -24,7 +25,7 @@ use Rattle.lift.proofs.PairLaws.{block-in, block-after, in-block, found-mem}
 use Rattle.lift.proofs.AcceptLaws.{accepted-rules, ready, ready-if}
 use Rattle.region.specs.Regions.{kept, dropped, one, partnersIn, least, bound, inside}
 use Rattle.region.specs.declared.Reach.{Reach}
-use Rattle.region.specs.Reaches.{lowOf, highOf, lap, covered, Reached, noReach, Found}
+use Rattle.region.specs.Reaches.{lap, covered, Reached, noReach, Found}
 use Rattle.region.specs.Searches.{Rising, LastBelow, BlockPast, Meets, sizesBefore, SizesFrom, Summable, Summed, Layable, Laid, Indexed}
 use Rattle.region.proofs.CountLaws.{kept-covered, kept-dropped}
 use Rattle.region.proofs.RegionLaws.{partner-in, in-partner, least-holds, least-greatest, bound-holds, bound-least, no-member, kept-partners}
@@ -149,65 +150,65 @@ rows-none bs = refl
 
 -- ---- the query region of bases from first to last − 1 on a strand
 module _ (k : Strand) (size first span : ℕ) (h : 1 ≤ span) (l : first + span ≤ size) where
-  held-by : (s : ℕ) → first ≤ s → s < first + span → (lowOf k size first span ≤ forwardOn k size s) × (forwardOn k size s < highOf k size first span)
+  held-by : (s : ℕ) → first ≤ s → s < first + span → (strandStart k size first (first + span) ≤ forwardOn k size s) × (forwardOn k size s < strandEnd k size first (first + span))
   held-by s m n = go k
     where
-      go : (k : Strand) → (lowOf k size first span ≤ forwardOn k size s) × (forwardOn k size s < highOf k size first span)
+      go : (k : Strand) → (strandStart k size first (first + span) ≤ forwardOn k size s) × (forwardOn k size s < strandEnd k size first (first + span))
       go Plus = (omega arith, omega arith)
       go Minus = (omega arith, omega arith)
       go Dot = (omega arith, omega arith)
 
-  low-in : (xs : List ℕ) → List·Memᴰ (forwardOn k size first) xs → List·Memᴰ (forwardOn k size (first + span - 1)) xs → List·Memᴰ (lowOf k size first span) xs
+  low-in : (xs : List ℕ) → List·Memᴰ (forwardOn k size first) xs → List·Memᴰ (forwardOn k size (first + span - 1)) xs → List·Memᴰ (strandStart k size first (first + span)) xs
   low-in xs m n = go k m n
     where
       e : size - 1 - (first + span - 1) ≡ size - (first + span)
       e = omega arith
 
-      go : (k : Strand) → List·Memᴰ (forwardOn k size first) xs → List·Memᴰ (forwardOn k size (first + span - 1)) xs → List·Memᴰ (lowOf k size first span) xs
+      go : (k : Strand) → List·Memᴰ (forwardOn k size first) xs → List·Memᴰ (forwardOn k size (first + span - 1)) xs → List·Memᴰ (strandStart k size first (first + span)) xs
       go Plus m n = m
       go Minus m n = rw e at n
       go Dot m n = m
 
-  high-in : (xs : List ℕ) → List·Memᴰ (forwardOn k size first) xs → List·Memᴰ (forwardOn k size (first + span - 1)) xs → List·Memᴰ (highOf k size first span - 1) xs
+  high-in : (xs : List ℕ) → List·Memᴰ (forwardOn k size first) xs → List·Memᴰ (forwardOn k size (first + span - 1)) xs → List·Memᴰ (strandEnd k size first (first + span) - 1) xs
   high-in xs m n = go k m n
     where
       e : size - 1 - first ≡ size - first - 1
       e = omega arith
 
-      go : (k : Strand) → List·Memᴰ (forwardOn k size first) xs → List·Memᴰ (forwardOn k size (first + span - 1)) xs → List·Memᴰ (highOf k size first span - 1) xs
+      go : (k : Strand) → List·Memᴰ (forwardOn k size first) xs → List·Memᴰ (forwardOn k size (first + span - 1)) xs → List·Memᴰ (strandEnd k size first (first + span) - 1) xs
       go Plus m n = n
       go Minus m n = rw e at m
       go Dot m n = n
 
-  low-most : lowOf k size first span ≤ size
+  low-most : strandStart k size first (first + span) ≤ size
   low-most = go k
     where
-      go : (k : Strand) → lowOf k size first span ≤ size
+      go : (k : Strand) → strandStart k size first (first + span) ≤ size
       go Plus = omega arith
       go Minus = omega arith
       go Dot = omega arith
 
-  high-some : 1 ≤ highOf k size first span
+  high-some : 1 ≤ strandEnd k size first (first + span)
   high-some = go k
     where
-      go : (k : Strand) → 1 ≤ highOf k size first span
+      go : (k : Strand) → 1 ≤ strandEnd k size first (first + span)
       go Plus = omega arith
       go Minus = omega arith
       go Dot = omega arith
 
   -- partners that all lie there, the first and the last base's among them
   module _ (xs : List ℕ) (m : List·Memᴰ (forwardOn k size first) xs) (n : List·Memᴰ (forwardOn k size (first + span - 1)) xs)
-      (all : (x : ℕ) → List·Memᴰ x xs → (lowOf k size first span ≤ x) × (x < highOf k size first span)) where
-    least-is : lowOf k size first span ≡ least size xs
+      (all : (x : ℕ) → List·Memᴰ x xs → (strandStart k size first (first + span) ≤ x) × (x < strandEnd k size first (first + span))) where
+    least-is : strandStart k size first (first + span) ≡ least size xs
     least-is =
         let u = least-holds size xs _ (low-in xs m n) in
-        let v = least-greatest size (lowOf k size first span) xs low-most (λ x j. all x j .0) in
+        let v = least-greatest size (strandStart k size first (first + span)) xs low-most (λ x j. all x j .0) in
         omega arith
 
-    bound-is : highOf k size first span ≡ bound 0 xs
+    bound-is : strandEnd k size first (first + span) ≡ bound 0 xs
     bound-is =
         let u = bound-holds 0 xs _ (high-in xs m n) in
-        let v = bound-least 0 (highOf k size first span) xs (omega arith) (λ x j. all x j .1) in
+        let v = bound-least 0 (strandEnd k size first (first + span)) xs (omega arith) (λ x j. all x j .1) in
         omega (arith, high-some)
 
 least-none : (d : ℕ) (xs : List ℕ) → ((x : ℕ) → List·Memᴰ x xs → ⊥) → d ≡ least d xs
@@ -431,8 +432,8 @@ module _ (c : Chain) (t q z : List ℕ) (ok : Ready c t q z) where
           rw d at v
 
       all-in : (x : ℕ) → List·Memᴰ x (partnersIn a e (pairs c (tableOf t q z)))
-          → (lowOf (c .qStrand) (c .qSize) (getD q i 0 + (from - getD t i 0)) (getD q j 0 + to - (getD q i 0 + (from - getD t i 0))) ≤ x)
-          × (x < highOf (c .qStrand) (c .qSize) (getD q i 0 + (from - getD t i 0)) (getD q j 0 + to - (getD q i 0 + (from - getD t i 0))))
+          → (strandStart (c .qStrand) (c .qSize) (getD q i 0 + (from - getD t i 0)) ((getD q i 0 + (from - getD t i 0)) + (getD q j 0 + to - (getD q i 0 + (from - getD t i 0)))) ≤ x)
+          × (x < strandEnd (c .qStrand) (c .qSize) (getD q i 0 + (from - getD t i 0)) ((getD q i 0 + (from - getD t i 0)) + (getD q j 0 + to - (getD q i 0 + (from - getD t i 0)))))
       unfolding pairs
       all-in x k =
           let v = in-partner a e (pairs c (tableOf t q z)) x k in
@@ -445,8 +446,8 @@ module _ (c : Chain) (t q z : List ℕ) (ok : Ready c t q z) where
 
       -- THE REACH from the first kept base to the last
       pub reached-across : (n : ℕ) → SizesFrom z i j n → (low high : ℕ)
-          → low ≡ lowOf (c .qStrand) (c .qSize) (getD q i 0 + (from - getD t i 0)) (getD q j 0 + to - (getD q i 0 + (from - getD t i 0)))
-          → high ≡ highOf (c .qStrand) (c .qSize) (getD q i 0 + (from - getD t i 0)) (getD q j 0 + to - (getD q i 0 + (from - getD t i 0)))
+          → low ≡ strandStart (c .qStrand) (c .qSize) (getD q i 0 + (from - getD t i 0)) ((getD q i 0 + (from - getD t i 0)) + (getD q j 0 + to - (getD q i 0 + (from - getD t i 0))))
+          → high ≡ strandEnd (c .qStrand) (c .qSize) (getD q i 0 + (from - getD t i 0)) ((getD q i 0 + (from - getD t i 0)) + (getD q j 0 + to - (getD q i 0 + (from - getD t i 0))))
           → Reached (c .qSize) a e (pairs c (tableOf t q z)) (record { kept = n + to - (from - getD t i 0); low = low; high = high })
       reached-across n sum low high el eh =
           let first : ℕ = getD q i 0 + (from - getD t i 0) in

@@ -6,6 +6,7 @@ use Prim.Native.Nat.{ℕ, _+_, _-_, _≤_, _<_}
 use native.Mathlib.Omega.{arith}
 use lib.Dec.{leb, ltb, eqb}
 use borrow.Author.Tests.{lt-leb, le-leb, lt-ltb, le-ltb, eq-eqb, leb-true, leb-false, ltb-true, eqb-true, not-true, not-false}
+use Rattle.ledger.specs.Refusals.{require}
 use Rattle.ledger.specs.declared.Row.{Row}
 use Rattle.ledger.specs.declared.Reason.{Reason}
 use Rattle.ledger.specs.declared.Reason.the-variants.{NumberOutOfRange, BlockRules, CountsDisagree, NoPair, OutsideTarget}
@@ -25,9 +26,9 @@ use Rattle.region.specs.declared.RegionAnswer.{RegionAnswer}
 use Rattle.region.specs.declared.RegionAnswer.the-variants.{Lifted, Refused}
 use Rattle.region.specs.declared.Tally.{Tally}
 use Rattle.region.specs.declared.Tallied.{Tallied}
-use Rattle.region.specs.Regions.{kept, dropped, notLifted, ifLifted, inside, carried, liftRegion}
+use Rattle.region.specs.Regions.{kept, dropped, notLifted, inside, carried, liftRegion}
 use Rattle.region.specs.Reaches.{Reached, Found, answerOf}
-use Rattle.region.specs.Tallies.{goodTally, grown, ifTallied, tallyStep, Sent, lengthOf, keptOf, droppedOf, counts, addIf, counted, total, sums, zeroTally, sentThrough}
+use Rattle.region.specs.Tallies.{goodTally, grown, notTallied, tallyStep, Sent, lengthOf, keptOf, droppedOf, counts, addIf, counted, total, sums, zeroTally, sentThrough}
 use Rattle.region.specs.Steps.{ifAdmitted, admission, Growable, grownBy, ofAdmission, stepReady}
 use Rattle.region.proofs.CountLaws.{kept-dropped}
 use Rattle.region.proofs.RegionLaws.{regionOf}
@@ -130,7 +131,7 @@ carried-refused : (size : ℕ) (ps : List Pair) (a e : ℕ) (x : Refusal) → ca
 unfolding carried
 carried-refused size ps a e x h = go (leb 1 (kept ps a e)) refl h
   where
-    go : (b : Bool) → leb 1 (kept ps a e) ≡ b → ifLifted b NoPair (Lifted (regionOf size ps a e)) ≡ Refused x → (x .reason ≡ NoPair) × (kept ps a e ≡ 0)
+    go : (b : Bool) → leb 1 (kept ps a e) ≡ b → require b (notLifted NoPair) (Lifted (regionOf size ps a e)) ≡ Refused x → (x .reason ≡ NoPair) × (kept ps a e ≡ 0)
     go true k l = absurd (let z : _≡_ {A = ℕ} 0 1 = cc in omega arith)
     go false k l =
         let d : _≡_ {A = Refusal} (record { reason = NoPair; place = 0 }) x = cc in
@@ -138,12 +139,12 @@ carried-refused size ps a e x h = go (leb 1 (kept ps a e)) refl h
 
 -- one test of the step
 module _ (x : Refusal) (t : Tally) where
-  left-if : (b : Bool) (why : Reason) (rest : Tallied) → (rest .answer ≡ Refused x → rest .tally ≡ t) → ifTallied b t why rest .answer ≡ Refused x → ifTallied b t why rest .tally ≡ t
+  left-if : (b : Bool) (why : Reason) (rest : Tallied) → (rest .answer ≡ Refused x → rest .tally ≡ t) → require b (notTallied t why) rest .answer ≡ Refused x → require b (notTallied t why) rest .tally ≡ t
   left-if true why rest f = f
   left-if false why rest f = λ h. refl
 
   grown-if : (u : Tally) (b : Bool) (why : Reason) (rest : Tallied) → x .reason ≡ NoPair → (reasonNumber why ≡ 12 → ⊥) → (rest .answer ≡ Refused x → rest .tally ≡ u)
-      → ifTallied b t why rest .answer ≡ Refused x → ifTallied b t why rest .tally ≡ u
+      → require b (notTallied t why) rest .answer ≡ Refused x → require b (notTallied t why) rest .tally ≡ u
   grown-if u true why rest k n f = f
   grown-if u false why rest k n f = λ h. absurd (n (let d : _≡_ {A = Refusal} (record { reason = why; place = 0 }) x = cc in ap reasonNumber (ap (λ (z : Refusal). z .reason) d ∙ k)))
 
@@ -184,8 +185,8 @@ pub step-lifts : (t : Tally) (c : Chain) (rows : List Row) (a e : ℕ) → Good 
 unfolding tallyStep liftRegion
 step-lifts t c rows a e g h = rw (good-is t g, le-leb _ _ h) (go (accepted c rows) (inside c a e) _)
   where
-    go : (x y : Bool) (u : Tally) → ifTallied x t BlockRules (ifTallied y t OutsideTarget (record { tally = u; answer = carried (c .qSize) (pairs c rows) a e })) .answer
-        ≡ ifLifted x BlockRules (ifLifted y OutsideTarget (carried (c .qSize) (pairs c rows) a e))
+    go : (x y : Bool) (u : Tally) → require x (notTallied t BlockRules) (require y (notTallied t OutsideTarget) (record { tally = u; answer = carried (c .qSize) (pairs c rows) a e })) .answer
+        ≡ require x (notLifted BlockRules) (require y (notLifted OutsideTarget) (carried (c .qSize) (pairs c rows) a e))
     go true true u = refl
     go true false u = refl
     go false y u = refl
@@ -278,7 +279,7 @@ ready-step t c rows a e g ok f = rw ok (go (inside c a e) (goodTally t) (leb (t 
 
     go : (b d h : Bool) → inside c a e ≡ b
         → ofAdmission (ifAdmitted b OutsideTarget (ifAdmitted d CountsDisagree (ifAdmitted h NumberOutOfRange adm.Admitted))) t (grownBy t g (e - a))
-        ≡ ifTallied b t OutsideTarget (ifTallied d t CountsDisagree (ifTallied h t NumberOutOfRange
+        ≡ require b (notTallied t OutsideTarget) (require d (notTallied t CountsDisagree) (require h (notTallied t NumberOutOfRange)
         (record { tally = grown t (e - a) (kept (pairs c rows) a e) (dropped (pairs c rows) a e); answer = carried (c .qSize) (pairs c rows) a e })))
     go false d h k = refl
     go true false h k = refl

@@ -4,8 +4,7 @@ use mathlib.Core.Path.{_≡_}
 use mathlib.Core.Bool.{true}
 use mathlib.Core.List.{List, [], _∷_}
 use lib.Dec.{leb}
-use Rattle.ledger.specs.declared.Strand.{Strand}
-use Rattle.ledger.specs.declared.Strand.the-variants.{Plus, Minus, Dot}
+use Rattle.ledger.specs.Refusals.{require}
 use Rattle.ledger.specs.declared.Row.{Row}
 use Rattle.ledger.specs.declared.Reason.the-variants.{NoPair}
 use Rattle.chain.specs.declared.Chain.{Chain}
@@ -13,18 +12,7 @@ use Rattle.lift.specs.Pairs.{Pair, pairs}
 use Rattle.region.specs.declared.Reach.{Reach}
 use Rattle.region.specs.declared.RegionAnswer.{RegionAnswer}
 use Rattle.region.specs.declared.RegionAnswer.the-variants.{Lifted}
-use Rattle.region.specs.Regions.{kept, dropped, partnersIn, least, bound, inside, ifLifted}
-
--- the forward query region of n bases from q on, q on the chain's strand
-abbrev pub lowOf : Strand → ℕ → ℕ → ℕ → ℕ
-lowOf Plus size q n = q
-lowOf Minus size q n = size - (q + n)
-lowOf Dot size q n = q
-
-abbrev pub highOf : Strand → ℕ → ℕ → ℕ → ℕ
-highOf Plus size q n = q + n
-highOf Minus size q n = size - q
-highOf Dot size q n = q + n
+use Rattle.region.specs.Regions.{kept, dropped, partnersIn, least, bound, inside, notLifted}
 
 -- how many of the bases a to e − 1 a block of n from t on covers
 abbrev pub lap : ℕ → ℕ → ℕ → ℕ → ℕ
@@ -54,4 +42,4 @@ pub record Found (c : Chain) (rows : List Row) (a e : ℕ) (r : Reach) : Type 0 
 
 -- the answer that a reach gives, for a region of len bases
 abbrev pub answerOf : Reach → ℕ → RegionAnswer
-answerOf r len = ifLifted (leb 1 (r .kept)) NoPair (Lifted (record { kept = r .kept; dropped = len - r .kept; start = r .low; end = r .high }))
+answerOf r len = require (leb 1 (r .kept)) (notLifted NoPair) (Lifted (record { kept = r .kept; dropped = len - r .kept; start = r .low; end = r .high }))

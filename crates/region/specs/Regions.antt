@@ -3,6 +3,7 @@ use Prim.Native.Nat.{ℕ, zero, suc, _+_, _-_, min, max}
 use mathlib.Core.Bool.{Bool, true, false, not, _&&_}
 use mathlib.Core.List.{List, [], _∷_}
 use lib.Dec.{leb, ltb}
+use Rattle.ledger.specs.Refusals.{withoutText, require}
 use Rattle.ledger.specs.declared.Reason.{Reason}
 use Rattle.ledger.specs.declared.Reason.the-variants.{BlockRules, NoPair, OutsideTarget}
 use Rattle.ledger.specs.declared.Row.{Row}
@@ -51,11 +52,7 @@ bound d [] = d
 bound d (x ∷ xs) = bound (max d (suc x)) xs
 
 abbrev pub notLifted : Reason → RegionAnswer
-notLifted why = Refused (record { reason = why; place = 0 })
-
-abbrev pub ifLifted : Bool → Reason → RegionAnswer → RegionAnswer
-ifLifted true why rest = rest
-ifLifted false why rest = notLifted why
+notLifted why = Refused (withoutText why)
 
 -- inside the target: start < end ≤ tSize
 unfoldable pub inside : Chain → ℕ → ℕ → Bool
@@ -64,14 +61,14 @@ inside c a e = ltb a e && leb e (c .tSize)
 -- kept, dropped, and the smallest query region that holds all partners, on the forward strand; where no base is kept there is no pair (12)
 unfoldable pub carried : ℕ → List Pair → ℕ → ℕ → RegionAnswer
 carried size ps a e =
-    ifLifted (leb 1 (kept ps a e)) NoPair
+    require (leb 1 (kept ps a e)) (notLifted NoPair)
     (Lifted (record { kept = kept ps a e; dropped = dropped ps a e; start = least size (partnersIn a e ps); end = bound 0 (partnersIn a e ps) }))
 
 -- THE LIFT OF A REGION: no accepted chain (9), not inside the target (13), no pair (12), each at place 0
 unfoldable pub liftRegion : Chain → List Row → ℕ → ℕ → RegionAnswer
 liftRegion c rows a e =
-    ifLifted (accepted c rows) BlockRules
-    (ifLifted (inside c a e) OutsideTarget
+    require (accepted c rows) (notLifted BlockRules)
+    (require (inside c a e) (notLifted OutsideTarget)
     (carried (c .qSize) (pairs c rows) a e))
 
 -- through a chain's text: refused as the text is, or lifted through the chain that it says

@@ -3,6 +3,7 @@ use Prim.Native.Nat.{ℕ, _+_, _-_}
 use mathlib.Core.Bool.{Bool, true, false, _&&_}
 use mathlib.Core.List.{List, [], _∷_}
 use lib.Dec.{leb, eqb}
+use Rattle.ledger.specs.Refusals.{require}
 use Rattle.ledger.specs.declared.Reason.{Reason}
 use Rattle.ledger.specs.declared.Reason.the-variants.{NumberOutOfRange, BlockRules, CountsDisagree, OutsideTarget}
 use Rattle.ledger.specs.declared.Row.{Row}
@@ -23,17 +24,16 @@ abbrev pub grown : Tally → ℕ → ℕ → ℕ → Tally
 grown t a k d = record { asked = t .asked + a; kept = t .kept + k; dropped = t .dropped + d }
 
 -- where a test holds go on, else the tally stays and the region is refused
-abbrev pub ifTallied : Bool → Tally → Reason → Tallied → Tallied
-ifTallied true t why rest = rest
-ifTallied false t why rest = record { tally = t; answer = notLifted why }
+abbrev pub notTallied : Tally → Reason → Tallied
+notTallied t why = record { tally = t; answer = notLifted why }
 
 -- THE TALLY'S STEP: 9, 13, 10, 5, each leaving the tally; else it grows, also where the region's answer is 12
 unfoldable pub tallyStep : Tally → Chain → List Row → ℕ → ℕ → Tallied
 tallyStep t c rows a e =
-    ifTallied (accepted c rows) t BlockRules
-    (ifTallied (inside c a e) t OutsideTarget
-    (ifTallied (goodTally t) t CountsDisagree
-    (ifTallied (leb (t .asked + (e - a)) tallyLimit) t NumberOutOfRange
+    require (accepted c rows) (notTallied t BlockRules)
+    (require (inside c a e) (notTallied t OutsideTarget)
+    (require (goodTally t) (notTallied t CountsDisagree)
+    (require (leb (t .asked + (e - a)) tallyLimit) (notTallied t NumberOutOfRange)
     (record {
       tally = grown t (e - a) (kept (pairs c rows) a e) (dropped (pairs c rows) a e);
       answer = carried (c .qSize) (pairs c rows) a e;

@@ -15,7 +15,7 @@ ghost use Rattle.lift.specs.Pairs.{pairs};
 ghost use Rattle.lift.specs.Texts.{ChainHeld};
 ghost use Rattle.binary.specs.Bytes.{wordSize, wordsBytes, lowAt};
 ghost use Rattle.region.specs.Regions.{one, notLifted, liftRegion, textLifted};
-ghost use Rattle.region.specs.Reaches.{lowOf, highOf, Reached, noReach, Found, answerOf};
+ghost use Rattle.region.specs.Reaches.{Reached, noReach, Found, answerOf};
 ghost use Rattle.region.specs.Searches.{Rising, LastBelow, BlockPast, Meets, SizesFrom, Summable, Summed, Layable, Laid, Indexed};
 ghost use Rattle.region.specs.Tallies.{goodTally, tallyStep};
 ghost use Rattle.region.specs.Steps.{admission, Growable, grownBy, stepReady, refusedRows, AnsweredAll, noRoom, RowsPut};
@@ -87,30 +87,6 @@ fn smaller(a: u64, b: u64) -> u64
     if a < b { a } else { b }
 }
 
-// The start of the forward query region of n bases from q on.
-fn low_of(k: Strand, size: u64, q: u64, n: u64) -> u64
-    requires { ⌜ (q + n ≤ size) × (size ≤ largestPosition) ⌝ }
-    ensures { λ r. ⌜ r ≡ lowOf k size q n ⌝ }
-{
-    match k {
-        Strand::Plus => q,
-        Strand::Minus => size - (q + n),
-        Strand::Dot => q,
-    }
-}
-
-// Its end.
-fn high_of(k: Strand, size: u64, q: u64, n: u64) -> u64
-    requires { ⌜ (q + n ≤ size) × (size ≤ largestPosition) ⌝ }
-    ensures { λ r. ⌜ r ≡ highOf k size q n ⌝ }
-{
-    match k {
-        Strand::Plus => q + n,
-        Strand::Minus => size - q,
-        Strand::Dot => q + n,
-    }
-}
-
 // Whether a region isn't inside a target of so many bases.
 fn outside(size: u64, start: u64, end: u64) -> bool
     ensures { λ r. ⌜ r ≡ not (ltb start end && leb end size) ⌝ }
@@ -171,10 +147,10 @@ fn reach_across(
     let from = larger(start, targets[i]) - targets[i];
     let to = smaller(end - targets[j], sizes[j]);
     let first = queries[i] + from;
-    let span = queries[j] + to - first;
+    let last = queries[j] + to;
     let k = c.qStrand;
-    let low = low_of(k, c.qSize, first, span);
-    let high = high_of(k, c.qSize, first, span);
+    let low = blocks::strand_start(k, c.qSize, first, last);
+    let high = blocks::strand_end(k, c.qSize, first, last);
     Reach {
         kept: inner + to - from,
         low,
@@ -236,7 +212,7 @@ fn region_reach(
 fn not_lifted(reason: Reason) -> RegionAnswer
     ensures { λ r. ⌜ r ≡ notLifted reason ⌝ }
 {
-    RegionAnswer::Refused(Refusal { reason, place: 0 })
+    RegionAnswer::Refused(Refusal::without_text(reason))
 }
 
 // The answer that a reach gives, for a region of so many bases.

@@ -5,6 +5,7 @@ use mathlib.Core.List.{List}
 use Prim.Native.Nat.{ℕ, _+_, _-_, min}
 use lib.ListN.{length, take}
 use lib.Dec.{leb, ltb}
+use Rattle.ledger.specs.Refusals.{require}
 use Rattle.ledger.specs.Limits.{blockLimit, tallyLimit}
 use Rattle.ledger.specs.declared.Row.{Row}
 use Rattle.ledger.specs.declared.Reason.the-variants.{NumberOutOfRange, BlockRules, CountsDisagree, OutsideTarget}
@@ -15,12 +16,12 @@ use Rattle.chain.specs.declared.Chain.{Chain}
 use Rattle.lift.specs.declared.PositionAnswer.{PositionAnswer}
 use Rattle.lift.specs.Pairs.{Pair, forward, pairsOf, pairs, partnerOf}
 use Rattle.lift.proofs.CutLaws.{seen-cut}
-use Rattle.lift.specs.Positions.{ifLifted, atPartner, liftPosition}
+use Rattle.lift.specs.Positions.{notLifted, atPartner, liftPosition}
 use Rattle.region.specs.declared.RegionAnswer.{RegionAnswer}
 use Rattle.region.specs.declared.Tally.{Tally}
 use Rattle.region.specs.declared.Tallied.{Tallied}
-use Rattle.region.specs.Regions.{kept, dropped, ifLifted as ifRegion, inside, carried, liftRegion}
-use Rattle.region.specs.Tallies.{goodTally, grown, ifTallied, tallyStep}
+use Rattle.region.specs.Regions.{kept, dropped, require as (notLifted ifRegion), inside, carried, liftRegion}
+use Rattle.region.specs.Tallies.{goodTally, grown, notTallied, tallyStep}
 use Rattle.region.specs.declared.Batched.{Batched}
 use Rattle.region.specs.Batches.{BatchDone}
 use Rattle.region.proofs.BatchLaws.{done-same}
@@ -30,7 +31,7 @@ use Rattle.table_lift.specs.Lifts.{RegionTallied, BatchLifted}
 position-cut : (c : Chain) (rows : List Row) (p : ℕ) → liftPosition c (cutRows rows) p ≡ liftPosition c rows p
 unfolding liftPosition pairs
 position-cut c rows p =
-    seen-cut (λ (t : Bool) (bs : List Row). ifLifted t BlockRules (ifLifted (ltb p (c .tSize)) OutsideTarget (atPartner p (partnerOf p (pairsOf (forward c) bs))))) (λ a b. refl) c rows
+    seen-cut (λ (t : Bool) (bs : List Row). require t (notLifted BlockRules) (require (ltb p (c .tSize)) (notLifted OutsideTarget) (atPartner p (partnerOf p (pairsOf (forward c) bs))))) (λ a b. refl) c rows
 
 region-cut : (c : Chain) (rows : List Row) (a e : ℕ) → liftRegion c (cutRows rows) a e ≡ liftRegion c rows a e
 unfolding liftRegion pairs
@@ -40,10 +41,10 @@ region-cut c rows a e =
 -- a tally's step, as it looks at whether the chain is accepted and at its pairs
 abbrev stepSeen : Tally → Chain → ℕ → ℕ → Bool → List Pair → Tallied
 stepSeen t c a e ok ps =
-    ifTallied ok t BlockRules
-    (ifTallied (inside c a e) t OutsideTarget
-    (ifTallied (goodTally t) t CountsDisagree
-    (ifTallied (leb (t .asked + (e - a)) tallyLimit) t NumberOutOfRange
+    require ok (notTallied t BlockRules)
+    (require (inside c a e) (notTallied t OutsideTarget)
+    (require (goodTally t) (notTallied t CountsDisagree)
+    (require (leb (t .asked + (e - a)) tallyLimit) (notTallied t NumberOutOfRange)
     (record { tally = grown t (e - a) (kept ps a e) (dropped ps a e); answer = carried (c .qSize) ps a e }))))
 
 step-cut : (t : Tally) (c : Chain) (rows : List Row) (a e : ℕ) → tallyStep t c (cutRows rows) a e ≡ tallyStep t c rows a e

@@ -7,6 +7,7 @@ use native.Mathlib.Omega.{arith}
 use lib.ListN.{length, take, drop, length-map}
 use lib.Dec.{leb}
 use borrow.Rule.Slice.PartMut.{putMid}
+use Rattle.ledger.specs.Refusals.{require}
 use Rattle.ledger.specs.Limits.{blockLimit}
 use Rattle.ledger.specs.declared.Row.{Row}
 use Rattle.ledger.specs.declared.Reason.the-variants.{BlockRules, NoRoom}
@@ -21,14 +22,14 @@ use Rattle.lift.proofs.AcceptLaws.{accepted-rules}
 use Rattle.lift.proofs.CutLaws.{used-cut, seen-cut}
 use Rattle.turn.specs.declared.TurnAnswer.{TurnAnswer}
 use Rattle.turn.specs.declared.TurnAnswer.the-variants.{Turned, Refused}
-use Rattle.turn.specs.Turns.{turnedRowsOn, turnedRows, turned, ifTurned, turn, columnAfter, TurnedInto}
+use Rattle.turn.specs.Turns.{turnedRowsOn, turnedRows, turned, notTurned, turn, columnAfter, TurnedInto}
 use Rattle.turn.proofs.TurnLaws.{counted, turnable}
 use Rattle.table_turn.specs.Turns.{tableAfter, RowsTurned, rowsFilled, ColumnsTurned}
 
 -- on the rows that are staged, the answer and the turned rows are those of the table
 turn-cut : (c : Chain) (rows : List Row) (room : ℕ) → turn c (cutRows rows) room ≡ turn c rows room
 unfolding turn
-turn-cut c rows room = seen-cut (λ (t : Bool) (bs : List Row). ifTurned t BlockRules (ifTurned (leb (c .blockCount) room) NoRoom (Turned (turned c)))) (λ a b. refl) c rows
+turn-cut c rows room = seen-cut (λ (t : Bool) (bs : List Row). require t (notTurned BlockRules) (require (leb (c .blockCount) room) (notTurned NoRoom) (Turned (turned c)))) (λ a b. refl) c rows
 
 turned-cut : (c : Chain) (rows : List Row) → accepted c rows ≡ true → turnedRows c (cutRows rows) ≡ turnedRows c rows
 unfolding turnedRows
@@ -40,7 +41,7 @@ unfolding turn
 enough-cut c rows room = go (accepted c rows) refl
   where
     go : (t : Bool) → accepted c rows ≡ t
-        → ifTurned t BlockRules (ifTurned (leb (c .blockCount) (min room blockLimit)) NoRoom (Turned (turned c))) ≡ ifTurned t BlockRules (ifTurned (leb (c .blockCount) room) NoRoom (Turned (turned c)))
+        → require t (notTurned BlockRules) (require (leb (c .blockCount) (min room blockLimit)) (notTurned NoRoom) (Turned (turned c))) ≡ require t (notTurned BlockRules) (require (leb (c .blockCount) room) (notTurned NoRoom) (Turned (turned c)))
     go true e = rw (room-cut (c .blockCount) room (accepted-rules c rows e .fewBlocks))
     go false e = refl
 

@@ -8,6 +8,7 @@ use native.Mathlib.Omega.{arith}
 use lib.ListN.{length, getD, set, length-set, length-map, List·getD-map}
 use lib.Seq.{sets, ext-getD}
 use borrow.Author.Tests.{lt-leb, not-true, not-false}
+use Rattle.blocks.specs.Strands.{strandStart, strandEnd}
 use Rattle.ledger.specs.declared.Strand.{Strand}
 use Rattle.ledger.specs.declared.Strand.the-variants.{Plus, Minus, Dot}
 use Rattle.ledger.specs.declared.Reason.{Reason}
@@ -22,15 +23,15 @@ use Rattle.lift.specs.Accepted.{accepted, Wide, Ready}
 use Rattle.lift.proofs.AcceptLaws.{accepted-rules, accepted-true}
 use Rattle.turn.specs.declared.TurnAnswer.{TurnAnswer}
 use Rattle.turn.specs.declared.TurnAnswer.the-variants.{Turned}
-use Rattle.turn.specs.Turns.{turnedRowsOn, turnedRows, newStart, newEnd, turned, notTurned, turn, columnAfter, sourceOf, listOf, startAt, sizeAt, Fillable, SpansFit}
+use Rattle.turn.specs.Turns.{turnedRowsOn, turnedRows, turned, notTurned, turn, columnAfter, sourceOf, listOf, startAt, sizeAt, Fillable, SpansFit}
 use Rattle.turn.proofs.RowLaws.{turned-length, turnOn, turned-at}
 use Rattle.turn.proofs.TurnLaws.{turns}
 
 -- ---- the leaves
-pub start-turned : (k : Strand) (size start end : ℕ) → k ≡ Minus → size - end ≡ newStart k size start end
+pub start-turned : (k : Strand) (size start end : ℕ) → k ≡ Minus → size - end ≡ strandStart k size start end
 start-turned k size start end h = rw h
 
-pub end-turned : (k : Strand) (size start end : ℕ) → k ≡ Minus → size - start ≡ newEnd k size start end
+pub end-turned : (k : Strand) (size start end : ℕ) → k ≡ Minus → size - start ≡ strandEnd k size start end
 end-turned k size start end h = rw h
 
 pub source-turned : (k : Strand) (n i : ℕ) → k ≡ Minus → n - 1 - i ≡ sourceOf k n i
@@ -60,7 +61,7 @@ unfolding listOf
 fill-end f n i before out w h =
     let z : 0 ≡ n - i = omega arith in ap (λ (m : ℕ). sets out i (listOf f i m)) z ∙ w .rest
 
-pub start-is : (k : Strand) (size n : ℕ) (xs zs : List ℕ) (i j v : ℕ) → j ≡ sourceOf k n i → v ≡ newStart k size (getD xs j 0) (getD xs j 0 + getD zs j 0) → v ≡ startAt k size n xs zs i
+pub start-is : (k : Strand) (size n : ℕ) (xs zs : List ℕ) (i j v : ℕ) → j ≡ sourceOf k n i → v ≡ strandStart k size (getD xs j 0) (getD xs j 0 + getD zs j 0) → v ≡ startAt k size n xs zs i
 start-is k size n xs zs i j v e h = rw (← e) h
 
 pub size-is : (k : Strand) (n : ℕ) (zs : List ℕ) (i j : ℕ) → j ≡ sourceOf k n i → getD zs j 0 ≡ sizeAt k n zs i
@@ -142,8 +143,8 @@ module _ (c : Chain) (ts qs zs : List ℕ) (rd : Ready c ts qs zs) (before after
   pub sizes-made : after ≡ sets before 0 (listOf (sizeAt (c .qStrand) (c .blockCount) zs) 0 (c .blockCount)) → after ≡ sets before 0 (sizesOf (turnedRows c (tableOf ts qs zs)))
   sizes-made h = h ∙ ap (sets before 0) (sym (column-is (λ (b : Row). b .size) refl c ts qs zs (rd .wide) (sizeAt (c .qStrand) (c .blockCount) zs) (λ i l. refl)))
 
-pub record-turned : (c : Chain) (tStart tEnd qStart qEnd : ℕ) → tStart ≡ newStart (c .qStrand) (c .qSize) (c .qStart) (c .qEnd) → tEnd ≡ newEnd (c .qStrand) (c .qSize) (c .qStart) (c .qEnd)
-    → qStart ≡ newStart (c .qStrand) (c .tSize) (c .tStart) (c .tEnd) → qEnd ≡ newEnd (c .qStrand) (c .tSize) (c .tStart) (c .tEnd)
+pub record-turned : (c : Chain) (tStart tEnd qStart qEnd : ℕ) → tStart ≡ strandStart (c .qStrand) (c .qSize) (c .qStart) (c .qEnd) → tEnd ≡ strandEnd (c .qStrand) (c .qSize) (c .qStart) (c .qEnd)
+    → qStart ≡ strandStart (c .qStrand) (c .tSize) (c .tStart) (c .tEnd) → qEnd ≡ strandEnd (c .qStrand) (c .tSize) (c .tStart) (c .tEnd)
     → _≡_ {A = Chain} (record { score = c .score; tName = c .qName; tSize = c .qSize; tStart = tStart; tEnd = tEnd; qName = c .tName; qSize = c .tSize; qStrand = c .qStrand; qStart = qStart; qEnd = qEnd; id = c .id; blockCount = c .blockCount }) (turned c)
 unfolding turned
 record-turned c tStart tEnd qStart qEnd e1 e2 e3 e4 = λ i. record {

@@ -5,13 +5,14 @@ use Prim.Native.Nat.{ℕ, zero, suc, _+_, _-_, _≤_, _<_}
 use native.Mathlib.Omega.{arith}
 use lib.ListN.{length, getD, length-map, length-reverse, List·getD-append}
 use lib.Seq.{getD-append-add}
+use Rattle.blocks.specs.Strands.{strandStart}
 use Rattle.ledger.specs.declared.Strand.{Strand}
 use Rattle.ledger.specs.declared.Strand.the-variants.{Plus, Minus, Dot}
 use Rattle.ledger.specs.declared.Row.{Row}
 use Rattle.blocks.specs.Rows.{targetEnd, queryEnd, noRow}
 use Rattle.lift.specs.Pairs.{Pair, pair, blockPairs, pairsOf}
 use Rattle.lift.proofs.RunLaws.{either, Run, run-below, onTarget, onQuery, firstOn, lastOn, Placed}
-use Rattle.turn.specs.Turns.{swapPair, swapRow, turnRow, turnedRowsOn, newStart, sourceOf}
+use Rattle.turn.specs.Turns.{swapPair, swapRow, turnRow, turnedRowsOn, sourceOf}
 
 map-append : {A B : Type 0} (f : A → B) (xs ys : List A) → map f (xs ++ ys) ≡ map f xs ++ map f ys
 map-append f [] ys = refl
@@ -196,7 +197,7 @@ at-reverse (x ∷ xs) i h = rw (reverse-cons x xs) (either (length xs) i _
 
 -- a row turned
 abbrev pub turnOn : Strand → ℕ → ℕ → Row → Row
-turnOn k ts qs b = record { target = newStart k qs (b .query) (queryEnd b); query = newStart k ts (b .target) (targetEnd b); size = b .size }
+turnOn k ts qs b = record { target = strandStart k qs (b .query) (queryEnd b); query = strandStart k ts (b .target) (targetEnd b); size = b .size }
 
 pub turned-at : (k : Strand) (ts qs n : ℕ) (bs : List Row) → length bs ≡ n → (i : ℕ) → i < n → getD (turnedRowsOn k ts qs bs) i noRow ≡ turnOn k ts qs (getD bs (sourceOf k n i) noRow)
 turned-at Plus ts qs n bs e i h = at-map swapRow bs i (omega arith)

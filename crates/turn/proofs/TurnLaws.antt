@@ -10,6 +10,7 @@ use lib.Seq.{sets-eq}
 use lib.IntN.{ℤ, pos, _-ℤ_}
 use lib.Dec.{leb}
 use borrow.Author.Tests.{le-leb, leb-true}
+use Rattle.ledger.specs.Refusals.{require}
 use Rattle.ledger.specs.declared.Strand.{Strand}
 use Rattle.ledger.specs.declared.Strand.the-variants.{Plus, Minus, Dot}
 use Rattle.ledger.specs.declared.Reason.the-variants.{BlockRules, NoRoom}
@@ -28,7 +29,7 @@ use Rattle.lift.proofs.AcceptLaws.{Rules, accepted-rules, rules-accepted}
 use Rattle.lift.proofs.ConversionLaws.{converts}
 use Rattle.lift.proofs.PositionLaws.{lifts, lifted}
 use Rattle.turn.specs.declared.TurnAnswer.the-variants.{Turned}
-use Rattle.turn.specs.Turns.{swapPair, turnedRowsOn, turnedRows, turned, ifTurned, turn, TurnedInto}
+use Rattle.turn.specs.Turns.{swapPair, turnedRowsOn, turnedRows, turned, notTurned, turn, TurnedInto}
 use Rattle.turn.proofs.RowLaws.{pairs-swapped, pairs-turned, placed-swapped, placed-turned, turned-length, on-twice}
 
 -- the same record with another strand: `onStrand (c .qStrand) c` is c, so that a law can go by cases on the strand
@@ -205,7 +206,7 @@ pub turnable : (c : Chain) (rows : List Row) (room : ℕ) (d : Chain) → Turned
 unfolding turn
 turnable c rows room d e = go (accepted c rows) (leb (c .blockCount) room) refl refl e
   where
-    go : (t u : Bool) → accepted c rows ≡ t → leb (c .blockCount) room ≡ u → Turned d ≡ ifTurned t BlockRules (ifTurned u NoRoom (Turned (turned c))) → Turnable c rows room d
+    go : (t u : Bool) → accepted c rows ≡ t → leb (c .blockCount) room ≡ u → Turned d ≡ require t (notTurned BlockRules) (require u (notTurned NoRoom) (Turned (turned c))) → Turnable c rows room d
     go false u h k l = absurd (let z : _≡_ {A = ℕ} 0 1 = cc in omega arith)
     go true false h k l = absurd (let z : _≡_ {A = ℕ} 0 1 = cc in omega arith)
     go true true h k l = record { ok = h; fits = leb-true _ _ k; is = cc }

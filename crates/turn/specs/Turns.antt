@@ -6,6 +6,8 @@ use mathlib.Core.List.{List, [], _∷_, map, reverse}
 use lib.ListN.{length, getD}
 use lib.Seq.{sets}
 use lib.Dec.{leb}
+use Rattle.blocks.specs.Strands.{strandStart, strandEnd}
+use Rattle.ledger.specs.Refusals.{withoutText, require}
 use Rattle.ledger.specs.declared.Reason.{Reason}
 use Rattle.ledger.specs.declared.Reason.the-variants.{BlockRules, NoRoom}
 use Rattle.ledger.specs.declared.Strand.{Strand}
@@ -41,46 +43,31 @@ swapPair x = pair (x .query) (x .target)
 unfoldable pub turnedRows : Chain → List Row → List Row
 turnedRows c rows = turnedRowsOn (c .qStrand) (c .tSize) (c .qSize) (used c rows)
 
--- a span's start and end after the turn: with `-`, converted
-abbrev pub newStart : Strand → ℕ → ℕ → ℕ → ℕ
-newStart Plus size start end = start
-newStart Minus size start end = size - end
-newStart Dot size start end = start
-
-abbrev pub newEnd : Strand → ℕ → ℕ → ℕ → ℕ
-newEnd Plus size start end = end
-newEnd Minus size start end = size - start
-newEnd Dot size start end = end
-
 -- THE TURNED RECORD: score, id, strand and count stay
 unfoldable pub turned : Chain → Chain
 turned c = record {
   score = c .score;
   tName = c .qName;
   tSize = c .qSize;
-  tStart = newStart (c .qStrand) (c .qSize) (c .qStart) (c .qEnd);
-  tEnd = newEnd (c .qStrand) (c .qSize) (c .qStart) (c .qEnd);
+  tStart = strandStart (c .qStrand) (c .qSize) (c .qStart) (c .qEnd);
+  tEnd = strandEnd (c .qStrand) (c .qSize) (c .qStart) (c .qEnd);
   qName = c .tName;
   qSize = c .tSize;
   qStrand = c .qStrand;
-  qStart = newStart (c .qStrand) (c .tSize) (c .tStart) (c .tEnd);
-  qEnd = newEnd (c .qStrand) (c .tSize) (c .tStart) (c .tEnd);
+  qStart = strandStart (c .qStrand) (c .tSize) (c .tStart) (c .tEnd);
+  qEnd = strandEnd (c .qStrand) (c .tSize) (c .tStart) (c .tEnd);
   id = c .id;
   blockCount = c .blockCount;
 }
 
 abbrev pub notTurned : Reason → TurnAnswer
-notTurned why = Refused (record { reason = why; place = 0 })
-
-abbrev pub ifTurned : Bool → Reason → TurnAnswer → TurnAnswer
-ifTurned true why rest = rest
-ifTurned false why rest = notTurned why
+notTurned why = Refused (withoutText why)
 
 -- THE TURN into a table with so much room: no accepted chain (9), then the room (11), each at place 0
 unfoldable pub turn : Chain → List Row → ℕ → TurnAnswer
 turn c rows room =
-    ifTurned (accepted c rows) BlockRules
-    (ifTurned (leb (c .blockCount) room) NoRoom (Turned (turned c)))
+    require (accepted c rows) (notTurned BlockRules)
+    (require (leb (c .blockCount) room) (notTurned NoRoom) (Turned (turned c)))
 
 -- what a lent slice holds then: the turned rows' numbers from its front, the rest as before; after a refusal, what it held
 abbrev pub columnAfter : TurnAnswer → List ℕ → List ℕ → List ℕ
@@ -108,7 +95,7 @@ listOf f a (suc n) = f a ∷ listOf f (suc a) n
 
 -- a side's new start in row i, from the other side's starts xs and the sizes zs
 abbrev pub startAt : Strand → ℕ → ℕ → List ℕ → List ℕ → ℕ → ℕ
-startAt k size n xs zs i = newStart k size (getD xs (sourceOf k n i) 0) (getD xs (sourceOf k n i) 0 + getD zs (sourceOf k n i) 0)
+startAt k size n xs zs i = strandStart k size (getD xs (sourceOf k n i) 0) (getD xs (sourceOf k n i) 0 + getD zs (sourceOf k n i) 0)
 
 abbrev pub sizeAt : Strand → ℕ → List ℕ → ℕ → ℕ
 sizeAt k n zs i = getD zs (sourceOf k n i) 0

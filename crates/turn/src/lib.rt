@@ -3,8 +3,9 @@ ghost use mathlib.Core.Path.{_≡_};
 ghost use Prim.Native.Nat.{_≤_, _<_};
 ghost use lib.ListN.{length};
 ghost use lib.Seq.{sets};
+ghost use Rattle.blocks.specs.Strands.{strandStart, strandEnd};
 ghost use Rattle.blocks.specs.Rows.{tableOf};
-ghost use Rattle.turn.specs.Turns.{newStart, newEnd, sourceOf, listOf, startAt, sizeAt, Fillable, SpansFit, turned, notTurned, TurnedInto};
+ghost use Rattle.turn.specs.Turns.{sourceOf, listOf, startAt, sizeAt, Fillable, SpansFit, turned, notTurned, TurnedInto};
 use chain::Chain;
 use ledger::Reason;
 use ledger::Refusal;
@@ -13,30 +14,6 @@ use ledger::Strand;
 pub enum TurnAnswer {
     Turned(Chain),
     Refused(Refusal),
-}
-
-// A span's start after the turn.
-fn new_start(k: Strand, size: u64, start: u64, end: u64) -> u64
-    requires { ⌜ end ≤ size ⌝ }
-    ensures { λ r. ⌜ r ≡ newStart k size start end ⌝ }
-{
-    match k {
-        Strand::Plus => start,
-        Strand::Minus => size - end,
-        Strand::Dot => start,
-    }
-}
-
-// A span's end after the turn.
-fn new_end(k: Strand, size: u64, start: u64, end: u64) -> u64
-    requires { ⌜ start ≤ size ⌝ }
-    ensures { λ r. ⌜ r ≡ newEnd k size start end ⌝ }
-{
-    match k {
-        Strand::Plus => end,
-        Strand::Minus => size - start,
-        Strand::Dot => end,
-    }
 }
 
 // The row that a turned row comes from.
@@ -62,7 +39,7 @@ fn fill_starts(k: Strand, size: u64, n: usize, starts: &[u64], sizes: &[u64], ou
         let j = source_of(k, n, i);
         let x = starts[j];
         let z = sizes[j];
-        out[i] = new_start(k, size, x, x + z);
+        out[i] = blocks::strand_start(k, size, x, x + z);
         i += 1;
     }
 }
@@ -88,10 +65,10 @@ fn turn_record(c: Chain) -> Chain
     let k = c.qStrand;
     let tName = c.qName;
     let qName = c.tName;
-    let tStart = new_start(k, c.qSize, c.qStart, c.qEnd);
-    let tEnd = new_end(k, c.qSize, c.qStart, c.qEnd);
-    let qStart = new_start(k, c.tSize, c.tStart, c.tEnd);
-    let qEnd = new_end(k, c.tSize, c.tStart, c.tEnd);
+    let tStart = blocks::strand_start(k, c.qSize, c.qStart, c.qEnd);
+    let tEnd = blocks::strand_end(k, c.qSize, c.qStart, c.qEnd);
+    let qStart = blocks::strand_start(k, c.tSize, c.tStart, c.tEnd);
+    let qEnd = blocks::strand_end(k, c.tSize, c.tStart, c.tEnd);
     Chain {
         score: c.score,
         tName,
@@ -111,7 +88,7 @@ fn turn_record(c: Chain) -> Chain
 fn not_turned(reason: Reason) -> TurnAnswer
     ensures { λ r. ⌜ r ≡ notTurned reason ⌝ }
 {
-    TurnAnswer::Refused(Refusal { reason, place: 0 })
+    TurnAnswer::Refused(Refusal::without_text(reason))
 }
 
 // THE TURN of a chain: record and rows are tested again, as they may be anything; the turned blocks go to the front of three lent
