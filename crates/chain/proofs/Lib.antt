@@ -1,3 +1,4 @@
+pub mod AnswerLaws
 pub mod ReadLaws
 pub mod BlockLaws
 pub mod QuickLaws
@@ -5,9 +6,3 @@ pub mod WalkLaws
 pub mod StageLaws
 pub mod TestLaws
 pub mod WriteLaws
-pub mod RuleLaws
-pub mod LineLaws
-pub mod TextLaws
-pub mod ValidLaws
-pub mod BackLaws
-pub mod Vectors

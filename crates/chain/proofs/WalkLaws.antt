@@ -9,17 +9,18 @@ use mir.Val.{Fits}
 use mir.Syntax.{w64}
 use borrow.Author.Tests.{lt-ltb, le-ltb}
 use Rattle.ledger.specs.Limits.{blockLimit, largestPosition}
-use Rattle.ledger.specs.declared.Reason.the-variants.{WrongCount}
-use Rattle.ledger.specs.declared.Refusal.{Refusal}
+use Rattle.ledger.specs.declared.Fault.{Fault}
+use Rattle.text.specs.Checks.{thenCheck}
 use Rattle.text.specs.Words.{nextLine}
-use Rattle.chain.specs.declared.Block.{Block}
-use Rattle.chain.specs.declared.Block.the-variants.{Last, Gap}
-use Rattle.chain.specs.declared.Block.the-variants as block
+use Rattle.chain.specs.declared.BlockLine.{BlockLine}
+use Rattle.chain.specs.declared.BlockLine.the-variants.{Last, Gap}
+use Rattle.chain.specs.declared.BlockLine.the-variants as block
 use Rattle.chain.specs.declared.Ending.{Ending}
 use Rattle.chain.specs.declared.Lines.the-variants.{Ended}
 use Rattle.chain.specs.declared.Lines.the-variants as lines
 use Rattle.chain.specs.Records.{sizeAt, targetGap, queryGap, targetsFrom, queriesFrom, sizesFrom}
-use Rattle.chain.specs.Read.{limitCheck, checkBlock, thenBlock, blockOne, blockLine, linesFrom, endingAt, BlockRead, Placed, Begins, Walked}
+use Rattle.chain.specs.Read.{limitCheck, thenBlock, blockLine, endsEarly, linesFrom, endingAt}
+use Rattle.chain.specs.Steps.{blockOne, BlockRead, Placed, Begins, Walked}
 use Rattle.chain.proofs.BlockLaws.{limit-ahead, gap-holds, last-holds}
 
 -- a block with the gap after it takes at most so much of a side
@@ -91,16 +92,16 @@ extend l l′ x rest all e h = rw (e, append-assoc) h
 
 -- the walk at a line, way by way
 module _ (s : List ℕ) (line t q : ℕ) where
-  from-past : (k : ℕ) → length s ≤ line → linesFrom k s line t q ≡ lines.Refused (record { reason = WrongCount; place = length s })
+  from-past : (k : ℕ) → length s ≤ line → linesFrom k s line t q ≡ endsEarly s
   unfolding linesFrom
   from-past zero h = rw (le-ltb line (length s) h)
   from-past (suc k) h = rw (le-ltb line (length s) h)
 
   module _ (h : line < length s) where
     -- past the last allowed line the limit refuses, before it the line itself
-    from-refused : (k : ℕ) (x : Refusal) → checkBlock (limitCheck line k) (blockLine s line) ≡ block.Refused x → linesFrom k s line t q ≡ lines.Refused x
+    from-refused : (k : ℕ) (x : Fault) → thenCheck block.Faulty (limitCheck line k) (blockLine s line) ≡ block.Faulty x → linesFrom k s line t q ≡ lines.Faulty x
     unfolding linesFrom limitCheck
-    from-refused zero x g = rw (lt-ltb line (length s) h) (ap (λ (b : Block). thenBlock b (λ z. lines.Refused x) (λ z dt dq. lines.Refused x)) g)
+    from-refused zero x g = rw (lt-ltb line (length s) h) (ap (λ (b : BlockLine). thenBlock b (λ z. lines.Faulty x) (λ z dt dq. lines.Faulty x)) g)
     from-refused (suc k) x g = rw (lt-ltb line (length s) h, g)
 
     pub from-last : (k z : ℕ) → (k ≡ 0 → ⊥) → blockLine s line ≡ Last z → linesFrom k s line t q ≡ Ended (endingAt line (blockLimit - (k - 1)) (t + z) (q + z))
@@ -126,12 +127,12 @@ none [] = refl
 none (x ∷ l) = ap (λ (m : List ℕ). x ∷ m) (none l)
 
 module _ (s : List ℕ) (from t₀ q₀ : ℕ) (rows : List ℕ) (line t q left : ℕ) (w : Walking s from t₀ q₀ rows line t q left) where
-  pub walk-past : (rows₀ : List ℕ) → length s ≤ line → Walked s from t₀ q₀ rows₀ rows (lines.Refused (record { reason = WrongCount; place = length s }))
+  pub walk-past : (rows₀ : List ℕ) → length s ≤ line → Walked s from t₀ q₀ rows₀ rows (endsEarly s)
   walk-past rows₀ h = record { is = sym (from-past s line t q left h) ∙ w .is; long = w .long; held = λ e z. absurd (let k : _≡_ {A = ℕ} 0 1 = cc in omega arith) }
 
   module _ (h : line < length s) where
-    module _ (b : Block) (read : BlockRead s line left b) where
-      pub walk-refused : (rows₀ : List ℕ) (x : Refusal) → b ≡ block.Refused x → Walked s from t₀ q₀ rows₀ rows (lines.Refused x)
+    module _ (b : BlockLine) (read : BlockRead s line left b) where
+      pub walk-refused : (rows₀ : List ℕ) (x : Fault) → b ≡ block.Faulty x → Walked s from t₀ q₀ rows₀ rows (lines.Faulty x)
       walk-refused rows₀ x eb = record { is = sym (from-refused s line t q h left x (sym (read .is) ∙ eb)) ∙ w .is; long = w .long; held = λ e y. absurd (let k : _≡_ {A = ℕ} 0 1 = cc in omega arith) }
 
       module _ (rows′ : List ℕ) (z : ℕ) (er : rows′ ≡ withRow rows (blockLimit - left) t q z) (one : blockOne b ≡ 1) where
@@ -217,7 +218,7 @@ module _ (s : List ℕ) (from t₀ q₀ : ℕ) (rows : List ℕ) (line t q left 
       walk-more rows′ z er dt dq line′ eb el = went rows′ z er (ap blockOne eb) dt dq line′ eb el
 
 -- a block that is read is not past the last allowed one
-module _ (s : List ℕ) (line left : ℕ) (b : Block) (read : BlockRead s line left b) (z : ℕ) where
+module _ (s : List ℕ) (line left : ℕ) (b : BlockLine) (read : BlockRead s line left b) (z : ℕ) where
   module _ (eb : b ≡ Last z) where
     pub last-some : 1 ≤ left
     last-some = rw eb at (read .room)
@@ -236,7 +237,7 @@ module _ (s : List ℕ) (line left : ℕ) (b : Block) (read : BlockRead s line l
     gap-less = omega (arith, gap-some)
 
 -- the sums of the walk fit
-module _ (s : List ℕ) (from t₀ q₀ : ℕ) (rows : List ℕ) (line t q left : ℕ) (w : Walking s from t₀ q₀ rows line t q left) (b : Block) (read : BlockRead s line left b) (z : ℕ) where
+module _ (s : List ℕ) (from t₀ q₀ : ℕ) (rows : List ℕ) (line t q left : ℕ) (w : Walking s from t₀ q₀ rows line t q left) (b : BlockLine) (read : BlockRead s line left b) (z : ℕ) where
   module _ (eb : b ≡ Last z) where
     last-size : z ≤ largestPosition
     last-size = rw eb at (read .size)

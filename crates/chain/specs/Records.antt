@@ -1,30 +1,36 @@
 -- The record of a chain, and the rows of its block lines.
 use Prim.Native.Nat.{ℕ, zero, suc, _+_}
 use mathlib.Core.List.{List, [], _∷_}
-use lib.ListN.{take, getD}
+use lib.ListN.{take}
+use Rattle.ledger.specs.declared.Part.{Part}
 use Rattle.ledger.specs.declared.Row.{Row}
+use Rattle.ledger.specs.Parts.{partAt}
 use Rattle.ledger.specs.Strands.{strandOf, strandIs}
 use Rattle.text.specs.Words.{nextLine, wordCount}
-use Rattle.columns.specs.Columns.{valuesFrom}
-use Rattle.chain.specs.declared.Chain.{Chain}
-use Rattle.chain.specs.Table.{blockColumns}
-use Rattle.ledger.specs.Parts.{partAt}
+use Rattle.columns.specs.Columns.{valuesFrom, valueOf, placeOf}
 use Rattle.blocks.specs.Rows.{tableOf}
+use Rattle.chain.specs.declared.Chain.{Chain}
+use Rattle.chain.specs.Columns as column
+use Rattle.chain.specs.Table.{blockColumns}
+
+-- the name in column k: where its word starts, and its length, which is its value
+abbrev pub nameOf : List ℕ → ℕ → Part
+nameOf vs k = partAt (placeOf vs k) (valueOf vs k)
 
 -- the record of a header whose columns hold vs, two numbers a column, its value and where its word starts, with n blocks
 unfoldable pub chainRecord : List ℕ → ℕ → Chain
 chainRecord vs n = record {
-  score = getD vs 2 0;
-  tName = partAt (getD vs 5 0) (getD vs 4 0);
-  tSize = getD vs 6 0;
-  tStart = getD vs 10 0;
-  tEnd = getD vs 12 0;
-  qName = partAt (getD vs 15 0) (getD vs 14 0);
-  qSize = getD vs 16 0;
-  qStrand = strandIs (strandOf (getD vs 18 0));
-  qStart = getD vs 20 0;
-  qEnd = getD vs 22 0;
-  id = getD vs 24 0;
+  score = valueOf vs column.score;
+  tName = nameOf vs column.tName;
+  tSize = valueOf vs column.tSize;
+  tStart = valueOf vs column.tStart;
+  tEnd = valueOf vs column.tEnd;
+  qName = nameOf vs column.qName;
+  qSize = valueOf vs column.qSize;
+  qStrand = strandIs (strandOf (valueOf vs column.qStrand));
+  qStart = valueOf vs column.qStart;
+  qEnd = valueOf vs column.qEnd;
+  id = valueOf vs column.id;
   blockCount = n;
 }
 
@@ -33,14 +39,14 @@ unfoldable pub lineValues : List ℕ → ℕ → List ℕ
 lineValues s line = valuesFrom (take (wordCount s line) blockColumns) 0 s line
 
 unfoldable pub sizeAt : List ℕ → ℕ → ℕ
-sizeAt s line = getD (lineValues s line) 0 0
+sizeAt s line = valueOf (lineValues s line) column.size
 
 -- the gap after the block, on the target and on the query
 unfoldable pub targetGap : List ℕ → ℕ → ℕ
-targetGap s line = getD (lineValues s line) 2 0
+targetGap s line = valueOf (lineValues s line) column.dt
 
 unfoldable pub queryGap : List ℕ → ℕ → ℕ
-queryGap s line = getD (lineValues s line) 4 0
+queryGap s line = valueOf (lineValues s line) column.dq
 
 -- the rows of n block lines from the one at a place on, whose block starts at a on a side: each later block starts a gap past the end of the one before
 unfoldable pub targetsFrom : ℕ → List ℕ → ℕ → ℕ → List ℕ

@@ -11,16 +11,17 @@ use Rattle.text.specs.declared.Class.the-variants.{Allowed}
 use Rattle.text.specs.Scan.{run}
 use Rattle.text.specs.Pieces.{linesOf, lineOf, wordsOf}
 use Rattle.text.specs.Words.{wordAt}
-use Rattle.columns.specs.Spells.{Spells}
-use Rattle.blocks.specs.Rules.{Fills, Ranged}
-use Rattle.chain.specs.declared.Chain.{Chain}
-use Rattle.chain.specs.Table.{chainColumns, blockColumns}
 use Rattle.columns.specs.Names.{partOf}
+use Rattle.columns.specs.Spells.{Spells}
+use Rattle.blocks.specs.Rules.{Fills, RowsInUse}
+use Rattle.chain.specs.declared.Chain.{Chain}
+use Rattle.chain.specs.Columns as column
+use Rattle.chain.specs.Table.{chainColumns, blockColumns}
 
 -- lines of blocks and the rows that they say, the first block starting at t and q: each line but the last spells a size and the gaps to the next block, the
 -- last a size alone, and its block ends at te and qe
 pub data BlockLines (te qe : ℕ) : List (List ℕ) → ℕ → ℕ → List ℕ → List ℕ → List ℕ → Type 0 where
-  last-line : {line : List ℕ} {ls : List (List ℕ)} {t q z : ℕ} → Spells (take 1 blockColumns) 0 (wordsOf line) (z ∷ []) ls → t + z ≡ te → q + z ≡ qe → BlockLines te qe (line ∷ []) t q (t ∷ []) (q ∷ []) (z ∷ [])
+  last-line : {line : List ℕ} {ls : List (List ℕ)} {t q z : ℕ} → Spells (take column.lastCount blockColumns) 0 (wordsOf line) (z ∷ []) ls → t + z ≡ te → q + z ≡ qe → BlockLines te qe (line ∷ []) t q (t ∷ []) (q ∷ []) (z ∷ [])
   more-lines : {line : List ℕ} {lines ls : List (List ℕ)} {t q z dt dq : ℕ} {ts qs zs : List ℕ} → Spells blockColumns 0 (wordsOf line) (z ∷ dt ∷ dq ∷ []) ls
       → BlockLines te qe lines (t + z + dt) (q + z + dq) ts qs zs → BlockLines te qe (line ∷ lines) t q (t ∷ ts) (q ∷ qs) (z ∷ zs)
 
@@ -35,17 +36,17 @@ pub record ChainText (s vs : List ℕ) (ls : List (List ℕ)) (r : Chain) (ts qs
   pub lists : List (List ℕ)
   pub spelt : Spells chainColumns 0 (wordsOf (lineOf s)) vs lists
   -- the record is what they spell
-  pub score : r .score ≡ getD vs 1 0
-  pub tName : r .tName ≡ partOf (wordAt s 0 2)
-  pub tSize : r .tSize ≡ getD vs 3 0
-  pub tStart : r .tStart ≡ getD vs 5 0
-  pub tEnd : r .tEnd ≡ getD vs 6 0
-  pub qName : r .qName ≡ partOf (wordAt s 0 7)
-  pub qSize : r .qSize ≡ getD vs 8 0
-  pub qStrand : strandLetter (r .qStrand) ≡ getD vs 9 0
-  pub qStart : r .qStart ≡ getD vs 10 0
-  pub qEnd : r .qEnd ≡ getD vs 11 0
-  pub id : r .id ≡ getD vs 12 0
+  pub score : r .score ≡ getD vs column.score 0
+  pub tName : r .tName ≡ partOf (wordAt s 0 column.tName)
+  pub tSize : r .tSize ≡ getD vs column.tSize 0
+  pub tStart : r .tStart ≡ getD vs column.tStart 0
+  pub tEnd : r .tEnd ≡ getD vs column.tEnd 0
+  pub qName : r .qName ≡ partOf (wordAt s 0 column.qName)
+  pub qSize : r .qSize ≡ getD vs column.qSize 0
+  pub qStrand : strandLetter (r .qStrand) ≡ getD vs column.qStrand 0
+  pub qStart : r .qStart ≡ getD vs column.qStart 0
+  pub qEnd : r .qEnd ≡ getD vs column.qEnd 0
+  pub id : r .id ≡ getD vs column.id 0
   -- the spans
   pub tSpan : r .tStart < r .tEnd
   pub tInside : r .tEnd ≤ r .tSize
@@ -58,12 +59,8 @@ pub record ChainText (s vs : List ℕ) (ls : List (List ℕ)) (r : Chain) (ts qs
 
 -- the record r with the first blockCount rows of ts, qs, zs is a chain record
 pub record ChainRules (r : Chain) (ts qs zs : List ℕ) : Type 0 where
-  -- the count of blocks
-  pub someBlock : 1 ≤ r .blockCount
-  pub fewBlocks : r .blockCount ≤ blockLimit
-  pub targetRows : r .blockCount ≤ length ts
-  pub queryRows : r .blockCount ≤ length qs
-  pub sizeRows : r .blockCount ≤ length zs
+  -- its blocks, and their numbers
+  pub rows : RowsInUse (r .blockCount) ts qs zs
   -- names and strand
   pub tNameSome : 1 ≤ r .tName .length
   pub tNameShort : r .tName .length ≤ nameLimit
@@ -81,9 +78,6 @@ pub record ChainRules (r : Chain) (ts qs zs : List ℕ) : Type 0 where
   pub qStartRange : r .qStart ≤ largestPosition
   pub qEndRange : r .qEnd ≤ largestPosition
   pub idRange : r .id ≤ chainIdLimit
-  pub targetRange : Ranged 0 largestPosition (r .blockCount) ts
-  pub queryRange : Ranged 0 largestPosition (r .blockCount) qs
-  pub sizeRange : Ranged 1 largestPosition (r .blockCount) zs
   -- the spans
   pub tSpan : r .tStart < r .tEnd
   pub tInside : r .tEnd ≤ r .tSize
@@ -114,11 +108,11 @@ named r tName qName = record {
 unfoldable pub placed : List ℕ → Chain → Chain
 placed s r = record {
   score = r .score;
-  tName = partOf (wordAt s 0 2);
+  tName = partOf (wordAt s 0 column.tName);
   tSize = r .tSize;
   tStart = r .tStart;
   tEnd = r .tEnd;
-  qName = partOf (wordAt s 0 7);
+  qName = partOf (wordAt s 0 column.qName);
   qSize = r .qSize;
   qStrand = r .qStrand;
   qStart = r .qStart;

@@ -1,15 +1,15 @@
 -- Writing a chain: the writers' refusals in their order, and the standard text.
-use Prim.Native.Nat.{ℕ, zero, suc, _+_, _-_, _≤_}
+use Prim.Native.Nat.{ℕ, zero, suc, _+_, _-_}
 use mathlib.Core.Path.{_≡_}
 use mathlib.Core.Bool.{Bool, _&&_}
 use mathlib.Core.List.{List, [], _∷_, _++_}
 use lib.ListN.{length, take, getD}
 use Rattle.ledger.specs.declared.Reason.the-variants.{NumberOutOfRange, BadWord, SpanDisagrees, BlockRules}
-use Rattle.ledger.specs.Limits.{nameLimit, blockLimit}
+use Rattle.ledger.specs.Refusals.{require}
 use Rattle.ledger.specs.Strands.{strandLetter, isTold}
 use Rattle.text.specs.declared.Check.{Check}
 use Rattle.text.specs.declared.Check.the-variants.{Holds}
-use Rattle.text.specs.Checks.{require}
+use Rattle.text.specs.Checks.{refused}
 use Rattle.text.specs.Pieces.{joined}
 use Rattle.writing.specs.Digits.{digits}
 use Rattle.writing.specs.declared.Writing.{Writing}
@@ -17,9 +17,8 @@ use Rattle.writing.specs.Answers.{roomAnswer, leftAfter}
 use Rattle.kinds.specs.declared.Fixed.the-variants as fixed
 use Rattle.kinds.specs.Kinds.{fixedText}
 use Rattle.blocks.specs.Blocks.{countFits, rowsOf, rowNumbersFit}
-use Rattle.columns.specs.Lines.{fedLine, thenWrite}
+use Rattle.columns.specs.Lines.{thenWrite}
 use Rattle.chain.specs.declared.Chain.{Chain}
-use Rattle.chain.specs.Table.{chainColumns}
 use Rattle.chain.specs.Tests.{namesFit, fieldsFit, spansFit, rowsFit, chainValid}
 use Rattle.columns.specs.Names.{allGraphic}
 
@@ -27,14 +26,14 @@ use Rattle.columns.specs.Names.{allGraphic}
 unfoldable pub namesShow : List ℕ → List ℕ → Bool
 namesShow tName qName = namesFit (length tName) (length qName) && (allGraphic tName && allGraphic qName)
 
--- the refusals, each at place 0: a bad row count (9); names and strand (6); the numbers, a row's too (5); spans (7); blocks (9)
+-- the refusals, without a text: a bad row count (9); names and strand (6); the numbers, a row's too (5); spans (7); blocks (9)
 unfoldable pub writeCheck : Chain → List ℕ → List ℕ → List ℕ → List ℕ → List ℕ → Check
 writeCheck r tName qName ts qs zs =
-    require (countFits (r .blockCount) (rowsOf ts qs zs)) BlockRules 0
-    (require (namesShow tName qName && isTold (r .qStrand)) BadWord 0
-    (require (fieldsFit r && rowNumbersFit (take (r .blockCount) ts) (take (r .blockCount) qs) (take (r .blockCount) zs)) NumberOutOfRange 0
-    (require (spansFit r) SpanDisagrees 0
-    (require (rowsFit r (take (r .blockCount) ts) (take (r .blockCount) qs) (take (r .blockCount) zs)) BlockRules 0
+    require (countFits (r .blockCount) (rowsOf ts qs zs)) (refused BlockRules)
+    (require (namesShow tName qName && isTold (r .qStrand)) (refused BadWord)
+    (require (fieldsFit r && rowNumbersFit (take (r .blockCount) ts) (take (r .blockCount) qs) (take (r .blockCount) zs)) (refused NumberOutOfRange)
+    (require (spansFit r) (refused SpanDisagrees)
+    (require (rowsFit r (take (r .blockCount) ts) (take (r .blockCount) qs) (take (r .blockCount) zs)) (refused BlockRules)
     Holds))))
 
 -- the thirteen words of a header
@@ -65,16 +64,6 @@ blockText (suc k) i ts qs zs = fedWords (gapWords i ts qs zs) ++ blockText k (su
 unfoldable pub chainText : Chain → List ℕ → List ℕ → List ℕ → List ℕ → List ℕ → List ℕ
 chainText r tName qName ts qs zs = fedWords (headWords r tName qName) ++ blockText (r .blockCount - 1) 0 ts qs zs
 
--- the header as values by column, for the line writer: two numbers a column, a name's length and where it stands in a text of names
-unfoldable pub chainValues : Chain → ℕ → ℕ → List ℕ
-chainValues r tName qName =
-    0 ∷ 0 ∷ r .score ∷ 0 ∷ tName ∷ 0 ∷ r .tSize ∷ 0 ∷ 0 ∷ 0 ∷ r .tStart ∷ 0 ∷ r .tEnd ∷ 0
-    ∷ qName ∷ nameLimit ∷ r .qSize ∷ 0 ∷ strandLetter (r .qStrand) ∷ 0 ∷ r .qStart ∷ 0 ∷ r .qEnd ∷ 0 ∷ r .id ∷ 0 ∷ []
-
--- the same text by the line writer's header
-unfoldable pub textOf : List ℕ → List ℕ → ℕ → List ℕ → List ℕ → List ℕ → List ℕ
-textOf names vs n ts qs zs = fedLine chainColumns 32 names vs [] ++ blockText (n - 1) 0 ts qs zs
-
 -- THE WRITER: the checks, then the text's length (1), then the room (11)
 unfoldable pub chainWrite : Chain → List ℕ → List ℕ → List ℕ → List ℕ → List ℕ → ℕ → Writing
 chainWrite r tName qName ts qs zs room = thenWrite (writeCheck r tName qName ts qs zs) (roomAnswer (length (chainText r tName qName ts qs zs)) room)
@@ -84,19 +73,6 @@ pub record ChainWrote (r : Chain) (tName qName ts qs zs before after : List ℕ)
   pub is : x ≡ chainWrite r tName qName ts qs zs (length before)
   pub left : after ≡ leftAfter x (chainText r tName qName ts qs zs) before
 
--- THE RECORD CHECKER: any breach is 9, at place 0
+-- THE RECORD CHECKER: any breach is 9
 unfoldable pub recordCheck : Chain → List ℕ → List ℕ → List ℕ → Check
-recordCheck r ts qs zs = require (chainValid r ts qs zs) BlockRules 0 Holds
-
--- the rows in use, and the names, of a record that passed the checks
-pub record RowsThere (n : ℕ) (ts qs zs : List ℕ) : Type 0 where
-  pub some : 1 ≤ n
-  pub few : n ≤ blockLimit
-  pub targets : n ≤ length ts
-  pub queries : n ≤ length qs
-  pub sizes : n ≤ length zs
-
-pub record Writable (r : Chain) (tName qName ts qs zs : List ℕ) : Type 0 where
-  pub tShort : length tName ≤ nameLimit
-  pub qShort : length qName ≤ nameLimit
-  pub rows : RowsThere (r .blockCount) ts qs zs
+recordCheck r ts qs zs = require (chainValid r ts qs zs) (refused BlockRules) Holds

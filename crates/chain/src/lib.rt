@@ -1,21 +1,30 @@
 // One chain: reader, text checker, record checker, writer, over three flat slices of blocks.
 ghost use mathlib.Core.Path.{_≡_};
+ghost use mathlib.Core.List.{[], _∷_};
 ghost use Prim.Native.Nat.{_+_, _-_, _*_, _≤_, _<_};
 ghost use lib.ListN.{length, set, take};
-ghost use Rattle.ledger.specs.Limits.{nameLimit, blockLimit};
+ghost use Rattle.ledger.specs.Limits.{blockLimit};
+ghost use Rattle.text.specs.Checks.{thenCheck};
+ghost use Rattle.text.specs.Steps.{Staged};
+ghost use Rattle.text.specs.declared.Stage.the-variants as stage;
 ghost use Rattle.writing.specs.Puts.{Put};
 ghost use Rattle.writing.specs.Answers.{Wrote};
-ghost use Rattle.chain.specs.Records.{chainRecord};
-ghost use Rattle.chain.specs.Read.{spanCheck, isBlockCount, limitCheck, firstOf, lineCheck, blockIs, fillCheck, afterLast, afterLines, afterSpans, afterColumns, afterText, chainCheck, LineCounted, NumbersRead, BlockRead, WordTaken, RestSeen, GapTaken, LastTaken, StepRead, HeadTaken, Begins, Walked, Headed, Staged, Held, InRoom, RowsStored, ChainRead};
-ghost use Rattle.chain.specs.Tests.{namesFit, sizeFits, fieldsFit, spansFit, rowsFit, chainValid};
-ghost use Rattle.chain.specs.Write.{namesShow, writeCheck, fedWords, gapWords, blockText, chainText, chainValues, textOf, ChainWrote, recordCheck, RowsThere, Writable};
-ghost use Rattle.chain.specs.Table.{blockColumns};
 ghost use Rattle.columns.specs.Lines.{fedLine};
-ghost use mathlib.Core.List.{[], _∷_};
+ghost use Rattle.chain.specs.declared.ChainReading.the-variants as reading;
+ghost use Rattle.chain.specs.Columns as column;
+ghost use Rattle.chain.specs.Table.{blockColumns};
+ghost use Rattle.chain.specs.Records.{nameOf, chainRecord};
+ghost use Rattle.chain.specs.Read.{spanCheck, isBlockCount, limitCheck, blockIs, fillCheck, afterLast, afterLines,
+    afterSpans, afterColumns, afterText, chainStages, chainAnswer, chainCheck, Held, InRoom, ChainRead};
+ghost use Rattle.chain.specs.Tests.{namesFit, sizeFits, fieldsFit, spansFit, rowsFit, chainValid};
+ghost use Rattle.chain.specs.Write.{namesShow, writeCheck, fedWords, gapWords, blockText, chainText, ChainWrote, recordCheck};
+ghost use Rattle.chain.specs.Steps.{lineCheck, LineCounted, NumbersRead, BlockRead, WordTaken, RestSeen, GapTaken,
+    LastTaken, StepRead, Begins, Walked, Headed, HeadTaken, RowsStored, BlocksRead, chainValues, textOf, RowsThere, Writable};
 use columns::Columns;
 use kinds::Fixed;
 use kinds::Kind;
 use kinds::Range;
+use ledger::Fault;
 use ledger::Part;
 use ledger::Reason;
 use ledger::Refusal;
@@ -23,6 +32,7 @@ use ledger::Strand;
 use numbers::Taken;
 use text::Check;
 use text::Class;
+use text::Stage;
 use writing::Writing;
 
 // The record of a chain. A name is a part of the text; with `-`, qStart and qEnd count on the reversed query.
@@ -41,16 +51,23 @@ pub struct Chain {
     pub blockCount: u64,
 }
 
+// What the stages of a reader find: the record, or the first fault.
+pub enum ChainReading {
+    Read(Chain),
+    Faulty(Fault),
+}
+
+// What a caller is told.
 pub enum ChainAnswer {
     Accepted(Chain),
     Refused(Refusal),
 }
 
-// One block line: the last one's size; or a size and the gaps after it on the target and on the query; or the refusal.
-pub enum Block {
+// One block line: the last one's size; or a size and the gaps after it on the target and on the query; or the fault.
+pub enum BlockLine {
     Last(u64),
     Gap(u64, u64, u64),
-    Refused(Refusal),
+    Faulty(Fault),
 }
 
 // Where the block lines end: the last line's place, the number of blocks, and where the last block ends on either side.
@@ -61,51 +78,118 @@ pub struct Ending {
     pub query: u64,
 }
 
-// All block lines: where they end, or the first refusal.
+// All block lines: where they end, or the first fault.
 pub enum Lines {
     Ended(Ending),
-    Refused(Refusal),
+    Faulty(Fault),
 }
 
-// The codes of specs/Table.antt's columns.
-const CHAIN: [u8; 13] = [11, 4, 0, 2, 12, 1, 1, 0, 2, 9, 1, 1, 5];
+// The columns of a header by number; specs/Columns.antt names the same.
+const SCORE: usize = 1;
 
-const BLOCK: [u8; 3] = [2, 1, 1];
+const T_NAME: usize = 2;
+
+const T_SIZE: usize = 3;
+
+const T_START: usize = 5;
+
+const T_END: usize = 6;
+
+const Q_NAME: usize = 7;
+
+const Q_SIZE: usize = 8;
+
+const Q_STRAND: usize = 9;
+
+const Q_START: usize = 10;
+
+const Q_END: usize = 11;
+
+const ID: usize = 12;
+
+const COLUMNS: usize = 13;
+
+// The columns of a block line, of which the last one has the size alone.
+const SIZE: usize = 0;
+
+const DT: usize = 1;
+
+const DQ: usize = 2;
+
+const GAP_COLUMNS: usize = 3;
+
+const LAST_COLUMNS: usize = 1;
+
+// The kinds of specs/Table.antt's columns, by their codes.
+const CHAIN: [u8; COLUMNS] = [
+    kinds::WORD_CHAIN,
+    kinds::CHAIN_SCORE,
+    kinds::NAME,
+    kinds::SIZE,
+    kinds::WORD_PLUS,
+    kinds::COORDINATE,
+    kinds::COORDINATE,
+    kinds::NAME,
+    kinds::SIZE,
+    kinds::STRAND,
+    kinds::COORDINATE,
+    kinds::COORDINATE,
+    kinds::CHAIN_ID,
+];
+
+const BLOCK: [u8; GAP_COLUMNS] = [kinds::SIZE, kinds::COORDINATE, kinds::COORDINATE];
+
+// What a caller is told of a reading: the one place where a fault becomes a refusal.
+fn answered(x: ChainReading) -> ChainAnswer
+    ensures { λ r. ⌜ r ≡ chainAnswer x ⌝ }
+{
+    match x {
+        ChainReading::Faulty(y) => ChainAnswer::Refused(Refusal::at(y)),
+        ChainReading::Read(r) => ChainAnswer::Accepted(r),
+    }
+}
+
+// The name that column k says: where its word starts, and its length.
+fn name_of(values: &[u64], k: usize) -> Part
+    ensures { λ r. ⌜ r ≡ nameOf (now (values .entry)) k ⌝ }
+{
+    Part::of_values(columns::place_of(values, k), columns::value_of(values, k))
+}
 
 // The record of a header, from its columns' values, with so many blocks.
 fn record_of(values: &[u64], count: u64) -> Chain
     ensures { λ r. ⌜ r ≡ chainRecord (now (values .entry)) count ⌝ }
 {
     Chain {
-        score: columns::value_at(values, 2),
-        tName: Part::of_values(columns::value_at(values, 5), columns::value_at(values, 4)),
-        tSize: columns::value_at(values, 6),
-        tStart: columns::value_at(values, 10),
-        tEnd: columns::value_at(values, 12),
-        qName: Part::of_values(columns::value_at(values, 15), columns::value_at(values, 14)),
-        qSize: columns::value_at(values, 16),
-        qStrand: Strand::of_value(columns::value_at(values, 18)),
-        qStart: columns::value_at(values, 20),
-        qEnd: columns::value_at(values, 22),
-        id: columns::value_at(values, 24),
+        score: columns::value_of(values, SCORE),
+        tName: name_of(values, T_NAME),
+        tSize: columns::value_of(values, T_SIZE),
+        tStart: columns::value_of(values, T_START),
+        tEnd: columns::value_of(values, T_END),
+        qName: name_of(values, Q_NAME),
+        qSize: columns::value_of(values, Q_SIZE),
+        qStrand: Strand::of_value(columns::value_of(values, Q_STRAND)),
+        qStart: columns::value_of(values, Q_START),
+        qEnd: columns::value_of(values, Q_END),
+        id: columns::value_of(values, ID),
         blockCount: count,
     }
 }
 
 // The spans (7).
-fn check_spans(r: Chain, values: &[u64]) -> Check
+fn check_spans(r: Chain, values: &[u64]) -> Stage
     ensures { λ x. ⌜ x ≡ spanCheck r (now (values .entry)) ⌝ }
 {
     let query = text::require(
         blocks::span_fits(r.qStart, r.qEnd, r.qSize),
         Reason::SpanDisagrees,
-        columns::value_at(values, 23) as usize,
-        Check::Holds,
+        columns::place_of(values, Q_END) as usize,
+        Stage::Passes,
     );
     text::require(
         blocks::span_fits(r.tStart, r.tEnd, r.tSize),
         Reason::SpanDisagrees,
-        columns::value_at(values, 13) as usize,
+        columns::place_of(values, T_END) as usize,
         query,
     )
 }
@@ -114,78 +198,78 @@ fn check_spans(r: Chain, values: &[u64]) -> Check
 fn is_block_count(n: usize) -> bool
     ensures { λ r. ⌜ r ≡ isBlockCount n ⌝ }
 {
-    (n == 1) | (n == 3)
+    (n == LAST_COLUMNS) | (n == GAP_COLUMNS)
 }
 
 // The limit (11), where so many blocks may still come.
-fn check_limit(line: usize, left: u64) -> Check
+fn check_limit(line: usize, left: u64) -> Stage
     ensures { λ r. ⌜ r ≡ limitCheck line left ⌝ }
 {
     if left == 0 {
-        return Check::Refused(Refusal {
+        return Stage::Faulty(Fault {
             reason: Reason::NoRoom,
             place: line,
         });
     }
-    Check::Holds
+    Stage::Passes
 }
 
-// The first refusal of two checks.
-fn first_of(first: Check, second: Check) -> Check
-    ensures { λ r. ⌜ r ≡ firstOf first second ⌝ }
+// The first fault of two stages.
+fn first_of(first: Stage, second: Stage) -> Stage
+    ensures { λ r. ⌜ r ≡ thenCheck stage.Faulty first second ⌝ }
 {
     match first {
-        Check::Refused(x) => Check::Refused(x),
-        Check::Holds => second,
+        Stage::Faulty(x) => Stage::Faulty(x),
+        Stage::Passes => second,
     }
 }
 
 // Before a block line is read: the limit (11), and only then its number of words (2).
-fn check_line(text: &[u8], line: usize, n: usize, left: u64) -> Check
+fn check_line(text: &[u8], line: usize, n: usize, left: u64) -> Stage
     ensures { λ r. ⌜ r ≡ lineCheck (now (text .entry)) line n left ⌝ }
 {
     let limit = check_limit(line, left);
-    let words = text::check_words(text, line, n, 3, is_block_count(n));
+    let words = text::check_words(text, line, n, GAP_COLUMNS, is_block_count(n));
     first_of(limit, words)
 }
 
 // The block that the values of a line of n words say.
-fn block_of(values: &[u64], n: usize) -> Block
+fn block_of(values: &[u64], n: usize) -> BlockLine
     ensures { λ r. ⌜ r ≡ blockIs n (now (values .entry)) ⌝ }
 {
-    let size = columns::value_at(values, 0);
-    if n == 1 {
-        return Block::Last(size);
+    let size = columns::value_of(values, SIZE);
+    if n == LAST_COLUMNS {
+        return BlockLine::Last(size);
     }
-    Block::Gap(
+    BlockLine::Gap(
         size,
-        columns::value_at(values, 2),
-        columns::value_at(values, 4),
+        columns::value_of(values, DT),
+        columns::value_of(values, DQ),
     )
 }
 
 // The columns of a block line of n words.
-fn read_numbers(text: &[u8], line: usize, n: usize) -> Block
+fn read_numbers(text: &[u8], line: usize, n: usize) -> BlockLine
     requires { ⌜ LineCounted (now text) line n ⌝ }
     ensures { λ r. ⌜ NumbersRead (now (text .entry)) line n r ⌝ }
 {
     let table = BLOCK;
-    let mut values = [0u64; 6];
+    let mut values = [0u64; 2 * GAP_COLUMNS];
     let mut none = [0u64; 0];
     match columns::walk_line(text, line, &table[..n], &mut values, &mut none) {
-        Columns::Refused(x) => Block::Refused(x),
+        Columns::Faulty(x) => BlockLine::Faulty(x),
         Columns::Next(_) => block_of(&values, n),
     }
 }
 
 // The block line at a place, where so many blocks may still come.
-fn read_block(text: &[u8], line: usize, left: u64) -> Block
+fn read_block(text: &[u8], line: usize, left: u64) -> BlockLine
     ensures { λ r. ⌜ BlockRead (now (text .entry)) line left r ⌝ }
 {
     let n = text::count_words(text, line);
     match check_line(text, line, n, left) {
-        Check::Refused(x) => Block::Refused(x),
-        Check::Holds => read_numbers(text, line, n),
+        Stage::Faulty(x) => BlockLine::Faulty(x),
+        Stage::Passes => read_numbers(text, line, n),
     }
 }
 
@@ -260,7 +344,7 @@ fn quick_last(text: &[u8], line: usize) -> Taken
 
 // A block line, and where the next line begins if one has to.
 pub struct Step {
-    pub block: Block,
+    pub block: BlockLine,
     pub next: usize,
 }
 
@@ -281,7 +365,7 @@ fn take_step(text: &[u8], line: usize, left: u64) -> Step
     }
     let x = quick_gap(text, line);
     if x.good {
-        let block = Block::Gap(x.size, x.dt, x.dq);
+        let block = BlockLine::Gap(x.size, x.dt, x.dq);
         return Step {
             block,
             next: x.next,
@@ -289,7 +373,7 @@ fn take_step(text: &[u8], line: usize, left: u64) -> Step
     }
     let y = quick_last(text, line);
     if y.good {
-        let block = Block::Last(y.value);
+        let block = BlockLine::Last(y.value);
         return Step { block, next: line };
     }
     read_step(text, line, left)
@@ -320,10 +404,10 @@ fn walk_lines(text: &[u8], from: usize, target: u64, query: u64, rows: &mut [u64
         let step = take_step(text, line, left);
         let block = step.block;
         match block {
-            Block::Refused(x) => {
-                return Lines::Refused(x);
+            BlockLine::Faulty(x) => {
+                return Lines::Faulty(x);
             }
-            Block::Last(z) => {
+            BlockLine::Last(z) => {
                 put_row(rows, ledger::BLOCK_LIMIT - left, t, q, z);
                 return Lines::Ended(Ending {
                     line,
@@ -332,7 +416,7 @@ fn walk_lines(text: &[u8], from: usize, target: u64, query: u64, rows: &mut [u64
                     query: q + z,
                 });
             }
-            Block::Gap(z, dt, dq) => {
+            BlockLine::Gap(z, dt, dq) => {
                 put_row(rows, ledger::BLOCK_LIMIT - left, t, q, z);
                 t = t + z + dt;
                 q = q + z + dq;
@@ -341,70 +425,70 @@ fn walk_lines(text: &[u8], from: usize, target: u64, query: u64, rows: &mut [u64
         }
         left -= 1;
     }
-    Lines::Refused(Refusal {
+    Lines::Faulty(Fault {
         reason: Reason::WrongCount,
         place: text.len(),
     })
 }
 
 // The blocks (9).
-fn check_fill(text: &[u8], r: Chain, e: Ending) -> Check
+fn check_fill(text: &[u8], r: Chain, e: Ending) -> Stage
     ensures { λ x. ⌜ x ≡ fillCheck (now (text .entry)) r e ⌝ }
 {
     let ends = (e.target == r.tEnd) & (e.query == r.qEnd);
-    text::require(ends, Reason::BlockRules, text.len(), Check::Holds)
+    text::require(ends, Reason::BlockRules, text.len(), Stage::Passes)
 }
 
 // The record, and the blocks.
-fn after_last(text: &[u8], values: &[u64], e: Ending) -> ChainAnswer
+fn after_last(text: &[u8], values: &[u64], e: Ending) -> ChainReading
     ensures { λ x. ⌜ x ≡ afterLast (now (text .entry)) (now (values .entry)) e ⌝ }
 {
     let r = record_of(values, e.count);
     match check_fill(text, r, e) {
-        Check::Refused(x) => ChainAnswer::Refused(x),
-        Check::Holds => ChainAnswer::Accepted(r),
+        Stage::Faulty(x) => ChainReading::Faulty(x),
+        Stage::Passes => ChainReading::Read(r),
     }
 }
 
 // A surplus line, and on.
-fn after_lines(text: &[u8], values: &[u64], e: Ending) -> ChainAnswer
+fn after_lines(text: &[u8], values: &[u64], e: Ending) -> ChainReading
     ensures { λ x. ⌜ x ≡ afterLines (now (text .entry)) (now (values .entry)) e ⌝ }
 {
     match text::check_last_line(text, e.line) {
-        Check::Refused(x) => ChainAnswer::Refused(x),
-        Check::Holds => after_last(text, values, e),
+        Stage::Faulty(x) => ChainReading::Faulty(x),
+        Stage::Passes => after_last(text, values, e),
     }
 }
 
 // The block lines from the top, and on; the header ends on the line of a place.
-fn after_spans(text: &[u8], end: usize, values: &[u64], rows: &mut [u64]) -> ChainAnswer
+fn after_spans(text: &[u8], end: usize, values: &[u64], rows: &mut [u64]) -> ChainReading
     requires { ⌜ Headed (now text) end (now values) (now rows) ⌝ }
-    ensures { λ x. ⌜ Staged (now (text .entry)) (afterSpans (now (text .entry)) (now (values .entry))) (now (rows .exit)) x ⌝ }
+    ensures { λ x. ⌜ Staged reading.Read (Held (now (text .entry))) (afterSpans (now (text .entry)) (now (values .entry))) (now (rows .exit)) x ⌝ }
 {
     let first = text::next_line(text, end);
-    let target = columns::value_at(values, 10);
-    let query = columns::value_at(values, 20);
+    let target = columns::value_of(values, T_START);
+    let query = columns::value_of(values, Q_START);
     match walk_lines(text, first, target, query, rows) {
-        Lines::Refused(x) => ChainAnswer::Refused(x),
+        Lines::Faulty(x) => ChainReading::Faulty(x),
         Lines::Ended(e) => after_lines(text, values, e),
     }
 }
 
 // The spans, and on.
-fn after_columns(text: &[u8], end: usize, values: &[u64], rows: &mut [u64]) -> ChainAnswer
+fn after_columns(text: &[u8], end: usize, values: &[u64], rows: &mut [u64]) -> ChainReading
     requires { ⌜ Headed (now text) end (now values) (now rows) ⌝ }
-    ensures { λ x. ⌜ Staged (now (text .entry)) (afterColumns (now (text .entry)) (now (values .entry))) (now (rows .exit)) x ⌝ }
+    ensures { λ x. ⌜ Staged reading.Read (Held (now (text .entry))) (afterColumns (now (text .entry)) (now (values .entry))) (now (rows .exit)) x ⌝ }
 {
     match check_spans(record_of(values, 0), values) {
-        Check::Refused(x) => ChainAnswer::Refused(x),
-        Check::Holds => after_spans(text, end, values, rows),
+        Stage::Faulty(x) => ChainReading::Faulty(x),
+        Stage::Passes => after_spans(text, end, values, rows),
     }
 }
 
 // A header taken in one pass: whether it is good, then its columns' values and places, and where it ends.
 pub struct Head {
     pub good: bool,
-    pub values: [u64; 26],
+    pub values: [u64; 2 * COLUMNS],
     pub end: usize,
 }
 
@@ -461,9 +545,9 @@ fn quick_head(text: &[u8]) -> Head
 }
 
 // The header's number of words, its columns from the left, and on.
-fn after_text(text: &[u8], rows: &mut [u64]) -> ChainAnswer
+fn after_text(text: &[u8], rows: &mut [u64]) -> ChainReading
     requires { ⌜ length (now rows) ≡ 3 * blockLimit ⌝ }
-    ensures { λ x. ⌜ Staged (now (text .entry)) (afterText (now (text .entry))) (now (rows .exit)) x ⌝ }
+    ensures { λ x. ⌜ Staged reading.Read (Held (now (text .entry))) (afterText (now (text .entry))) (now (rows .exit)) x ⌝ }
 {
     let q = quick_head(text);
     if q.good {
@@ -471,22 +555,22 @@ fn after_text(text: &[u8], rows: &mut [u64]) -> ChainAnswer
         return after_columns(text, q.end, &values, rows);
     }
     let table = CHAIN;
-    let mut values = [0u64; 26];
+    let mut values = [0u64; 2 * COLUMNS];
     let mut none = [0u64; 0];
     match columns::walk_words(text, &table, &mut values, &mut none) {
-        Columns::Refused(x) => ChainAnswer::Refused(x),
+        Columns::Faulty(x) => ChainReading::Faulty(x),
         Columns::Next(e) => after_columns(text, e, &values, rows),
     }
 }
 
 // All checks of a text, the rows of an accepted chain in the working room.
-fn stage(text: &[u8], rows: &mut [u64]) -> ChainAnswer
+fn stage(text: &[u8], rows: &mut [u64]) -> ChainReading
     requires { ⌜ length (now rows) ≡ 3 * blockLimit ⌝ }
-    ensures { λ x. ⌜ Staged (now (text .entry)) (chainCheck (now (text .entry))) (now (rows .exit)) x ⌝ }
+    ensures { λ x. ⌜ Staged reading.Read (Held (now (text .entry))) (chainStages (now (text .entry))) (now (rows .exit)) x ⌝ }
 {
     match text::check_text(text) {
-        Check::Refused(x) => ChainAnswer::Refused(x),
-        Check::Holds => after_text(text, rows),
+        Stage::Faulty(x) => ChainReading::Faulty(x),
+        Stage::Passes => after_text(text, rows),
     }
 }
 
@@ -495,7 +579,7 @@ pub fn check_chain_text(text: &[u8]) -> ChainAnswer
     ensures { λ r. ⌜ r ≡ chainCheck (now (text .entry)) ⌝ }
 {
     let mut rows = blocks::working_room();
-    stage(text, &mut rows)
+    answered(stage(text, &mut rows))
 }
 
 // The reader into working room for any record's blocks: targets, queries and sizes, each after the room for a record's
@@ -506,7 +590,7 @@ pub fn read_rows(text: &[u8], rows: &mut [u64]) -> ChainAnswer
     if rows.len() != blocks::ROOM {
         return check_chain_text(text);
     }
-    stage(text, rows)
+    answered(stage(text, rows))
 }
 
 // The room (11), then the rows into the lent slices.
@@ -517,7 +601,7 @@ fn store_rows(
     targets: &mut [u64],
     queries: &mut [u64],
     sizes: &mut [u64],
-) -> ChainAnswer
+) -> ChainReading
     requires { ⌜ Held (now text) r (now rows) ⌝ }
     ensures { λ x. ⌜ RowsStored (now (text .entry)) r (now (targets .entry)) (now (targets .exit)) (now (queries .entry))
         (now (queries .exit)) (now (sizes .entry)) (now (sizes .exit)) x ⌝ }
@@ -525,7 +609,7 @@ fn store_rows(
     let room = blocks::rows_of(targets, queries, sizes);
     let count = r.blockCount as usize;
     if room < count {
-        return ChainAnswer::Refused(Refusal {
+        return ChainReading::Faulty(Fault {
             reason: Reason::NoRoom,
             place: text.len(),
         });
@@ -535,7 +619,24 @@ fn store_rows(
     blocks::copy_numbers(rows, count, targets);
     blocks::copy_numbers(&rows[b..], count, queries);
     blocks::copy_numbers(&rows[c..], count, sizes);
-    ChainAnswer::Accepted(r)
+    ChainReading::Read(r)
+}
+
+// The checks, and the rows of a chain that passes them into the lent slices.
+fn read_blocks(
+    text: &[u8],
+    targets: &mut [u64],
+    queries: &mut [u64],
+    sizes: &mut [u64],
+) -> ChainReading
+    ensures { λ x. ⌜ BlocksRead (now (text .entry)) (now (targets .entry)) (now (targets .exit)) (now (queries .entry))
+        (now (queries .exit)) (now (sizes .entry)) (now (sizes .exit)) x ⌝ }
+{
+    let mut rows = blocks::working_room();
+    match stage(text, &mut rows) {
+        ChainReading::Faulty(x) => ChainReading::Faulty(x),
+        ChainReading::Read(r) => store_rows(text, r, &rows, targets, queries, sizes),
+    }
 }
 
 // THE READER: one chain, its blocks to the front of three lent slices. A refusal leaves them as they were, and rows past the
@@ -549,11 +650,7 @@ pub fn read_chain(
     ensures { λ x. ⌜ ChainRead (now (text .entry)) (now (targets .entry)) (now (targets .exit)) (now (queries .entry))
         (now (queries .exit)) (now (sizes .entry)) (now (sizes .exit)) x ⌝ }
 {
-    let mut rows = blocks::working_room();
-    match stage(text, &mut rows) {
-        ChainAnswer::Refused(x) => ChainAnswer::Refused(x),
-        ChainAnswer::Accepted(r) => store_rows(text, r, &rows, targets, queries, sizes),
-    }
+    answered(read_blocks(text, targets, queries, sizes))
 }
 
 // The two names by their lengths.
@@ -617,10 +714,9 @@ fn record_fits(r: Chain, targets: &[u64], queries: &[u64], sizes: &[u64]) -> boo
 pub fn check_chain(r: Chain, targets: &[u64], queries: &[u64], sizes: &[u64]) -> Check
     ensures { λ x. ⌜ x ≡ recordCheck r (now (targets .entry)) (now (queries .entry)) (now (sizes .entry)) ⌝ }
 {
-    text::require(
+    text::demand(
         record_fits(r, targets, queries, sizes),
         Reason::BlockRules,
-        0,
         Check::Holds,
     )
 }
@@ -648,35 +744,31 @@ fn check_write(
     let count = r.blockCount as usize;
     let rows = blocks::rows_of(targets, queries, sizes);
     let strand = r.qStrand;
-    let blocks = text::require(
+    let blocks = text::demand(
         rows_fit(r, targets, queries, sizes, count),
         Reason::BlockRules,
-        0,
         Check::Holds,
     );
-    let spans = text::require(spans_fit(r), Reason::SpanDisagrees, 0, blocks);
-    let numbers = text::require(
+    let spans = text::demand(spans_fit(r), Reason::SpanDisagrees, blocks);
+    let numbers = text::demand(
         fields_fit(r) & blocks::row_numbers_fit(targets, queries, sizes, count),
         Reason::NumberOutOfRange,
-        0,
         spans,
     );
-    let words = text::require(
+    let words = text::demand(
         names_show(tName, qName) & strand.is_told(),
         Reason::BadWord,
-        0,
         numbers,
     );
-    text::require(
+    text::demand(
         blocks::count_fits(r.blockCount, rows),
         Reason::BlockRules,
-        0,
         words,
     )
 }
 
 // A header's columns as the line writer takes them: the names stand one after the other in their own text.
-fn values_of(r: Chain, tName: usize, qName: usize) -> [u64; 26]
+fn values_of(r: Chain, tName: usize, qName: usize) -> [u64; 2 * COLUMNS]
     ensures { λ x. ⌜ x ≡ chainValues r tName qName ⌝ }
 {
     let strand = r.qStrand;
@@ -713,7 +805,7 @@ fn values_of(r: Chain, tName: usize, qName: usize) -> [u64; 26]
 
 // A block line of 3 words, or of 1.
 fn put_block(buf: &mut [u8], at: usize, n: usize, z: u64, dt: u64, dq: u64) -> usize
-    requires { ⌜ n ≤ 3 ⌝ }
+    requires { ⌜ n ≤ column.gapCount ⌝ }
     ensures { λ r. ⌜ Put (fedLine (take n blockColumns) 32 [] (z ∷ 0 ∷ dt ∷ 0 ∷ dq ∷ 0 ∷ []) []) at (now (buf .entry))
         (now (buf .exit)) r ⌝ }
 {
@@ -748,7 +840,7 @@ fn put_gap(
         z,
         columns::value_at(queries, i + 1),
     );
-    put_block(buf, at, 3, z, dt, dq)
+    put_block(buf, at, GAP_COLUMNS, z, dt, dq)
 }
 
 // The lines of the first so many rows.
@@ -771,7 +863,7 @@ fn put_blocks(
         p = put_gap(buf, p, i, targets, queries, sizes);
         i += 1;
     }
-    put_block(buf, p, 1, columns::value_at(sizes, last), 0, 0)
+    put_block(buf, p, LAST_COLUMNS, columns::value_at(sizes, last), 0, 0)
 }
 
 // The header's line, then the block lines.

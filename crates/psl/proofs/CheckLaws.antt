@@ -3,21 +3,22 @@ use mathlib.Core.Path.{_≡_, refl, sym, _∙_}
 use mathlib.Core.Bool.{Bool, true, false, not, _&&_}
 use mathlib.Core.List.{List}
 use Prim.Native.Nat.{ℕ}
-use native.Mathlib.Omega.{arith}
 use lib.ListN.{take}
 use lib.Dec.{leb}
 use borrow.Author.Tests.{leb-true, not-true, not-false}
 use Rattle.ledger.specs.Strands.{isTold}
 use Rattle.ledger.specs.Limits.{largestPosition}
 use Rattle.ledger.specs.declared.Reason.the-variants.{NumberOutOfRange}
+use Rattle.ledger.specs.declared.Refusal.{Refusal}
+use Rattle.ledger.specs.Refusals.{withoutText}
 use Rattle.text.specs.declared.Check.the-variants as check
 use Rattle.text.proofs.TextLaws.{both}
 use Rattle.blocks.specs.Blocks.{countFits, rowsOf, rowNumbersFit}
 use Rattle.psl.specs.declared.Psl.{Psl}
 use Rattle.psl.specs.Rows.{rowsFit, countsFit}
-use Rattle.psl.specs.Read.{CountsRange}
-use Rattle.psl.specs.Tests.{countNumbersFit, fieldsFit, spansFit, headFits, pslValid}
+use Rattle.psl.specs.Tests.{countNumbersFit, fieldsFit, spansFit, pslValid}
 use Rattle.psl.specs.Write.{numbersCheck}
+use Rattle.psl.specs.Steps.{CountsRange, headFits}
 use Rattle.columns.specs.Names.{lengthFits}
 
 -- counts in range
@@ -41,44 +42,44 @@ counts-range r e =
       tBaseInsert = leb-true _ _ (w .1);
     }
 
+-- what is tested first, and the rest
+head-rest : (a b c rest : Bool) → (a && (b && (c && rest))) ≡ ((a && (b && c)) && rest)
+head-rest true true c rest = refl
+head-rest true false c rest = refl
+head-rest false b c rest = refl
+
 module _ (r : Psl) (ts qs zs : List ℕ) (rows : ℕ) (er : rows ≡ rowsOf ts qs zs) (h : Bool) (eh : h ≡ headFits r rows) where
-  split-head : (a b c rest : Bool) → (a && (b && c)) ≡ true → (a && (b && (c && rest))) ≡ rest
-  split-head true true true rest e = refl
-  split-head true true false rest e = absurd (let z : _≡_ {A = ℕ} 0 1 = cc in omega arith)
-  split-head true false c rest e = absurd (let z : _≡_ {A = ℕ} 0 1 = cc in omega arith)
-  split-head false b c rest e = absurd (let z : _≡_ {A = ℕ} 0 1 = cc in omega arith)
-
-  no-head : (a b c rest : Bool) → (a && (b && c)) ≡ false → false ≡ (a && (b && (c && rest)))
-  no-head true true true rest e = absurd (let z : _≡_ {A = ℕ} 0 1 = cc in omega arith)
-  no-head true true false rest e = refl
-  no-head true false c rest e = refl
-  no-head false b c rest e = refl
-
   abbrev names : Bool
   names = lengthFits (r .query .name .length) && (lengthFits (r .target .name .length) && isTold (r .strand))
 
+  abbrev count : Bool
+  count = countFits (r .blockCount) (rowsOf ts qs zs)
+
+  head-is : h ≡ (count && (names && fieldsFit r))
+  unfolding headFits
+  head-is = rw er at eh
+
   pub head-bad : not h ≡ true → false ≡ pslValid r ts qs zs
-  unfolding pslValid headFits
-  head-bad q = no-head (countFits (r .blockCount) (rowsOf ts qs zs)) names (fieldsFit r) _ (rw er at (sym eh ∙ not-true h q))
+  unfolding pslValid
+  head-bad q = rw (head-rest count names (fieldsFit r), ← head-is, not-true h q)
 
   module _ (good : not h ≡ false) where
-    head-is : (countFits (r .blockCount) (rowsOf ts qs zs) && (names && fieldsFit r)) ≡ true
-    unfolding headFits
-    head-is = rw er at (sym eh ∙ not-false h good)
+    head-good : (count && (names && fieldsFit r)) ≡ true
+    head-good = sym head-is ∙ not-false h good
 
     pub head-range : CountsRange (r .counts)
-    head-range = counts-range r (both names (fieldsFit r) (both (countFits (r .blockCount) (rowsOf ts qs zs)) (names && fieldsFit r) head-is .1) .1)
+    head-range = counts-range r (both names (fieldsFit r) (both count (names && fieldsFit r) head-good .1) .1)
 
     pub record-is : (a b c d : Bool) → a ≡ rowNumbersFit (take (r .blockCount) ts) (take (r .blockCount) qs) (take (r .blockCount) zs) → b ≡ spansFit r
         → c ≡ rowsFit r (take (r .blockCount) ts) (take (r .blockCount) qs) (take (r .blockCount) zs)
         → d ≡ countsFit (r .counts) (take (r .blockCount) ts) (take (r .blockCount) qs) (take (r .blockCount) zs) → (a && (b && (c && d))) ≡ pslValid r ts qs zs
     unfolding pslValid
-    record-is a b c d ea eb ec ed = rw (ea, eb, ec, ed) (sym (split-head (countFits (r .blockCount) (rowsOf ts qs zs)) names (fieldsFit r) _ head-is))
+    record-is a b c d ea eb ec ed = rw (head-rest count names (fieldsFit r), head-good, ea, eb, ec, ed)
 
 -- the writer's checks from the numbers on
 module _ (r : Psl) (f : Bool) (ef : f ≡ fieldsFit r) where
-  pub numbers-bad : (ts qs zs : List ℕ) → not f ≡ true → check.Refused (record { reason = NumberOutOfRange; place = 0 }) ≡ numbersCheck r ts qs zs
-  numbers-bad ts qs zs q = rw (← ef, not-true f q)
+  pub numbers-bad : (ts qs zs : List ℕ) (x : Refusal) → not f ≡ true → x ≡ withoutText NumberOutOfRange → check.Refused x ≡ numbersCheck r ts qs zs
+  numbers-bad ts qs zs x q e = rw (← ef, not-true f q, e)
 
   module _ (good : not f ≡ false) where
     pub fields-good : fieldsFit r ≡ true

@@ -1,10 +1,6 @@
+pub mod AnswerLaws
 pub mod ReadLaws
 pub mod ColumnLaws
+pub mod StoreLaws
 pub mod CheckLaws
-pub mod RuleLaws
-pub mod LineLaws
-pub mod ValidLaws
 pub mod WriteLaws
-pub mod BackWordLaws
-pub mod BackLaws
-pub mod Vectors

@@ -16,7 +16,7 @@ use Rattle.text.specs.declared.Check.{Check}
 use Rattle.text.specs.declared.Check.the-variants.{Holds}
 use Rattle.text.specs.declared.Check.the-variants as check
 use Rattle.text.proofs.TextLaws.{both}
-use Rattle.text.proofs.CheckLaws.{require-holds}
+use Rattle.text.proofs.StageLaws.{require-holds}
 use Rattle.writing.specs.Answers.{Wrote}
 use Rattle.writing.specs.declared.Writing.{Writing}
 use Rattle.writing.specs.declared.Writing.the-variants as writing
@@ -32,7 +32,8 @@ use Rattle.blocks.specs.Blocks.{rowsOf}
 use Rattle.psl.specs.declared.Psl.{Psl}
 use Rattle.psl.specs.Table.{pslColumns}
 use Rattle.psl.proofs.ColumnLaws.{pslCodes, table-is}
-use Rattle.psl.specs.Write.{wordsShow, writeCheck, pslWords, pslText, pslValues, pslWrite, RowsThere, ListsPut, Writable, PslWrote}
+use Rattle.psl.specs.Write.{wordsShow, writeCheck, pslWords, pslText, pslWrite, PslWrote}
+use Rattle.psl.specs.Steps.{pslValues, RowsThere, ListsPut, Writable}
 use Rattle.columns.proofs.WordLaws.{letter-byte}
 
 -- three lists stored one after the other, room for a record's blocks each
@@ -78,7 +79,7 @@ module _ (r : Psl) (query target ts qs zs : List ℕ) (w : Writable r query targ
   rows-there l e = record { long = e; few = w .few; targets = w .targets; queries = w .queries; sizes = w .sizes }
 
 -- a record that passes the checks can be written
-pub check-writable : (r : Psl) (query target ts qs zs : List ℕ) → writeCheck r query target ts qs zs ≡ Holds → Writable r query target ts qs zs
+check-writable : (r : Psl) (query target ts qs zs : List ℕ) → writeCheck r query target ts qs zs ≡ Holds → Writable r query target ts qs zs
 unfolding writeCheck wordsShow
 check-writable r query target ts qs zs e =
     let a = require-holds _ _ _ e in

@@ -5,21 +5,22 @@ use mathlib.Core.List.{List, []}
 use lib.ListN.{length, take, getD}
 use Rattle.ledger.specs.declared.Part.{Part}
 use Rattle.ledger.specs.declared.Strand.the-variants.{Dot}
-use Rattle.ledger.specs.Limits.{nameLimit, blockLimit, largestPosition}
+use Rattle.ledger.specs.Limits.{nameLimit, largestPosition}
 use Rattle.ledger.specs.Strands.{strandLetter}
 use Rattle.ledger.specs.Parts.{partAt}
 use Rattle.text.specs.Words.{wordAt}
 use Rattle.columns.specs.OneLine.{OneLine}
 use Rattle.blocks.specs.Blocks.{sumOf, gapCount, gapBases}
-use Rattle.blocks.specs.Rules.{Fills, Ranged}
+use Rattle.blocks.specs.Rules.{Fills, RowsInUse}
+use Rattle.blocks.specs.Strands.{strandStart, strandEnd}
 use Rattle.psl.specs.declared.Counts.{Counts}
 use Rattle.psl.specs.declared.Side.{Side}
 use Rattle.psl.specs.declared.Psl.{Psl}
 use Rattle.psl.specs.Table.{pslColumns}
-use Rattle.psl.specs.Rows.{firstOn, lastOn}
+use Rattle.psl.specs.Columns as column
 use Rattle.columns.specs.Names.{partOf}
 
--- a side of a record is what its columns, from number k on, spell: name, size, start, end
+-- a side of a record is what its columns spell, from its name's column k on: name, size, start, end
 pub record SideSays (s vs : List ℕ) (k : ℕ) (x : Side) : Type 0 where
   pub name : x .name ≡ partOf (wordAt s 0 k)
   pub size : x .size ≡ getD vs (k + 1) 0
@@ -43,27 +44,27 @@ pub record CountRules (c : Counts) (ts qs zs : List ℕ) : Type 0 where
 pub record PslLine (s vs : List ℕ) (ls : List (List ℕ)) (r : Psl) (ts qs zs : List ℕ) : Type 0 where
   pub line : OneLine pslColumns s vs ls
   -- the record is what the words spell
-  pub matches : r .counts .matches ≡ getD vs 0 0
-  pub misMatches : r .counts .misMatches ≡ getD vs 1 0
-  pub repMatches : r .counts .repMatches ≡ getD vs 2 0
-  pub nCount : r .counts .nCount ≡ getD vs 3 0
-  pub qNumInsert : r .counts .qNumInsert ≡ getD vs 4 0
-  pub qBaseInsert : r .counts .qBaseInsert ≡ getD vs 5 0
-  pub tNumInsert : r .counts .tNumInsert ≡ getD vs 6 0
-  pub tBaseInsert : r .counts .tBaseInsert ≡ getD vs 7 0
-  pub strand : strandLetter (r .strand) ≡ getD vs 8 0
-  pub query : SideSays s vs 9 (r .query)
-  pub target : SideSays s vs 13 (r .target)
-  pub blockCount : r .blockCount ≡ getD vs 17 0
-  pub listedSizes : zs ≡ getD ls 18 []
-  pub listedQueries : qs ≡ getD ls 19 []
-  pub listedTargets : ts ≡ getD ls 20 []
+  pub matches : r .counts .matches ≡ getD vs column.matches 0
+  pub misMatches : r .counts .misMatches ≡ getD vs column.misMatches 0
+  pub repMatches : r .counts .repMatches ≡ getD vs column.repMatches 0
+  pub nCount : r .counts .nCount ≡ getD vs column.nCount 0
+  pub qNumInsert : r .counts .qNumInsert ≡ getD vs column.qNumInsert 0
+  pub qBaseInsert : r .counts .qBaseInsert ≡ getD vs column.qBaseInsert 0
+  pub tNumInsert : r .counts .tNumInsert ≡ getD vs column.tNumInsert 0
+  pub tBaseInsert : r .counts .tBaseInsert ≡ getD vs column.tBaseInsert 0
+  pub strand : strandLetter (r .strand) ≡ getD vs column.strand 0
+  pub query : SideSays s vs column.qName (r .query)
+  pub target : SideSays s vs column.tName (r .target)
+  pub blockCount : r .blockCount ≡ getD vs column.blockCount 0
+  pub listedSizes : zs ≡ getD ls column.blockSizes []
+  pub listedQueries : qs ≡ getD ls column.qStarts []
+  pub listedTargets : ts ≡ getD ls column.tStarts []
   -- the spans
   pub querySpan : SpanIn (r .query)
   pub targetSpan : SpanIn (r .target)
   -- the blocks, on each side in order from first start to last end; with `-` the query's count on the reversed query
   pub targetBlocks : Fills (r .target .start) (r .target .end) (r .blockCount) ts zs
-  pub queryBlocks : Fills (firstOn (r .strand) (r .query)) (lastOn (r .strand) (r .query)) (r .blockCount) qs zs
+  pub queryBlocks : Fills (strandStart (r .strand) (r .query .size) (r .query .start) (r .query .end)) (strandEnd (r .strand) (r .query .size) (r .query .start) (r .query .end)) (r .blockCount) qs zs
   -- the house counts
   pub counts : CountRules (r .counts) ts qs zs
 
@@ -78,11 +79,7 @@ pub record SideRange (x : Side) : Type 0 where
 
 -- the record r with the first blockCount rows of ts, qs, zs is a PSL record
 pub record PslRules (r : Psl) (ts qs zs : List ℕ) : Type 0 where
-  pub someBlock : 1 ≤ r .blockCount
-  pub fewBlocks : r .blockCount ≤ blockLimit
-  pub targetRows : r .blockCount ≤ length ts
-  pub queryRows : r .blockCount ≤ length qs
-  pub sizeRows : r .blockCount ≤ length zs
+  pub rows : RowsInUse (r .blockCount) ts qs zs
   pub strand : r .strand ≡ Dot → ⊥
   -- ranges
   pub queryRange : SideRange (r .query)
@@ -95,15 +92,12 @@ pub record PslRules (r : Psl) (ts qs zs : List ℕ) : Type 0 where
   pub qBaseInsertRange : r .counts .qBaseInsert ≤ largestPosition
   pub tNumInsertRange : r .counts .tNumInsert ≤ largestPosition
   pub tBaseInsertRange : r .counts .tBaseInsert ≤ largestPosition
-  pub targetsRange : Ranged 0 largestPosition (r .blockCount) ts
-  pub queriesRange : Ranged 0 largestPosition (r .blockCount) qs
-  pub sizesRange : Ranged 1 largestPosition (r .blockCount) zs
   -- the spans
   pub querySpan : SpanIn (r .query)
   pub targetSpan : SpanIn (r .target)
   -- the blocks
   pub targetBlocks : Fills (r .target .start) (r .target .end) (r .blockCount) ts zs
-  pub queryBlocks : Fills (firstOn (r .strand) (r .query)) (lastOn (r .strand) (r .query)) (r .blockCount) qs zs
+  pub queryBlocks : Fills (strandStart (r .strand) (r .query .size) (r .query .start) (r .query .end)) (strandEnd (r .strand) (r .query .size) (r .query .start) (r .query .end)) (r .blockCount) qs zs
   -- the house counts
   pub counts : CountRules (r .counts) (take (r .blockCount) ts) (take (r .blockCount) qs) (take (r .blockCount) zs)
 
@@ -125,7 +119,7 @@ unfoldable pub placed : List ℕ → Psl → Psl
 placed s r = record {
   counts = r .counts;
   strand = r .strand;
-  query = renamed (r .query) (partOf (wordAt s 0 9));
-  target = renamed (r .target) (partOf (wordAt s 0 13));
+  query = renamed (r .query) (partOf (wordAt s 0 column.qName));
+  target = renamed (r .target) (partOf (wordAt s 0 column.tName));
   blockCount = r .blockCount;
 }

@@ -31,10 +31,6 @@ fieldsFit r = countNumbersFit (r .counts) && (sideFits (r .query) && sideFits (r
 unfoldable pub spansFit : Psl → Bool
 spansFit r = spanFits (r .query .start) (r .query .end) (r .query .size) && spanFits (r .target .start) (r .target .end) (r .target .size)
 
--- what is tested before the rows: the count of blocks, the names by length, the strand, the numbers
-unfoldable pub headFits : Psl → ℕ → Bool
-headFits r rows = countFits (r .blockCount) rows && ((lengthFits (r .query .name .length) && (lengthFits (r .target .name .length) && isTold (r .strand))) && fieldsFit r)
-
 -- a valid record with its rows: the first blockCount rows of the three slices
 unfoldable pub pslValid : Psl → List ℕ → List ℕ → List ℕ → Bool
 pslValid r ts qs zs =

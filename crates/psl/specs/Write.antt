@@ -1,20 +1,18 @@
 -- Writing a PSL record: the writers' refusals in their order, and the standard text; and the record checker.
-use Prim.Native.Nat.{ℕ, _*_, _≤_}
+use Prim.Native.Nat.{ℕ}
 use mathlib.Core.Path.{_≡_}
 use mathlib.Core.Bool.{Bool, _&&_}
 use mathlib.Core.List.{List, [], _∷_, _++_}
-use lib.ListN.{length, take, drop}
+use lib.ListN.{length, take}
 use Rattle.ledger.specs.declared.Reason.the-variants.{NumberOutOfRange, BadWord, SpanDisagrees, BlockRules, CountsDisagree}
-use Rattle.ledger.specs.Limits.{nameLimit, blockLimit}
+use Rattle.ledger.specs.Refusals.{require}
 use Rattle.ledger.specs.Strands.{strandLetter, isTold}
 use Rattle.text.specs.declared.Check.{Check}
 use Rattle.text.specs.declared.Check.the-variants.{Holds}
-use Rattle.text.specs.declared.Check.the-variants as check
-use Rattle.text.specs.Checks.{require}
+use Rattle.text.specs.Checks.{refused}
 use Rattle.text.specs.Pieces.{joined}
 use Rattle.writing.specs.Digits.{digits, listText}
 use Rattle.writing.specs.declared.Writing.{Writing}
-use Rattle.writing.specs.declared.Writing.the-variants as writing
 use Rattle.writing.specs.Answers.{roomAnswer, leftAfter}
 use Rattle.blocks.specs.Blocks.{countFits, rowsOf, rowNumbersFit}
 use Rattle.psl.specs.declared.Psl.{Psl}
@@ -23,28 +21,28 @@ use Rattle.psl.specs.Tests.{fieldsFit, spansFit, pslValid}
 use Rattle.columns.specs.Names.{lengthFits, allGraphic}
 use Rattle.columns.specs.Lines.{thenWrite}
 
--- THE RECORD CHECKER: any breach is 9, at place 0
+-- THE RECORD CHECKER: any breach is 9
 unfoldable pub recordCheck : Psl → List ℕ → List ℕ → List ℕ → Check
-recordCheck r ts qs zs = require (pslValid r ts qs zs) BlockRules 0 Holds
+recordCheck r ts qs zs = require (pslValid r ts qs zs) (refused BlockRules) Holds
 
 -- the names that are handed in: their lengths, and that all their bytes show; and the strand
 unfoldable pub wordsShow : Psl → List ℕ → List ℕ → Bool
 wordsShow r qName tName = (lengthFits (length qName) && (lengthFits (length tName) && isTold (r .strand))) && (allGraphic qName && allGraphic tName)
 
--- the refusals from the numbers on, each at place 0: the numbers, a row's too (5); spans (7); blocks (9); counts (10)
+-- the refusals from the numbers on: the numbers, a row's too (5); spans (7); blocks (9); counts (10)
 abbrev pub numbersCheck : Psl → List ℕ → List ℕ → List ℕ → Check
 numbersCheck r ts qs zs =
-    require (fieldsFit r && rowNumbersFit (take (r .blockCount) ts) (take (r .blockCount) qs) (take (r .blockCount) zs)) NumberOutOfRange 0
-    (require (spansFit r) SpanDisagrees 0
-    (require (rowsFit r (take (r .blockCount) ts) (take (r .blockCount) qs) (take (r .blockCount) zs)) BlockRules 0
-    (require (countsFit (r .counts) (take (r .blockCount) ts) (take (r .blockCount) qs) (take (r .blockCount) zs)) CountsDisagree 0
+    require (fieldsFit r && rowNumbersFit (take (r .blockCount) ts) (take (r .blockCount) qs) (take (r .blockCount) zs)) (refused NumberOutOfRange)
+    (require (spansFit r) (refused SpanDisagrees)
+    (require (rowsFit r (take (r .blockCount) ts) (take (r .blockCount) qs) (take (r .blockCount) zs)) (refused BlockRules)
+    (require (countsFit (r .counts) (take (r .blockCount) ts) (take (r .blockCount) qs) (take (r .blockCount) zs)) (refused CountsDisagree)
     Holds)))
 
--- all refusals, each at place 0: a bad row count (9); names and strand (6); then those from the numbers on
+-- all refusals: a bad row count (9); names and strand (6); then those from the numbers on
 unfoldable pub writeCheck : Psl → List ℕ → List ℕ → List ℕ → List ℕ → List ℕ → Check
 writeCheck r qName tName ts qs zs =
-    require (countFits (r .blockCount) (rowsOf ts qs zs)) BlockRules 0
-    (require (wordsShow r qName tName) BadWord 0
+    require (countFits (r .blockCount) (rowsOf ts qs zs)) (refused BlockRules)
+    (require (wordsShow r qName tName) (refused BadWord)
     (numbersCheck r ts qs zs))
 
 -- the twenty-one words of a record: ts, qs and zs are the targets, queries and sizes of its rows
@@ -67,31 +65,3 @@ pslWrite r qName tName ts qs zs room = thenWrite (writeCheck r qName tName ts qs
 pub record PslWrote (r : Psl) (qName tName ts qs zs before after : List ℕ) (x : Writing) : Type 0 where
   pub is : x ≡ pslWrite r qName tName ts qs zs (length before)
   pub left : after ≡ leftAfter x (pslText r qName tName ts qs zs) before
-
--- the words as values by column, for the line writer: two numbers a column, a name's length and where it stands in a text of names
-unfoldable pub pslValues : Psl → ℕ → ℕ → List ℕ
-pslValues r query target =
-    r .counts .matches ∷ 0 ∷ r .counts .misMatches ∷ 0 ∷ r .counts .repMatches ∷ 0 ∷ r .counts .nCount ∷ 0 ∷ r .counts .qNumInsert ∷ 0 ∷ r .counts .qBaseInsert ∷ 0
-    ∷ r .counts .tNumInsert ∷ 0 ∷ r .counts .tBaseInsert ∷ 0 ∷ strandLetter (r .strand) ∷ 0 ∷ query ∷ 0 ∷ r .query .size ∷ 0 ∷ r .query .start ∷ 0 ∷ r .query .end ∷ 0
-    ∷ target ∷ nameLimit ∷ r .target .size ∷ 0 ∷ r .target .start ∷ 0 ∷ r .target .end ∷ 0 ∷ r .blockCount ∷ 0 ∷ r .blockCount ∷ 0 ∷ r .blockCount ∷ 0 ∷ r .blockCount ∷ 0 ∷ []
-
--- the stages of writing a record that passed the checks: the three lists of its blocks
-pub record RowsThere (n : ℕ) (ts qs zs lists : List ℕ) : Type 0 where
-  pub long : length lists ≡ 3 * blockLimit
-  pub few : n ≤ blockLimit
-  pub targets : n ≤ length ts
-  pub queries : n ≤ length qs
-  pub sizes : n ≤ length zs
-
-pub record ListsPut (n : ℕ) (ts qs zs lists : List ℕ) : Type 0 where
-  pub sizes : take n (drop 0 lists) ≡ take n zs
-  pub queries : take n (drop blockLimit lists) ≡ take n qs
-  pub targets : take n (drop (2 * blockLimit) lists) ≡ take n ts
-
-pub record Writable (r : Psl) (query target ts qs zs : List ℕ) : Type 0 where
-  pub queryShort : length query ≤ nameLimit
-  pub targetShort : length target ≤ nameLimit
-  pub few : r .blockCount ≤ blockLimit
-  pub targets : r .blockCount ≤ length ts
-  pub queries : r .blockCount ≤ length qs
-  pub sizes : r .blockCount ≤ length zs

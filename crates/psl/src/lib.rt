@@ -2,19 +2,27 @@
 ghost use mathlib.Core.Path.{_≡_};
 ghost use Prim.Native.Nat.{_*_, _≤_};
 ghost use lib.ListN.{length, take};
-ghost use Rattle.ledger.specs.Limits.{nameLimit, blockLimit};
+ghost use Rattle.ledger.specs.Limits.{blockLimit};
+ghost use Rattle.text.specs.Checks.{thenCheck, roomCheck};
+ghost use Rattle.text.specs.Steps.{Staged};
 ghost use Rattle.writing.specs.Answers.{Wrote};
+ghost use Rattle.columns.specs.Columns.{columnLimit};
+ghost use Rattle.blocks.specs.Blocks.{rowsOf};
+ghost use Rattle.psl.specs.declared.PslReading.the-variants as reading;
 ghost use Rattle.psl.specs.Records.{countsOf, sideOf, pslRecord};
-ghost use Rattle.psl.specs.Rows.{firstOn, lastOn, rowsFit, countsFit};
-ghost use Rattle.psl.specs.Tests.{sideFits, countNumbersFit, fieldsFit, spansFit, headFits, pslValid};
-ghost use Rattle.psl.specs.Write.{wordsShow, numbersCheck, writeCheck, pslText, pslValues, RowsThere, ListsPut, Writable, PslWrote, recordCheck};
-ghost use Rattle.psl.specs.Read.{spanCheck, rowCheck, afterLine, pslCheck, CountsRange, Listed, Ready, Staged, InRoom, RowsStored, PslRead};
+ghost use Rattle.psl.specs.Rows.{rowsFit, countsFit};
+ghost use Rattle.psl.specs.Tests.{sideFits, countNumbersFit, fieldsFit, spansFit, pslValid};
+ghost use Rattle.psl.specs.Write.{wordsShow, numbersCheck, writeCheck, pslText, PslWrote, recordCheck};
+ghost use Rattle.psl.specs.Read.{spanCheck, rowCheck, afterLine, pslStages, roomStages, pslAnswer, pslCheck, Listed, InRoom, PslRead};
+ghost use Rattle.psl.specs.Steps.{CountsRange, Ready, RowsStored, headFits, pslValues, RowsThere, ListsPut, Writable};
 use columns::Columns;
+use ledger::Fault;
 use ledger::Part;
 use ledger::Reason;
 use ledger::Refusal;
 use ledger::Strand;
 use text::Check;
+use text::Stage;
 use writing::Writing;
 
 // The eight counts of a PSL line.
@@ -46,34 +54,73 @@ pub struct Psl {
     pub blockCount: u64,
 }
 
+// What the checks of a text find: its record, or the first fault.
+pub enum PslReading {
+    Read(Psl),
+    Faulty(Fault),
+}
+
+// What a caller is told.
 pub enum PslAnswer {
     Accepted(Psl),
     Refused(Refusal),
 }
 
-// The codes of specs/Table.antt's columns.
-const PSL: [u8; 21] = [
-    1,
-    1,
-    1,
-    1,
-    1,
-    1,
-    1,
-    1,
-    9,
-    0,
-    2,
-    1,
-    1,
-    0,
-    2,
-    1,
-    1,
-    6,
-    7,
-    8,
-    8,
+// The columns by their numbers, as specs/Columns.antt has them.
+const MATCHES: usize = 0;
+
+const MIS_MATCHES: usize = 1;
+
+const REP_MATCHES: usize = 2;
+
+const N_COUNT: usize = 3;
+
+const Q_NUM_INSERT: usize = 4;
+
+const Q_BASE_INSERT: usize = 5;
+
+const T_NUM_INSERT: usize = 6;
+
+const T_BASE_INSERT: usize = 7;
+
+const STRAND: usize = 8;
+
+const Q_NAME: usize = 9;
+
+const Q_END: usize = 12;
+
+const T_NAME: usize = 13;
+
+const T_END: usize = 16;
+
+const BLOCK_COUNT: usize = 17;
+
+// So many columns.
+const COLUMNS: usize = 21;
+
+// Their kinds, as specs/Table.antt has them.
+const PSL: [u8; COLUMNS] = [
+    kinds::COORDINATE,
+    kinds::COORDINATE,
+    kinds::COORDINATE,
+    kinds::COORDINATE,
+    kinds::COORDINATE,
+    kinds::COORDINATE,
+    kinds::COORDINATE,
+    kinds::COORDINATE,
+    kinds::STRAND,
+    kinds::NAME,
+    kinds::SIZE,
+    kinds::COORDINATE,
+    kinds::COORDINATE,
+    kinds::NAME,
+    kinds::SIZE,
+    kinds::COORDINATE,
+    kinds::COORDINATE,
+    kinds::COUNT,
+    kinds::SIZES,
+    kinds::STARTS,
+    kinds::STARTS,
 ];
 
 // The eight counts, from the columns' values.
@@ -81,31 +128,30 @@ fn counts_of(values: &[u64]) -> Counts
     ensures { λ r. ⌜ r ≡ countsOf (now (values .entry)) ⌝ }
 {
     Counts {
-        matches: columns::value_at(values, 0),
-        misMatches: columns::value_at(values, 2),
-        repMatches: columns::value_at(values, 4),
-        nCount: columns::value_at(values, 6),
-        qNumInsert: columns::value_at(values, 8),
-        qBaseInsert: columns::value_at(values, 10),
-        tNumInsert: columns::value_at(values, 12),
-        tBaseInsert: columns::value_at(values, 14),
+        matches: columns::value_of(values, MATCHES),
+        misMatches: columns::value_of(values, MIS_MATCHES),
+        repMatches: columns::value_of(values, REP_MATCHES),
+        nCount: columns::value_of(values, N_COUNT),
+        qNumInsert: columns::value_of(values, Q_NUM_INSERT),
+        qBaseInsert: columns::value_of(values, Q_BASE_INSERT),
+        tNumInsert: columns::value_of(values, T_NUM_INSERT),
+        tBaseInsert: columns::value_of(values, T_BASE_INSERT),
     }
 }
 
-// One side, from its columns: name, size, start, end.
+// One side, from its name's column on: name, size, start, end.
 fn side_of(values: &[u64], k: usize) -> Side
-    requires { ⌜ k ≤ 21 ⌝ }
+    requires { ⌜ k ≤ columnLimit ⌝ }
     ensures { λ r. ⌜ r ≡ sideOf (now (values .entry)) k ⌝ }
 {
-    let at = 2 * k;
     Side {
         name: Part::of_values(
-            columns::value_at(values, at + 1),
-            columns::value_at(values, at),
+            columns::place_of(values, k),
+            columns::value_of(values, k),
         ),
-        size: columns::value_at(values, at + 2),
-        start: columns::value_at(values, at + 4),
-        end: columns::value_at(values, at + 6),
+        size: columns::value_of(values, k + 1),
+        start: columns::value_of(values, k + 2),
+        end: columns::value_of(values, k + 3),
     }
 }
 
@@ -114,31 +160,31 @@ fn record_of(values: &[u64]) -> Psl
     ensures { λ r. ⌜ r ≡ pslRecord (now (values .entry)) ⌝ }
 {
     let counts = counts_of(values);
-    let strand = Strand::of_value(columns::value_at(values, 16));
-    let query = side_of(values, 9);
-    let target = side_of(values, 13);
+    let strand = Strand::of_value(columns::value_of(values, STRAND));
+    let query = side_of(values, Q_NAME);
+    let target = side_of(values, T_NAME);
     Psl {
         counts,
         strand,
         query,
         target,
-        blockCount: columns::value_at(values, 34),
+        blockCount: columns::value_of(values, BLOCK_COUNT),
     }
 }
 
 // The spans (7): the query's, then the target's.
-fn check_spans(r: Psl, values: &[u64]) -> Check
+fn check_spans(r: Psl, values: &[u64]) -> Stage
     ensures { λ x. ⌜ x ≡ spanCheck r (now (values .entry)) ⌝ }
 {
     let query = r.query;
     let target = r.target;
-    let query_end = columns::value_at(values, 25) as usize;
-    let target_end = columns::value_at(values, 33) as usize;
+    let query_end = columns::place_of(values, Q_END) as usize;
+    let target_end = columns::place_of(values, T_END) as usize;
     let last = text::require(
         blocks::span_fits(target.start, target.end, target.size),
         Reason::SpanDisagrees,
         target_end,
-        Check::Holds,
+        Stage::Passes,
     );
     text::require(
         blocks::span_fits(query.start, query.end, query.size),
@@ -148,29 +194,7 @@ fn check_spans(r: Psl, values: &[u64]) -> Check
     )
 }
 
-// Where the first block starts on the query.
-fn first_on(strand: Strand, x: Side) -> u64
-    ensures { λ r. ⌜ r ≡ firstOn strand x ⌝ }
-{
-    match strand {
-        Strand::Plus => x.start,
-        Strand::Minus => blocks::less(x.size, x.end),
-        Strand::Dot => x.start,
-    }
-}
-
-// Where the last block ends on the query.
-fn last_on(strand: Strand, x: Side) -> u64
-    ensures { λ r. ⌜ r ≡ lastOn strand x ⌝ }
-{
-    match strand {
-        Strand::Plus => x.end,
-        Strand::Minus => blocks::less(x.size, x.start),
-        Strand::Dot => x.end,
-    }
-}
-
-// The blocks of both sides.
+// The blocks of both sides, the query's as its strand counts.
 fn rows_fit(r: Psl, targets: &[u64], queries: &[u64], sizes: &[u64], count: usize) -> bool
     ensures { λ x. ⌜ x ≡ rowsFit r (take count (now (targets .entry))) (take count (now (queries .entry)))
         (take count (now (sizes .entry))) ⌝ }
@@ -178,14 +202,10 @@ fn rows_fit(r: Psl, targets: &[u64], queries: &[u64], sizes: &[u64], count: usiz
     let strand = r.strand;
     let query = r.query;
     let target = r.target;
+    let first = blocks::strand_start(strand, query.size, query.start, query.end);
+    let last = blocks::strand_end(strand, query.size, query.start, query.end);
     blocks::blocks_fill(targets, sizes, count, target.start, target.end)
-        & blocks::blocks_fill(
-            queries,
-            sizes,
-            count,
-            first_on(strand, query),
-            last_on(strand, query),
-        )
+        & blocks::blocks_fill(queries, sizes, count, first, last)
 }
 
 // The house counts of the used rows.
@@ -203,7 +223,7 @@ fn counts_fit(c: Counts, targets: &[u64], queries: &[u64], sizes: &[u64], count:
 }
 
 // The blocks (9), then the counts (10), in the working room.
-fn check_rows(text: &[u8], r: Psl, lists: &[u64]) -> Check
+fn check_rows(text: &[u8], r: Psl, lists: &[u64]) -> Stage
     requires { ⌜ Ready (now text) r (now lists) ⌝ }
     ensures { λ x. ⌜ x ≡ rowCheck (now (text .entry)) r ⌝ }
 {
@@ -217,7 +237,7 @@ fn check_rows(text: &[u8], r: Psl, lists: &[u64]) -> Check
         counts_fit(counts, targets, queries, lists, count),
         Reason::CountsDisagree,
         text.len(),
-        Check::Holds,
+        Stage::Passes,
     );
     text::require(
         rows_fit(r, targets, queries, lists, count),
@@ -227,31 +247,41 @@ fn check_rows(text: &[u8], r: Psl, lists: &[u64]) -> Check
     )
 }
 
-// The spans, the blocks and the counts, and the answer.
-fn after_line(text: &[u8], values: &[u64], lists: &[u64]) -> PslAnswer
+// The spans, the blocks and the counts, and the record.
+fn after_line(text: &[u8], values: &[u64], lists: &[u64]) -> PslReading
     requires { ⌜ Ready (now text) (pslRecord (now values)) (now lists) ⌝ }
     ensures { λ x. ⌜ x ≡ afterLine (now (text .entry)) (now (values .entry)) ⌝ }
 {
     let r = record_of(values);
     match check_spans(r, values) {
-        Check::Refused(x) => PslAnswer::Refused(x),
-        Check::Holds => match check_rows(text, r, lists) {
-            Check::Refused(x) => PslAnswer::Refused(x),
-            Check::Holds => PslAnswer::Accepted(r),
+        Stage::Faulty(x) => PslReading::Faulty(x),
+        Stage::Passes => match check_rows(text, r, lists) {
+            Stage::Faulty(x) => PslReading::Faulty(x),
+            Stage::Passes => PslReading::Read(r),
         },
     }
 }
 
-// All checks of a text, the blocks of an accepted line in the working room.
-fn stage(text: &[u8], lists: &mut [u64]) -> PslAnswer
+// All checks of a text, the blocks of a good line in the working room.
+fn stage(text: &[u8], lists: &mut [u64]) -> PslReading
     requires { ⌜ length (now lists) ≡ 3 * blockLimit ⌝ }
-    ensures { λ x. ⌜ Staged (now (text .entry)) (pslCheck (now (text .entry))) (now (lists .exit)) x ⌝ }
+    ensures { λ x. ⌜ Staged reading.Read (Listed (now (text .entry))) (pslStages (now (text .entry))) (now (lists .exit)) x ⌝ }
 {
     let table = PSL;
-    let mut values = [0u64; 42];
+    let mut values = [0u64; 2 * COLUMNS];
     match columns::walk_text(text, &table, &mut values, lists) {
-        Columns::Refused(x) => PslAnswer::Refused(x),
+        Columns::Faulty(x) => PslReading::Faulty(x),
         Columns::Next(_) => after_line(text, &values, lists),
+    }
+}
+
+// What a caller is told of a reading.
+fn answered(x: PslReading) -> PslAnswer
+    ensures { λ r. ⌜ r ≡ pslAnswer x ⌝ }
+{
+    match x {
+        PslReading::Read(r) => PslAnswer::Accepted(r),
+        PslReading::Faulty(f) => PslAnswer::Refused(Refusal::at(f)),
     }
 }
 
@@ -260,7 +290,7 @@ pub fn check_psl_text(text: &[u8]) -> PslAnswer
     ensures { λ r. ⌜ r ≡ pslCheck (now (text .entry)) ⌝ }
 {
     let mut lists = blocks::working_room();
-    stage(text, &mut lists)
+    answered(stage(text, &mut lists))
 }
 
 // The reader into working room for any record's blocks: sizes, queries and targets, each after the room for a record's
@@ -271,7 +301,7 @@ pub fn read_lists(text: &[u8], lists: &mut [u64]) -> PslAnswer
     if lists.len() != blocks::ROOM {
         return check_psl_text(text);
     }
-    stage(text, lists)
+    answered(stage(text, lists))
 }
 
 // The room (11), then the rows into the lent slices.
@@ -282,15 +312,17 @@ fn store_rows(
     targets: &mut [u64],
     queries: &mut [u64],
     sizes: &mut [u64],
-) -> PslAnswer
+) -> PslReading
     requires { ⌜ Listed (now text) r (now lists) ⌝ }
-    ensures { λ x. ⌜ RowsStored (now (text .entry)) r (now (targets .entry)) (now (targets .exit)) (now (queries .entry))
-        (now (queries .exit)) (now (sizes .entry)) (now (sizes .exit)) x ⌝ }
+    ensures { λ x. ⌜ RowsStored (thenCheck reading.Faulty (roomCheck (now (text .entry)) (r .blockCount) (rowsOf
+        (now (targets .entry)) (now (queries .entry)) (now (sizes .entry)))) (reading.Read r)) (now (text .entry))
+        (now (targets .entry)) (now (targets .exit)) (now (queries .entry)) (now (queries .exit)) (now (sizes .entry))
+        (now (sizes .exit)) x ⌝ }
 {
     let room = blocks::rows_of(targets, queries, sizes);
     let count = r.blockCount as usize;
     if room < count {
-        return PslAnswer::Refused(Refusal {
+        return PslReading::Faulty(Fault {
             reason: Reason::NoRoom,
             place: text.len(),
         });
@@ -300,7 +332,26 @@ fn store_rows(
     blocks::copy_numbers(&lists[d..], count, targets);
     blocks::copy_numbers(&lists[b..], count, queries);
     blocks::copy_numbers(lists, count, sizes);
-    PslAnswer::Accepted(r)
+    PslReading::Read(r)
+}
+
+// All checks of a text, the room last, and the rows of a good line.
+fn read_rows(
+    text: &[u8],
+    targets: &mut [u64],
+    queries: &mut [u64],
+    sizes: &mut [u64],
+) -> PslReading
+    ensures { λ x. ⌜ RowsStored (roomStages (now (text .entry)) (rowsOf (now (targets .entry))
+        (now (queries .entry)) (now (sizes .entry)))) (now (text .entry))
+        (now (targets .entry)) (now (targets .exit)) (now (queries .entry)) (now (queries .exit)) (now (sizes .entry))
+        (now (sizes .exit)) x ⌝ }
+{
+    let mut lists = blocks::working_room();
+    match stage(text, &mut lists) {
+        PslReading::Faulty(x) => PslReading::Faulty(x),
+        PslReading::Read(r) => store_rows(text, r, &lists, targets, queries, sizes),
+    }
 }
 
 // THE READER: one PSL line, its blocks to the front of three lent slices. A refusal leaves them as they were, and rows past the
@@ -314,11 +365,7 @@ pub fn read_psl(
     ensures { λ x. ⌜ PslRead (now (text .entry)) (now (targets .entry)) (now (targets .exit)) (now (queries .entry))
         (now (queries .exit)) (now (sizes .entry)) (now (sizes .exit)) x ⌝ }
 {
-    let mut lists = blocks::working_room();
-    match stage(text, &mut lists) {
-        PslAnswer::Refused(x) => PslAnswer::Refused(x),
-        PslAnswer::Accepted(r) => store_rows(text, r, &lists, targets, queries, sizes),
-    }
+    answered(read_rows(text, targets, queries, sizes))
 }
 
 // The numbers of a side.
@@ -396,10 +443,9 @@ fn record_fits(r: Psl, targets: &[u64], queries: &[u64], sizes: &[u64]) -> bool
 pub fn check_psl(r: Psl, targets: &[u64], queries: &[u64], sizes: &[u64]) -> Check
     ensures { λ x. ⌜ x ≡ recordCheck r (now (targets .entry)) (now (queries .entry)) (now (sizes .entry)) ⌝ }
 {
-    text::require(
+    text::demand(
         record_fits(r, targets, queries, sizes),
         Reason::BlockRules,
-        0,
         Check::Holds,
     )
 }
@@ -418,30 +464,26 @@ fn check_numbers(r: Psl, targets: &[u64], queries: &[u64], sizes: &[u64]) -> Che
     ensures { λ x. ⌜ x ≡ numbersCheck r (now (targets .entry)) (now (queries .entry)) (now (sizes .entry)) ⌝ }
 {
     if !fields_fit(r) {
-        return Check::Refused(Refusal {
-            reason: Reason::NumberOutOfRange,
-            place: 0,
-        });
+        return Check::Refused(Refusal::without_text(
+            Reason::NumberOutOfRange,
+        ));
     }
     let count = r.blockCount as usize;
     let counts = r.counts;
-    let last = text::require(
+    let last = text::demand(
         counts_fit(counts, targets, queries, sizes, count),
         Reason::CountsDisagree,
-        0,
         Check::Holds,
     );
-    let blocks = text::require(
+    let blocks = text::demand(
         rows_fit(r, targets, queries, sizes, count),
         Reason::BlockRules,
-        0,
         last,
     );
-    let spans = text::require(spans_fit(r), Reason::SpanDisagrees, 0, blocks);
-    text::require(
+    let spans = text::demand(spans_fit(r), Reason::SpanDisagrees, blocks);
+    text::demand(
         blocks::row_numbers_fit(targets, queries, sizes, count),
         Reason::NumberOutOfRange,
-        0,
         spans,
     )
 }
@@ -460,11 +502,10 @@ fn check_write(
 {
     let rows = blocks::rows_of(targets, queries, sizes);
     let numbers = check_numbers(r, targets, queries, sizes);
-    let words = text::require(words_show(r, query, target), Reason::BadWord, 0, numbers);
-    text::require(
+    let words = text::demand(words_show(r, query, target), Reason::BadWord, numbers);
+    text::demand(
         blocks::count_fits(r.blockCount, rows),
         Reason::BlockRules,
-        0,
         words,
     )
 }
@@ -482,7 +523,7 @@ fn put_lists(count: usize, targets: &[u64], queries: &[u64], sizes: &[u64], list
 }
 
 // A record's columns as the line writer takes them: the names stand one after the other in their own text.
-fn values_of(r: Psl, query: usize, target: usize) -> [u64; 42]
+fn values_of(r: Psl, query: usize, target: usize) -> [u64; 2 * COLUMNS]
     ensures { λ x. ⌜ x ≡ pslValues r query target ⌝ }
 {
     let c = r.counts;

@@ -1,5 +1,5 @@
 -- The spans decide, and the next stage goes on. Assumes nothing.
-use Rattle.chain.proofs.StageLaws.{columns-refused, columns-on}
+use Rattle.chain.proofs.StageLaws.{columns-faulty, columns-on}
 use borrow.Author.Needs.{needs}
 use Rattle.chain.proofs.after_columns.Statement.{statement}
 use Rattle.chain.proofs.after_columns.Tie as tie
@@ -13,6 +13,6 @@ after-columns-spec =
     (λ c. search needs)
     (λ c. search needs)
     (λ c κs. search needs)
-    (λ c. search (columns-refused, columns-on))
+    (λ c. search (columns-faulty, columns-on))
     (λ c. search needs)
-    (λ c. search (columns-refused, columns-on)))
+    (λ c. search (columns-faulty, columns-on)))

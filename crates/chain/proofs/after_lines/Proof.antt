@@ -1,5 +1,5 @@
 -- A surplus line decides, and the next stage goes on. Assumes nothing.
-use Rattle.chain.proofs.StageLaws.{lines-refused, lines-on}
+use Rattle.chain.proofs.StageLaws.{lines-faulty, lines-on}
 use borrow.Author.Needs.{needs}
 use Rattle.chain.proofs.after_lines.Statement.{statement}
 use Rattle.chain.proofs.after_lines.Tie as tie
@@ -12,5 +12,5 @@ after-lines-spec =
     (λ c. search needs)
     (λ c. search needs)
     (λ c κs. search needs)
-    (λ c. search (lines-refused, lines-on))
-    (λ c. search (lines-refused, lines-on)))
+    (λ c. search (lines-faulty, lines-on))
+    (λ c. search (lines-faulty, lines-on)))

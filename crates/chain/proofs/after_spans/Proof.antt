@@ -1,5 +1,5 @@
 -- The walk decides, and the last stages go on. Assumes nothing.
-use Rattle.chain.proofs.StageLaws.{spans-refused, spans-on}
+use Rattle.chain.proofs.StageLaws.{spans-faulty, spans-on}
 use borrow.Author.Needs.{needs}
 use Rattle.chain.proofs.after_spans.Statement.{statement}
 use Rattle.chain.proofs.after_spans.Tie as tie
@@ -16,6 +16,6 @@ after-spans-spec =
     (λ c. search needs)
     (λ c κs. search needs)
     (λ c. search needs)
-    (λ c. search (spans-refused, spans-on))
+    (λ c. search (spans-faulty, spans-on))
     (λ c. search needs)
-    (λ c. search (spans-refused, spans-on)))
+    (λ c. search (spans-faulty, spans-on)))

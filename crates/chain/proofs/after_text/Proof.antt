@@ -1,5 +1,5 @@
 -- The header taken in one pass, or its table's columns; and the next stage goes on. Assumes nothing.
-use Rattle.chain.proofs.StageLaws.{head-headed, head-on, words-headed, words-refused, words-on}
+use Rattle.chain.proofs.StageLaws.{head-headed, head-on, words-headed, words-faulty, words-on}
 use borrow.Author.Needs.{needs}
 use Rattle.chain.proofs.after_text.Statement.{statement}
 use Rattle.chain.proofs.after_text.Tie as tie
@@ -21,6 +21,6 @@ after-text-spec =
     (λ c. search needs)
     (λ c. search needs)
     (λ c κs. search words-headed)
-    (λ c. search (words-refused, words-on))
+    (λ c. search (words-faulty, words-on))
     (λ c. search needs)
-    (λ c. search (words-refused, words-on)))
+    (λ c. search (words-faulty, words-on)))

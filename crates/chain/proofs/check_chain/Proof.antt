@@ -6,7 +6,7 @@ use Rattle.chain.proofs.check_chain.Tie as tie
 
 returns : tie.Need-returns
 unfolding recordCheck
-returns c = rw (c .require .ensures, c .before .record-fits .ensures)
+returns c = rw (c .demand .ensures, c .before .record-fits .ensures)
 
 pub check-chain-spec : {M : Type 1} → statement M
 check-chain-spec = tie.close (tie.spec (λ c κs. search needs) (λ c κs. search needs) returns)

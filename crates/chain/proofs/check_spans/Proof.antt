@@ -6,7 +6,7 @@ use Rattle.chain.proofs.check_spans.Tie as tie
 
 returns : tie.Need-returns
 unfolding spanCheck
-returns c = rw (c .require2 .ensures, c .before .value-at2 .ensures, c .before .before .span-fits2 .ensures, c .before .before .before .require .ensures, c .before .before .before .before .value-at .ensures, c .before .before .before .before .before .span-fits .ensures)
+returns c = rw (c .require2 .ensures, c .before .place-of2 .ensures, c .before .before .span-fits2 .ensures, c .before .before .before .require .ensures, c .before .before .before .before .place-of .ensures, c .before .before .before .before .before .span-fits .ensures)
 
 pub check-spans-spec : {M : Type 1} → statement M
 check-spans-spec =

@@ -1,5 +1,5 @@
 -- The text's check decides, and the next stage goes on. Assumes nothing.
-use Rattle.chain.proofs.StageLaws.{check-refused, check-on}
+use Rattle.chain.proofs.StageLaws.{text-faulty, text-on}
 use borrow.Author.Needs.{needs}
 use Rattle.chain.proofs.stage.Statement.{statement}
 use Rattle.chain.proofs.stage.Tie as tie
@@ -12,6 +12,6 @@ stage-spec =
     (λ c. search needs)
     (λ c. search needs)
     (λ c κs. search needs)
-    (λ c. search (check-refused, check-on))
+    (λ c. search (text-faulty, text-on))
     (λ c. search needs)
-    (λ c. search (check-refused, check-on)))
+    (λ c. search (text-faulty, text-on)))

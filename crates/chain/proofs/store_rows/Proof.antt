@@ -1,5 +1,5 @@
 -- The room decides; the rows stand one column after the other. Assumes nothing.
-use Rattle.chain.proofs.StageLaws.{rows-short, rows-stored}
+use Rattle.chain.proofs.StageLaws.{store-short, store-all}
 use borrow.Author.Needs.{needs}
 use Rattle.chain.proofs.store_rows.Statement.{statement}
 use Rattle.chain.proofs.store_rows.Tie as tie
@@ -10,7 +10,7 @@ returns-2 c =
     let q = c .before .before .before .before .before .before .before in
     let t = c .before .before .before .before .before .before .before .before .before .before .before .before in
     let i = c .before .before .before .before .before .before .before .before .before .before .before .before .before .before in
-    rows-stored _ _ _ _ _ _ (c .before .before .before .before .before .before .before .before .before .before .before .before .before .before .before .before .before .before .before .before .before .before .before .before .pre) _ (c .before .before .before .before .before .before .before .before .before .before .before .before .before .before .before .rows-of .ensures) _ _ _ (i .if1 .left) (t .copy-numbers .ensures) (q .copy-numbers2 .ensures) (z .copy-numbers3 .ensures)
+    store-all _ _ _ _ _ _ (c .before .before .before .before .before .before .before .before .before .before .before .before .before .before .before .before .before .before .before .before .before .before .before .before .pre) _ (c .before .before .before .before .before .before .before .before .before .before .before .before .before .before .before .rows-of .ensures) _ _ _ (i .if1 .left) (t .copy-numbers .ensures) (q .copy-numbers2 .ensures) (z .copy-numbers3 .ensures)
 
 pub store-rows-spec : {M : Type 1} → statement M
 store-rows-spec =
@@ -20,7 +20,7 @@ store-rows-spec =
     (λ c. search needs)
     (λ c. search needs)
     (λ c. search needs)
-    (λ c. search rows-short)
+    (λ c. search store-short)
     (λ c. search needs)
     (λ c κs. search needs)
     (λ c. search needs)

@@ -1,5 +1,5 @@
 -- The letter's byte. Assumes nothing.
-use Rattle.chain.specs.Write.{chainValues}
+use Rattle.chain.specs.Steps.{chainValues}
 use borrow.Author.Needs.{needs}
 use Rattle.chain.proofs.values_of.Statement.{statement}
 use Rattle.chain.proofs.values_of.Tie as tie

@@ -1,5 +1,5 @@
 -- Each check decides. Assumes nothing.
-use Rattle.psl.proofs.ReadLaws.{ready-as, line-refused, rows-refused, line-accepted}
+use Rattle.psl.proofs.ReadLaws.{ready-as, spans-stop, rows-stop, line-reads}
 use borrow.Author.Needs.{needs}
 use Rattle.psl.proofs.after_line.Statement.{statement}
 use Rattle.psl.proofs.after_line.Tie as tie
@@ -15,6 +15,6 @@ after-line-spec =
     (λ c κs. search ready-as)
     (λ c. search needs)
     (λ c. search needs)
-    (λ c. search (line-refused, rows-refused, line-accepted))
-    (λ c. search (line-refused, rows-refused, line-accepted))
-    (λ c. search (line-refused, rows-refused, line-accepted)))
+    (λ c. search (spans-stop, rows-stop, line-reads))
+    (λ c. search (spans-stop, rows-stop, line-reads))
+    (λ c. search (spans-stop, rows-stop, line-reads)))

@@ -6,13 +6,13 @@ use Rattle.psl.proofs.check_numbers.Tie as tie
 
 returns-2 : tie.Need-returns-2
 returns-2 c = rw (
-  c .require4 .ensures,
+  c .demand4 .ensures,
   c .before .row-numbers-fit .ensures,
-  c .before .before .require3 .ensures,
+  c .before .before .demand3 .ensures,
   c .before .before .before .spans-fit .ensures,
-  c .before .before .before .before .require2 .ensures,
+  c .before .before .before .before .demand2 .ensures,
   c .before .before .before .before .before .rows-fit .ensures,
-  c .before .before .before .before .before .before .require .ensures,
+  c .before .before .before .before .before .before .demand .ensures,
   c .before .before .before .before .before .before .before .counts-fit .ensures,
   fields-good _ _ (c .before .before .before .before .before .before .before .before .before .before .fields-fit .ensures) (c .before .before .before .before .before .before .before .before .before .if1 .left),
 )
@@ -21,6 +21,7 @@ pub check-numbers-spec : {M : Type 1} → statement M
 check-numbers-spec =
     tie.close
     (tie.spec
+    (λ c κs. search needs)
     (λ c κs. search needs)
     (λ c. search numbers-bad)
     (λ c κs. search numbers-range)

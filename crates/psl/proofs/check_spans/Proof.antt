@@ -11,8 +11,8 @@ returns c = rw (
   c .before .span-fits2 .ensures,
   c .before .before .require .ensures,
   c .before .before .before .span-fits .ensures,
-  c .before .before .before .before .value-at2 .ensures,
-  c .before .before .before .before .before .value-at .ensures,
+  c .before .before .before .before .place-of2 .ensures,
+  c .before .before .before .before .before .place-of .ensures,
 )
 
 pub check-spans-spec : {M : Type 1} → statement M

@@ -6,7 +6,7 @@ use Rattle.psl.proofs.check_write.Tie as tie
 
 returns : tie.Need-returns
 unfolding writeCheck
-returns c = rw (c .require2 .ensures, c .before .count-fits .ensures, c .before .before .require .ensures, c .before .before .before .words-show .ensures, c .before .before .before .before .check-numbers .ensures, c .before .before .before .before .before .rows-of .ensures)
+returns c = rw (c .demand2 .ensures, c .before .count-fits .ensures, c .before .before .demand .ensures, c .before .before .before .words-show .ensures, c .before .before .before .before .check-numbers .ensures, c .before .before .before .before .before .rows-of .ensures)
 
 pub check-write-spec : {M : Type 1} → statement M
 check-write-spec =

@@ -6,7 +6,7 @@ use Rattle.psl.proofs.counts_of.Tie as tie
 
 returns : tie.Need-returns
 unfolding countsOf
-returns c = rw (c .before .before .before .before .before .before .before .value-at .ensures, c .before .before .before .before .before .before .value-at2 .ensures, c .before .before .before .before .before .value-at3 .ensures, c .before .before .before .before .value-at4 .ensures, c .before .before .before .value-at5 .ensures, c .before .before .value-at6 .ensures, c .before .value-at7 .ensures, c .value-at8 .ensures)
+returns c = rw (c .before .before .before .before .before .before .before .value-of .ensures, c .before .before .before .before .before .before .value-of2 .ensures, c .before .before .before .before .before .value-of3 .ensures, c .before .before .before .before .value-of4 .ensures, c .before .before .before .value-of5 .ensures, c .before .before .value-of6 .ensures, c .before .value-of7 .ensures, c .value-of8 .ensures)
 
 pub counts-of-spec : {M : Type 1} → statement M
 counts-of-spec =

@@ -1,5 +1,5 @@
 -- Each part by its own test. Assumes nothing.
-use Rattle.psl.specs.Tests.{headFits}
+use Rattle.psl.specs.Steps.{headFits}
 use borrow.Author.Needs.{needs}
 use Rattle.psl.proofs.head_fits.Statement.{statement}
 use Rattle.psl.proofs.head_fits.Tie as tie

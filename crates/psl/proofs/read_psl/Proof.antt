@@ -1,5 +1,5 @@
--- The checks, then the rows. Assumes nothing.
-use Rattle.psl.proofs.ColumnLaws.{read-refused, read-held, read-stored}
+-- What was read, as it is told. Assumes nothing.
+use Rattle.psl.proofs.StoreLaws.{read-told}
 use borrow.Author.Needs.{needs}
 use Rattle.psl.proofs.read_psl.Statement.{statement}
 use Rattle.psl.proofs.read_psl.Tie as tie
@@ -9,14 +9,8 @@ read-psl-spec =
     tie.close
     (tie.spec
     (λ c κs. search needs)
-    (λ c. search needs)
     (λ c κs. search needs)
     (λ c. search needs)
     (λ c. search needs)
     (λ c. search needs)
-    (λ c κs. search read-held)
-    (λ c. search (read-refused, read-stored))
-    (λ c. search needs)
-    (λ c. search needs)
-    (λ c. search needs)
-    (λ c. search (read-refused, read-stored)))
+    (λ c. search read-told))

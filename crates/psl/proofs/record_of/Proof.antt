@@ -6,7 +6,7 @@ use Rattle.psl.proofs.record_of.Tie as tie
 
 returns : tie.Need-returns
 unfolding pslRecord
-returns c = rw (c .before .before .before .before .before .counts-of .ensures, c .before .before .before .of-value .ensures, c .before .before .before .before .value-at .ensures, c .before .before .side-of .ensures, c .before .side-of2 .ensures, c .value-at2 .ensures)
+returns c = rw (c .before .before .before .before .before .counts-of .ensures, c .before .before .before .of-value .ensures, c .before .before .before .before .value-of .ensures, c .before .before .side-of .ensures, c .before .side-of2 .ensures, c .value-of2 .ensures)
 
 pub record-of-spec : {M : Type 1} → statement M
 record-of-spec =

@@ -6,7 +6,7 @@ use Rattle.psl.proofs.rows_fit.Tie as tie
 
 returns : tie.Need-returns
 unfolding rowsFit
-returns c = rw (c .before .before .before .blocks-fill .ensures, c .blocks-fill2 .ensures, c .before .before .first-on .ensures, c .before .last-on .ensures)
+returns c = rw (c .before .blocks-fill .ensures, c .blocks-fill2 .ensures, c .before .before .before .strand-start .ensures, c .before .before .strand-end .ensures)
 
 pub rows-fit-spec : {M : Type 1} → statement M
 rows-fit-spec =

@@ -1,5 +1,5 @@
 -- The line read gives the record and its lists, and the next stage goes on. Assumes nothing.
-use Rattle.psl.proofs.ColumnLaws.{stage-ready, stage-refused, stage-on}
+use Rattle.psl.proofs.ColumnLaws.{stage-ready, stage-stops, stage-on}
 use borrow.Author.Needs.{needs}
 use Rattle.psl.proofs.stage.Statement.{statement}
 use Rattle.psl.proofs.stage.Tie as tie
@@ -16,6 +16,6 @@ stage-spec =
     (λ c. search needs)
     (λ c κs. search stage-ready)
     (λ c. search needs)
-    (λ c. search (stage-refused, stage-on))
+    (λ c. search (stage-stops, stage-on))
     (λ c. search needs)
-    (λ c. search (stage-refused, stage-on)))
+    (λ c. search (stage-stops, stage-on)))

@@ -1,5 +1,5 @@
 -- The room decides; the rows are the three lists of the working room. Assumes nothing.
-use Rattle.psl.proofs.ColumnLaws.{rows-short, rows-stored}
+use Rattle.psl.proofs.StoreLaws.{rows-short, rows-stored}
 use borrow.Author.Needs.{needs}
 use Rattle.psl.proofs.store_rows.Statement.{statement}
 use Rattle.psl.proofs.store_rows.Tie as tie

@@ -1,5 +1,5 @@
 -- The columns one after the other. Assumes nothing.
-use Rattle.psl.specs.Write.{pslValues}
+use Rattle.psl.specs.Steps.{pslValues}
 use borrow.Author.Needs.{needs}
 use Rattle.psl.proofs.values_of.Statement.{statement}
 use Rattle.psl.proofs.values_of.Tie as tie

@@ -6,6 +6,7 @@ use native.Mathlib.Omega.{arith}
 use lib.ListN.{length}
 use Rattle.ledger.specs.declared.Strand.the-variants.{Minus}
 use Rattle.ledger.specs.declared.Row.{Row}
+use Rattle.ledger.specs.Parts.{partAt}
 use Rattle.ledger.specs.Limits.{textLimit}
 use Rattle.text.specs.declared.Check.the-variants.{Holds}
 use Rattle.text.specs.Scan.{run, endOf}
@@ -14,15 +15,14 @@ use Rattle.text.specs.Pieces.{joined}
 use Rattle.writing.specs.Digits.{digitsIn, digits}
 use Rattle.blocks.specs.Blocks.{orderFrom, blocksFill, allBetween, rowNumbersFit}
 use Rattle.blocks.specs.Rows.{rowAs, targetsOf, queriesOf, sizesOf}
 use Rattle.chain.specs.declared.Chain.{Chain}
 use Rattle.chain.specs.declared.ChainAnswer.the-variants.{Accepted}
 use Rattle.chain.specs.Records.{chainTargets, chainQueries, chainSizes}
 use Rattle.chain.specs.Read.{chainRead}
 use Rattle.chain.specs.Rules.{placed}
 use Rattle.chain.specs.Tests.{namesFit, fieldsFit, spansFit, rowsFit}
 use Rattle.chain.specs.Write.{namesShow, writeCheck, headWords, gapWords, blockText, chainText}
-use Rattle.chain.proofs.BackLaws.{back-read, back-target-name, back-targets, back-queries, back-sizes}
-use Rattle.ledger.specs.Parts.{partAt}
+use Rattle.chain_laws.proofs.BackLaws.{back-read, back-target-name, back-targets, back-queries, back-sizes}
 
 -- its record, as it is read, and its rows; worked examples elsewhere cite these
 abbrev pub chainA : Chain

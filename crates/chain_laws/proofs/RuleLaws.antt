@@ -10,14 +10,15 @@ use lib.Dec.{leb, ltb}
 use borrow.Author.Tests.{leb-true, ltb-true, le-leb, lt-ltb}
 use Rattle.ledger.specs.Strands.{isTold}
 use Rattle.ledger.proofs.Laws.{told-of, told-is}
-use Rattle.ledger.specs.Limits.{blockLimit, nameLimit, largestPosition, chainScoreLimit, chainIdLimit}
+use Rattle.ledger.specs.Limits.{nameLimit, largestPosition, chainScoreLimit, chainIdLimit}
 use Rattle.text.proofs.TextLaws.{both}
-use Rattle.blocks.specs.Blocks.{blocksFill, allBetween, countFits, rowsOf, rowNumbersFit, spanFits}
-use Rattle.blocks.proofs.RuleLaws.{fills-of, fills-is, ranged-of, ranged-is}
-use Rattle.blocks.proofs.TakeLaws.{fills-take, fills-back, ranged-take, ranged-back}
+use Rattle.blocks.specs.Blocks.{blocksFill, countFits, rowsOf, rowNumbersFit, spanFits}
+use Rattle.blocks.proofs.RuleLaws.{fills-of, fills-is}
+use Rattle.blocks.proofs.TakeLaws.{fills-take, fills-back}
+use Rattle.blocks.proofs.UseLaws.{use-of, use-counts, use-numbers}
 use Rattle.chain.specs.declared.Chain.{Chain}
 use Rattle.chain.specs.Tests.{namesFit, sizeFits, fieldsFit, spansFit, rowsFit, chainValid}
 use Rattle.chain.specs.Rules.{ChainRules}
 use Rattle.columns.specs.Names.{lengthFits}
 use Rattle.columns.proofs.WordLaws.{and-i}
 
@@ -29,7 +30,7 @@ span-is a b c h k = and-i _ _ (lt-ltb a b h) (le-leb b c k)
 
 -- WHAT PASSES THE TEST OBEYS THE RULES
 pub rules-of : (r : Chain) (ts qs zs : List ℕ) → chainValid r ts qs zs ≡ true → ChainRules r ts qs zs
-unfolding chainValid namesFit fieldsFit rowNumbersFit spansFit rowsFit
+unfolding chainValid namesFit fieldsFit spansFit rowsFit
 rules-of r ts qs zs e =
     let n = r .blockCount in
     let a = both (countFits n (rowsOf ts qs zs)) _ e in
@@ -38,12 +39,7 @@ rules-of r ts qs zs e =
     let d = both (fieldsFit r) _ (c .1) in
     let f = both (rowNumbersFit (take n ts) (take n qs) (take n zs)) _ (d .1) in
     let g = both (spansFit r) (rowsFit r (take n ts) (take n qs) (take n zs)) (f .1) in
-    let count = both (leb 1 n) _ (a .0) in
-    let few = both (leb n blockLimit) (leb n (rowsOf ts qs zs)) (count .1) in
-    let rows = leb-true n (rowsOf ts qs zs) (few .1) in
-    let ht : n ≤ length ts = omega arith in
-    let hq : n ≤ length qs = omega arith in
-    let hz : n ≤ length zs = omega arith in
+    let used = use-of n ts qs zs (a .0) (f .0) in
     let names = both (lengthFits (r .tName .length)) (lengthFits (r .qName .length)) (b .0) in
     let tName = both (leb 1 (r .tName .length)) (leb (r .tName .length) nameLimit) (names .0) in
     let qName = both (leb 1 (r .qName .length)) (leb (r .qName .length) nameLimit) (names .1) in
@@ -56,18 +52,12 @@ rules-of r ts qs zs e =
     let qSizes = both (leb 1 (r .qSize)) (leb (r .qSize) largestPosition) (qSize .0) in
     let qStart = both (leb (r .qStart) largestPosition) _ (qSize .1) in
     let qEnd = both (leb (r .qEnd) largestPosition) (leb (r .id) chainIdLimit) (qStart .1) in
-    let targets = both (allBetween 0 largestPosition (take n ts)) _ (f .0) in
-    let queries = both (allBetween 0 largestPosition (take n qs)) (allBetween 1 largestPosition (take n zs)) (targets .1) in
     let spans = both (spanFits (r .tStart) (r .tEnd) (r .tSize)) (spanFits (r .qStart) (r .qEnd) (r .qSize)) (g .0) in
     let tSpan = span-of (r .tStart) (r .tEnd) (r .tSize) (spans .0) in
     let qSpan = span-of (r .qStart) (r .qEnd) (r .qSize) (spans .1) in
     let fill = both (blocksFill (r .tStart) (r .tEnd) (take n ts) (take n zs)) (blocksFill (r .qStart) (r .qEnd) (take n qs) (take n zs)) (g .1) in
     record {
-      someBlock = leb-true 1 n (count .0);
-      fewBlocks = leb-true n blockLimit (few .0);
-      targetRows = ht;
-      queryRows = hq;
-      sizeRows = hz;
+      rows = used;
       tNameSome = leb-true _ _ (tName .0);
       tNameShort = leb-true _ _ (tName .1);
       qNameSome = leb-true _ _ (qName .0);
@@ -83,42 +73,33 @@ rules-of r ts qs zs e =
       qStartRange = leb-true _ _ (qStart .0);
       qEndRange = leb-true _ _ (qEnd .0);
       idRange = leb-true _ _ (qEnd .1);
-      targetRange = ranged-back 0 largestPosition n ts (ranged-of 0 largestPosition n (take n ts) (length-take-le n ts ht) (targets .0));
-      queryRange = ranged-back 0 largestPosition n qs (ranged-of 0 largestPosition n (take n qs) (length-take-le n qs hq) (queries .0));
-      sizeRange = ranged-back 1 largestPosition n zs (ranged-of 1 largestPosition n (take n zs) (length-take-le n zs hz) (queries .1));
       tSpan = tSpan .0;
       tInside = tSpan .1;
       qSpan = qSpan .0;
       qInside = qSpan .1;
-      tBlocks = fills-back _ _ n ts zs (fills-of _ _ n (take n ts) (take n zs) (length-take-le n ts ht) (length-take-le n zs hz) (fill .0));
-      qBlocks = fills-back _ _ n qs zs (fills-of _ _ n (take n qs) (take n zs) (length-take-le n qs hq) (length-take-le n zs hz) (fill .1));
+      tBlocks = fills-back _ _ n ts zs (fills-of _ _ n (take n ts) (take n zs) (length-take-le n ts (used .targetRows)) (length-take-le n zs (used .sizeRows)) (fill .0));
+      qBlocks = fills-back _ _ n qs zs (fills-of _ _ n (take n qs) (take n zs) (length-take-le n qs (used .queryRows)) (length-take-le n zs (used .sizeRows)) (fill .1));
     }
 
 -- THE RULES PASS THE TEST
 pub rules-is : (r : Chain) (ts qs zs : List ℕ) → ChainRules r ts qs zs → chainValid r ts qs zs ≡ true
-unfolding chainValid namesFit fieldsFit rowNumbersFit spansFit rowsFit
+unfolding chainValid namesFit fieldsFit spansFit rowsFit
 rules-is r ts qs zs b =
     let n = r .blockCount in
-    let held : n ≤ rowsOf ts qs zs = omega (arith, b .targetRows, b .queryRows, b .sizeRows) in
-    let lt = length-take-le n ts (b .targetRows) in
-    let lq = length-take-le n qs (b .queryRows) in
-    let lz = length-take-le n zs (b .sizeRows) in
-    let counts : countFits n (rowsOf ts qs zs) ≡ true = and-i _ _ (le-leb _ _ (b .someBlock)) (and-i _ _ (le-leb _ _ (b .fewBlocks)) (le-leb _ _ held)) in
+    let lt = length-take-le n ts (b .rows .targetRows) in
+    let lq = length-take-le n qs (b .rows .queryRows) in
+    let lz = length-take-le n zs (b .rows .sizeRows) in
     let tName : lengthFits (r .tName .length) ≡ true = and-i _ _ (le-leb _ _ (b .tNameSome)) (le-leb _ _ (b .tNameShort)) in
     let qName : lengthFits (r .qName .length) ≡ true = and-i _ _ (le-leb _ _ (b .qNameSome)) (le-leb _ _ (b .qNameShort)) in
     let tSize : sizeFits (r .tSize) ≡ true = and-i _ _ (le-leb _ _ (b .tSizeSome)) (le-leb _ _ (b .tSizeRange)) in
     let qSize : sizeFits (r .qSize) ≡ true = and-i _ _ (le-leb _ _ (b .qSizeSome)) (le-leb _ _ (b .qSizeRange)) in
     let ends = and-i _ _ (le-leb (r .qStart) largestPosition (b .qStartRange)) (and-i _ _ (le-leb (r .qEnd) largestPosition (b .qEndRange)) (le-leb (r .id) chainIdLimit (b .idRange))) in
     let fields : fieldsFit r ≡ true = and-i _ _ (le-leb _ _ (b .scoreRange)) (and-i _ _ tSize (and-i _ _ (le-leb _ _ (b .tStartRange)) (and-i _ _ (le-leb _ _ (b .tEndRange)) (and-i _ _ qSize ends)))) in
-    let targets = ranged-is 0 largestPosition n (take n ts) lt (ranged-take 0 largestPosition n ts (b .targetRange)) in
-    let queries = ranged-is 0 largestPosition n (take n qs) lq (ranged-take 0 largestPosition n qs (b .queryRange)) in
-    let sizes = ranged-is 1 largestPosition n (take n zs) lz (ranged-take 1 largestPosition n zs (b .sizeRange)) in
-    let numbers : rowNumbersFit (take n ts) (take n qs) (take n zs) ≡ true = and-i _ _ targets (and-i _ _ queries sizes) in
     let spans : spansFit r ≡ true = and-i _ _ (span-is (r .tStart) (r .tEnd) (r .tSize) (b .tSpan) (b .tInside)) (span-is (r .qStart) (r .qEnd) (r .qSize) (b .qSpan) (b .qInside)) in
     let tBlocks = fills-is _ _ n (take n ts) (take n zs) lt lz (fills-take _ _ n ts zs (b .tBlocks)) in
     let qBlocks = fills-is _ _ n (take n qs) (take n zs) lq lz (fills-take _ _ n qs zs (b .qBlocks)) in
     let rows : rowsFit r (take n ts) (take n qs) (take n zs) ≡ true = and-i _ _ tBlocks qBlocks in
-    and-i _ _ counts (and-i _ _ (and-i _ _ tName qName) (and-i _ _ (told-is (r .qStrand) (b .stranded)) (and-i _ _ fields (and-i _ _ numbers (and-i _ _ spans rows)))))
+    and-i _ _ (use-counts n ts qs zs (b .rows)) (and-i _ _ (and-i _ _ tName qName) (and-i _ _ (told-is (r .qStrand) (b .stranded)) (and-i _ _ fields (and-i _ _ (use-numbers n ts qs zs (b .rows)) (and-i _ _ spans rows)))))
 
 -- THE TEST SEES ONLY THE ROWS IN USE
 module _ (r : Chain) (ts ts′ qs qs′ zs zs′ : List ℕ) where

@@ -15,18 +15,18 @@ use Rattle.text.specs.Words.{wordAt, wordCount, bytesOf}
 use Rattle.text.proofs.CheckLaws.{fed-allowed, fed-line}
 use Rattle.text.proofs.PieceLaws.{Worded, line-joined, words-joined, word-bytes}
 use Rattle.writing.proofs.ListLaws.{list-values}
-use Rattle.blocks.specs.Rules.{Fills}
 use Rattle.blocks.proofs.TakeLaws.{fills-take}
 use Rattle.psl.specs.declared.Psl.{Psl}
 use Rattle.psl.specs.declared.PslAnswer.the-variants.{Accepted}
+use Rattle.psl.specs.Columns as column
 use Rattle.psl.specs.Table.{pslColumns}
 use Rattle.psl.specs.Records.{pslSizes, pslQueries, pslTargets}
-use Rattle.psl.specs.Read.{roomCheck, pslCheck, pslRead}
-use Rattle.psl.specs.Rules.{PslLine, named, placed}
+use Rattle.psl.specs.Read.{pslCheck, pslRead}
+use Rattle.psl.proofs.AnswerLaws.{checked-of}
+use Rattle.psl.specs.Rules.{PslLine, placed}
 use Rattle.psl.specs.Write.{writeCheck, pslWords, pslText}
-use Rattle.psl.proofs.LineLaws.{listed-sizes, listed-queries, listed-targets, line-is}
-use Rattle.psl.proofs.BackWordLaws.{on-renamed, MayWrite, may-write, wordValues, sizes-between, queries-between, targets-between, words-spell, words-worded}
-use Rattle.columns.specs.Names.{partOf}
+use Rattle.psl_laws.proofs.LineLaws.{listed-sizes, listed-queries, listed-targets, line-is}
+use Rattle.psl_laws.proofs.BackWordLaws.{MayWrite, may-write, wordValues, sizes-between, queries-between, targets-between, words-spell, words-worded}
 use Rattle.columns.proofs.Meant.{Meant, listsIn, meant-spells}
 use Rattle.columns.proofs.WordLaws.{part-bytes}
 
@@ -66,31 +66,30 @@ module _ (r : Psl) (qName tName ts qs zs : List ℕ) (ok : MayWrite r qName tNam
   -- the three lists
   sizes-read : pslSizes s ≡ take n zs
   unfolding pslSizes pslWords
-  sizes-read = rw (text-word 18) (list-values 1 largestPosition (take n zs) (omega arith) (sizes-between r qName tName ts qs zs ok))
+  sizes-read = rw (text-word column.blockSizes) (list-values 1 largestPosition (take n zs) (omega arith) (sizes-between r qName tName ts qs zs ok))
 
   queries-read : pslQueries s ≡ take n qs
   unfolding pslQueries pslWords
-  queries-read = rw (text-word 19) (list-values 0 largestPosition (take n qs) (omega arith) (queries-between r qName tName ts qs zs ok))
+  queries-read = rw (text-word column.qStarts) (list-values 0 largestPosition (take n qs) (omega arith) (queries-between r qName tName ts qs zs ok))
 
   targets-read : pslTargets s ≡ take n ts
   unfolding pslTargets pslWords
-  targets-read = rw (text-word 20) (list-values 0 largestPosition (take n ts) (omega arith) (targets-between r qName tName ts qs zs ok))
+  targets-read = rw (text-word column.tStarts) (list-values 0 largestPosition (take n ts) (omega arith) (targets-between r qName tName ts qs zs ok))
 
   -- the names
   query-read : partBytes s (placed s r .query .name) ≡ qName
   unfolding placed pslWords
-  query-read = part-bytes s (wordAt s 0 9) ∙ text-word 9
+  query-read = part-bytes s (wordAt s 0 column.qName) ∙ text-word column.qName
 
   target-read : partBytes s (placed s r .target .name) ≡ tName
   unfolding placed pslWords
-  target-read = part-bytes s (wordAt s 0 13) ∙ text-word 13
+  target-read = part-bytes s (wordAt s 0 column.tName) ∙ text-word column.tName
 
   -- the text is a PSL line that says the record
   line-read : length s ≤ textLimit → PslLine s (wordValues r qName tName) (listsIn pslColumns (wordsOf (lineOf s))) (placed s r) (pslTargets s) (pslQueries s) (pslSizes s)
   unfolding placed
   line-read short =
       let k = ok .rules in
-      let onQuery = on-renamed (λ (a b : ℕ). Fills a b n qs zs) (r .strand) (named r qName tName .query) (partOf (wordAt s 0 9)) (k .queryBlocks) in
       let words : Meant pslColumns 0 (wordsOf (lineOf s)) (wordValues r qName tName) = rw text-words (words-spell r qName tName ts qs zs ok) in
       record {
         line = record { short = short; allowed = text-allowed; oneLine = text-line; count = text-count; spelt = meant-spells words };
@@ -112,7 +111,7 @@ module _ (r : Psl) (qName tName ts qs zs : List ℕ) (ok : MayWrite r qName tNam
         querySpan = record { some = k .querySpan .some; within = k .querySpan .within };
         targetSpan = record { some = k .targetSpan .some; within = k .targetSpan .within };
         targetBlocks = rw (targets-read, sizes-read) (fills-take _ _ n ts zs (k .targetBlocks));
-        queryBlocks = rw (queries-read, sizes-read) (fills-take _ _ n qs zs onQuery);
+        queryBlocks = rw (queries-read, sizes-read) (fills-take _ _ n qs zs (k .queryBlocks));
         counts = rw (targets-read, queries-read, sizes-read) (k .counts);
       }
 
@@ -144,5 +143,5 @@ module _ (r : Psl) (qName tName ts qs zs : List ℕ) (ok : writeCheck r qName tN
 
   -- and with room for its blocks the text is read
   pub back-read : (room : ℕ) → r .blockCount ≤ room → pslRead text room ≡ Accepted (placed text r)
-  unfolding pslRead roomCheck placed
-  back-read room h = rw (back-check, le-leb (r .blockCount) room h)
+  unfolding pslRead placed
+  back-read room h = rw (checked-of text (placed text r) back-check, le-leb (r .blockCount) room h)

@@ -18,6 +18,8 @@ use Rattle.text.specs.Scan.{run}
 use Rattle.text.specs.Parts.{partBytes}
 use Rattle.text.specs.Pieces.{linesOf, lineOf, wordsOf, joined}
 use Rattle.text.specs.Words.{wordAt, bytesOf}
+use Rattle.text.proofs.CheckLaws.{fed-allowed}
+use Rattle.text.proofs.StageLaws.{require-holds}
 use Rattle.text.proofs.TextLaws.{All, all-append, both}
 use Rattle.text.proofs.PieceLaws.{Worded, pieces-join, lines-none, joined-in-line, line-joined, words-joined, word-bytes}
 use Rattle.writing.specs.Digits.{digits}
@@ -25,21 +27,22 @@ use Rattle.kinds.specs.declared.Fixed.the-variants as fixed
 use Rattle.kinds.specs.declared.Range.the-variants.{Coordinate, Size, ChainScore, ChainId}
 use Rattle.kinds.specs.declared.Kind.the-variants.{Number, Stranded, Word}
 use Rattle.kinds.proofs.BackLaws.{Written, written}
-use Rattle.columns.proofs.Meant.{Meant, meant-spells}
-use Rattle.blocks.specs.Blocks.{countFits, rowsOf, rowNumbersFit}
-use Rattle.chain.specs.declared.Chain.{Chain}
-use Rattle.chain.specs.declared.ChainAnswer.the-variants.{Accepted}
-use Rattle.chain.specs.Table.{chainColumns, blockColumns}
-use Rattle.chain.specs.Records.{chainTargets, chainQueries, chainSizes}
-use Rattle.chain.specs.Read.{roomCheck, chainCheck, chainRead}
-use Rattle.chain.specs.Tests.{namesFit, fieldsFit, spansFit, rowsFit, chainValid}
-use Rattle.chain.specs.Write.{namesShow, writeCheck, headWords, fedWords, gapTo, gapWords, blockText, chainText}
-use Rattle.chain.specs.Rules.{BlockLines, last-line, more-lines, ChainText, ChainRules, named, placed}
-use Rattle.chain.proofs.RuleLaws.{rules-of}
-use Rattle.chain.proofs.TextLaws.{text-is, text-targets, text-queries, text-sizes}
 use Rattle.columns.specs.Names.{allGraphic}
+use Rattle.columns.proofs.Meant.{Meant, meant-spells}
 use Rattle.columns.proofs.WordLaws.{all-graphic, and-i, name-written, row-spells, row-worded, Row, row-none, row-more, part-bytes}
-use Rattle.text.proofs.CheckLaws.{require-holds, fed-allowed}
+use Rattle.blocks.specs.Blocks.{countFits, rowsOf, rowNumbersFit}
+use Rattle.chain.specs.declared.Chain.{Chain}
+use Rattle.chain.specs.declared.ChainAnswer.the-variants.{Accepted}
+use Rattle.chain.specs.Columns as column
+use Rattle.chain.specs.Table.{chainColumns, blockColumns}
+use Rattle.chain.specs.Records.{chainTargets, chainQueries, chainSizes}
+use Rattle.chain.specs.Read.{chainCheck, chainRoomed, chainRead}
+use Rattle.chain.specs.Tests.{namesFit, fieldsFit, spansFit, rowsFit, chainValid}
+use Rattle.chain.specs.Write.{namesShow, writeCheck, headWords, fedWords, gapTo, gapWords, blockText, chainText}
+use Rattle.chain.specs.Rules.{BlockLines, last-line, more-lines, ChainText, ChainRules, named, placed}
+use Rattle.chain.proofs.AnswerLaws.{checked-of}
+use Rattle.chain_laws.proofs.RuleLaws.{rules-of}
+use Rattle.chain_laws.proofs.TextLaws.{text-is, text-targets, text-queries, text-sizes}
 
 -- what the writer's checks show of a record, its names and its rows
 pub record MayWrite (r : Chain) (tName qName ts qs zs : List ℕ) : Type 0 where
@@ -69,8 +72,8 @@ may-write r tName qName ts qs zs e =
     }
 
 strand-written : (n : ℕ) (t : Strand) → (t ≡ Dot → ⊥) → Written (Stranded false) n (strandLetter t) (strandLetter t ∷ []) []
-strand-written n Plus h = written (Stranded false) [] [] n 0 43 0 refl
-strand-written n Minus h = written (Stranded false) [] [] n 0 45 0 refl
+strand-written n Plus h = written (Stranded false) [] [] n 0 (strandLetter Plus) 0 refl
+strand-written n Minus h = written (Stranded false) [] [] n 0 (strandLetter Minus) 0 refl
 strand-written n Dot h = absurd (h refl)
 
 -- the values of a record's thirteen columns; a name means its length, and a fixed word nothing
@@ -106,7 +109,7 @@ module _ (r : Chain) (ts qs zs : List ℕ) (c : ChainRules r ts qs zs) where
   n = r .blockCount
 
   size-row : (i : ℕ) → i < n → Row (Number Size ∷ []) 0 (digits (getD zs i 0) ∷ []) (getD zs i 0 ∷ [])
-  size-row i h = row-more (written (Number Size) [] [] 0 0 (getD zs i 0) 0 (c .sizeRange .low i h, c .sizeRange .high i h)) row-none
+  size-row i h = row-more (written (Number Size) [] [] 0 0 (getD zs i 0) 0 (c .rows .sizeRange .low i h, c .rows .sizeRange .high i h)) row-none
 
   target-after : (i : ℕ) → suc i < n → getD ts i 0 + getD zs i 0 ≤ getD ts (suc i) 0
   target-after i h = rw (add-one i) at (c .tBlocks .order i (omega arith))
@@ -124,11 +127,11 @@ module _ (r : Chain) (ts qs zs : List ℕ) (c : ChainRules r ts qs zs) where
   unfolding blockColumns gapWords
   gap-row i h =
       let l : i < n = omega arith in
-      let t = c .targetRange .high (suc i) h in
-      let q = c .queryRange .high (suc i) h in
+      let t = c .rows .targetRange .high (suc i) h in
+      let q = c .rows .queryRange .high (suc i) h in
       let a : dt i ≤ largestPosition = omega arith in
       let b : dq i ≤ largestPosition = omega arith in
-      row-more (written (Number Size) [] [] 0 0 (getD zs i 0) 0 (c .sizeRange .low i l, c .sizeRange .high i l))
+      row-more (written (Number Size) [] [] 0 0 (getD zs i 0) 0 (c .rows .sizeRange .low i l, c .rows .sizeRange .high i l))
       (row-more (written (Number Coordinate) [] [] 0 0 (dt i) 0 (zero-le, a))
       (row-more (written (Number Coordinate) [] [] 0 0 (dq i) 0 (zero-le, b))
       row-none))
@@ -140,11 +143,11 @@ module _ (r : Chain) (ts qs zs : List ℕ) (c : ChainRules r ts qs zs) where
       let w = row-worded row in
       let none : fedWords (digits (getD zs i 0) ∷ []) ++ [] ≡ fedWords (digits (getD zs i 0) ∷ []) = append-assoc (joined 32 (digits (getD zs i 0) ∷ [])) (10 ∷ []) [] in
       let ls : linesOf (fedWords (digits (getD zs i 0) ∷ [])) ≡ joined 32 (digits (getD zs i 0) ∷ []) ∷ [] = sym (ap linesOf none) ∙ fed-lines (digits (getD zs i 0) ∷ []) w [] ∙ ap (λ (x : List (List ℕ)). joined 32 (digits (getD zs i 0) ∷ []) ∷ x) lines-none in
-      let sp : Meant (take 1 blockColumns) 0 (wordsOf (joined 32 (digits (getD zs i 0) ∷ []))) (getD zs i 0 ∷ []) = rw (fed-words (digits (getD zs i 0) ∷ []) w) (row-spells row) in
+      let sp : Meant (take column.lastCount blockColumns) 0 (wordsOf (joined 32 (digits (getD zs i 0) ∷ []))) (getD zs i 0 ∷ []) = rw (fed-words (digits (getD zs i 0) ∷ []) w) (row-spells row) in
       let p : n - 1 ≡ i = omega arith in
       let a : getD ts i 0 + getD zs i 0 ≡ r .tEnd = rw p at (c .tBlocks .lastEnd) in
       let b : getD qs i 0 + getD zs i 0 ≡ r .qEnd = rw p at (c .qBlocks .lastEnd) in
-      rw (ls, rows-cons 0 i ts (omega (arith, c .targetRows)), rows-cons 0 i qs (omega (arith, c .queryRows)), rows-cons 0 i zs (omega (arith, c .sizeRows)))
+      rw (ls, rows-cons 0 i ts (omega (arith, c .rows .targetRows)), rows-cons 0 i qs (omega (arith, c .rows .queryRows)), rows-cons 0 i zs (omega (arith, c .rows .sizeRows)))
       (last-line (meant-spells sp) a b)
 
   more-says : (k i : ℕ) → suc (suc i) + k ≡ n
@@ -159,7 +162,7 @@ module _ (r : Chain) (ts qs zs : List ℕ) (c : ChainRules r ts qs zs) where
       let q = query-after i (omega arith) in
       let x : getD ts (suc i) 0 ≡ getD ts i 0 + getD zs i 0 + dt i = omega arith in
       let y : getD qs (suc i) 0 ≡ getD qs i 0 + getD zs i 0 + dq i = omega arith in
-      rw (fed-lines (gapWords i ts qs zs) w (blockText k (suc i) ts qs zs), rows-cons (suc k) i ts (omega (arith, c .targetRows)), rows-cons (suc k) i qs (omega (arith, c .queryRows)), rows-cons (suc k) i zs (omega (arith, c .sizeRows)))
+      rw (fed-lines (gapWords i ts qs zs) w (blockText k (suc i) ts qs zs), rows-cons (suc k) i ts (omega (arith, c .rows .targetRows)), rows-cons (suc k) i qs (omega (arith, c .rows .queryRows)), rows-cons (suc k) i zs (omega (arith, c .rows .sizeRows)))
       (more-lines (meant-spells sp) (lines-as _ _ _ _ x y b))
 
   says : (k i : ℕ) → suc i + k ≡ n → BlockLines (r .tEnd) (r .qEnd) (linesOf (blockText k i ts qs zs)) (getD ts i 0) (getD qs i 0) (take (suc k) (drop i ts)) (take (suc k) (drop i qs)) (take (suc k) (drop i zs))
@@ -217,18 +220,18 @@ module _ (r : Chain) (tName qName ts qs zs : List ℕ) (ok : MayWrite r tName qN
 
   text-allowed : run Allowed s ≡ length s
   unfolding chainText
-  text-allowed = all-append Allowed (fedWords words) (blockText (m - 1) 0 ts qs zs) (fed-allowed 32 refl words worded) (blocks-allowed (named r tName qName) ts qs zs (ok .rules) (m - 1) 0 (omega (arith, ok .rules .someBlock)))
+  text-allowed = all-append Allowed (fedWords words) (blockText (m - 1) 0 ts qs zs) (fed-allowed 32 refl words worded) (blocks-allowed (named r tName qName) ts qs zs (ok .rules) (m - 1) 0 (omega (arith, ok .rules .rows .someBlock)))
 
   text-word : (k : ℕ) → bytesOf s (wordAt s 0 k) ≡ getD words k []
   text-word k = word-bytes s 0 k ∙ ap (λ (x : List (List ℕ)). getD x k []) text-words
 
   all-rows : suc (m - 1) ≡ m
-  all-rows = omega (arith, ok .rules .someBlock)
+  all-rows = omega (arith, ok .rules .rows .someBlock)
 
   text-blocks : BlockLines (r .tEnd) (r .qEnd) (linesOf (blockText (m - 1) 0 ts qs zs)) (r .tStart) (r .qStart) (take m ts) (take m qs) (take m zs)
   text-blocks =
       let k = ok .rules in
-      lines-as _ _ _ _ (k .tBlocks .firstStart) (k .qBlocks .firstStart) (rw all-rows at (says (named r tName qName) ts qs zs k (m - 1) 0 (omega (arith, k .someBlock))))
+      lines-as _ _ _ _ (k .tBlocks .firstStart) (k .qBlocks .firstStart) (rw all-rows at (says (named r tName qName) ts qs zs k (m - 1) 0 (omega (arith, k .rows .someBlock))))
 
   text-read : length s ≤ textLimit → ChainText s (wordValues r tName qName) (linesOf (blockText (m - 1) 0 ts qs zs)) (placed s r) (take m ts) (take m qs) (take m zs)
   unfolding placed
@@ -257,17 +260,17 @@ module _ (r : Chain) (tName qName ts qs zs : List ℕ) (ok : MayWrite r tName qN
         qSpan = k .qSpan;
         qInside = k .qInside;
         blocks = text-blocks;
-        count = length-take-le m zs (k .sizeRows);
-        few = k .fewBlocks;
+        count = length-take-le m zs (k .rows .sizeRows);
+        few = k .rows .fewBlocks;
       }
 
   t-name-read : partBytes s (placed s r .tName) ≡ tName
   unfolding placed headWords
-  t-name-read = part-bytes s (wordAt s 0 2) ∙ text-word 2
+  t-name-read = part-bytes s (wordAt s 0 column.tName) ∙ text-word column.tName
 
   q-name-read : partBytes s (placed s r .qName) ≡ qName
   unfolding placed headWords
-  q-name-read = part-bytes s (wordAt s 0 7) ∙ text-word 7
+  q-name-read = part-bytes s (wordAt s 0 column.qName) ∙ text-word column.qName
 
 -- THE ROUND TRIP: the writer's checks hold, and the text is short enough
 module _ (r : Chain) (tName qName ts qs zs : List ℕ) (ok : writeCheck r tName qName ts qs zs ≡ Holds) (short : length (chainText r tName qName ts qs zs) ≤ textLimit) where
@@ -300,5 +303,5 @@ module _ (r : Chain) (tName qName ts qs zs : List ℕ) (ok : writeCheck r tName 
 
   -- and with room for its blocks the text is read
   pub back-read : (room : ℕ) → r .blockCount ≤ room → chainRead text room ≡ Accepted (placed text r)
-  unfolding chainRead roomCheck placed
-  back-read room h = rw (back-check, le-leb (r .blockCount) room h)
+  unfolding chainRead chainRoomed placed
+  back-read room h = rw (checked-of text (placed text r) back-check, le-leb (r .blockCount) room h)

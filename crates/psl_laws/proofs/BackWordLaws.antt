@@ -6,15 +6,13 @@ use Prim.Native.Nat.{ℕ, _≤_, zero-le}
 use native.Mathlib.Omega.{arith}
 use lib.ListN.{length, take}
 use lib.Seq.{length-take-le}
-use Rattle.ledger.specs.declared.Part.{Part}
 use Rattle.ledger.specs.declared.Strand.{Strand}
 use Rattle.ledger.specs.declared.Strand.the-variants.{Plus, Minus, Dot}
 use Rattle.ledger.specs.Limits.{largestPosition}
 use Rattle.ledger.specs.Strands.{strandLetter, isTold}
-use Rattle.ledger.specs.Parts.{partAt}
 use Rattle.text.specs.declared.Class.the-variants.{Graphic}
 use Rattle.text.specs.declared.Check.the-variants.{Holds}
-use Rattle.text.proofs.CheckLaws.{require-holds}
+use Rattle.text.proofs.StageLaws.{require-holds}
 use Rattle.text.proofs.TextLaws.{All, both}
 use Rattle.text.proofs.PieceLaws.{Worded}
 use Rattle.numbers.specs.Ranges.{Between}
@@ -23,24 +21,17 @@ use Rattle.kinds.specs.declared.Range.the-variants.{Coordinate, Size}
 use Rattle.kinds.specs.declared.Kind.the-variants.{Number, Count, Stranded}
 use Rattle.kinds.proofs.BackLaws.{Written, written}
 use Rattle.columns.proofs.Meant.{Meant}
-use Rattle.blocks.specs.Blocks.{blocksFill, allBetween, countFits, rowsOf, rowNumbersFit}
+use Rattle.blocks.specs.Blocks.{allBetween, countFits, rowsOf, rowNumbersFit}
 use Rattle.blocks.proofs.RuleLaws.{between-of}
-use Rattle.psl.specs.declared.Side.{Side}
 use Rattle.psl.specs.declared.Psl.{Psl}
 use Rattle.psl.specs.Table.{pslColumns}
-use Rattle.psl.specs.Rows.{firstOn, lastOn, rowsFit, countsFit}
-use Rattle.psl.specs.Rules.{PslRules, renamed, named}
+use Rattle.psl.specs.Rows.{rowsFit, countsFit}
+use Rattle.psl.specs.Rules.{PslRules, named}
 use Rattle.psl.specs.Tests.{fieldsFit, spansFit, pslValid}
 use Rattle.psl.specs.Write.{wordsShow, writeCheck, pslWords}
-use Rattle.psl.proofs.RuleLaws.{rules-of}
+use Rattle.psl_laws.proofs.RuleLaws.{rules-of}
 use Rattle.columns.specs.Names.{lengthFits, allGraphic}
 use Rattle.columns.proofs.WordLaws.{all-graphic, name-written, list-written, row-spells, row-worded, Row, row-none, row-more, and-i}
-
--- where a side's blocks start and end does not depend on its name
-pub on-renamed : (P : ℕ → ℕ → Type 0) (t : Strand) (x : Side) (p : Part) → P (firstOn t x) (lastOn t x) → P (firstOn t (renamed x p)) (lastOn t (renamed x p))
-on-renamed P Plus x p h = h
-on-renamed P Minus x p h = h
-on-renamed P Dot x p h = h
 
 -- what the writer's checks show of a record, its names and its rows
 pub record MayWrite (r : Psl) (qName tName ts qs zs : List ℕ) : Type 0 where
@@ -70,9 +61,7 @@ may-write r qName tName ts qs zs e =
     let fields = both (fieldsFit r) (rowNumbersFit (take n ts) (take n qs) (take n zs)) (numbers .0) in
     let targets = both (allBetween 0 largestPosition (take n ts)) (allBetween 0 largestPosition (take n qs) && allBetween 1 largestPosition (take n zs)) (fields .1) in
     let others = both (allBetween 0 largestPosition (take n qs)) (allBetween 1 largestPosition (take n zs)) (targets .1) in
-    let blocks = both (blocksFill (r .target .start) (r .target .end) (take n ts) (take n zs)) (blocksFill (firstOn (r .strand) (r .query)) (lastOn (r .strand) (r .query)) (take n qs) (take n zs)) (rows .0) in
-    let onQuery = on-renamed (λ (a b : ℕ). blocksFill a b (take n qs) (take n zs) ≡ true) (r .strand) (r .query) (partAt 0 (length qName)) (blocks .1) in
-    let valid : pslValid (named r qName tName) ts qs zs ≡ true = and-i _ _ (count .0) (and-i _ _ (names .0) (and-i _ _ (fields .0) (and-i _ _ (fields .1) (and-i _ _ (spans .0) (and-i _ _ (and-i _ _ (blocks .0) onQuery) (counts .0)))))) in
+    let valid : pslValid (named r qName tName) ts qs zs ≡ true = and-i _ _ (count .0) (and-i _ _ (names .0) (and-i _ _ (fields .0) (and-i _ _ (fields .1) (and-i _ _ (spans .0) (and-i _ _ (rows .0) (counts .0)))))) in
     record {
       rules = rules-of (named r qName tName) ts qs zs valid;
       told = target .1;
@@ -84,8 +73,8 @@ may-write r qName tName ts qs zs e =
     }
 
 strand-written : (n : ℕ) (t : Strand) → isTold t ≡ true → Written (Stranded false) n (strandLetter t) (strandLetter t ∷ []) []
-strand-written n Plus h = written (Stranded false) [] [] n 0 43 0 refl
-strand-written n Minus h = written (Stranded false) [] [] n 0 45 0 refl
+strand-written n Plus h = written (Stranded false) [] [] n 0 (strandLetter Plus) 0 refl
+strand-written n Minus h = written (Stranded false) [] [] n 0 (strandLetter Minus) 0 refl
 strand-written n Dot h = absurd (let z : _≡_ {A = ℕ} 0 1 = cc in omega arith)
 
 coordinate-written : (n v : ℕ) → v ≤ largestPosition → Written (Number Coordinate) n v (digits v) []
@@ -133,10 +122,10 @@ module _ (r : Psl) (qName tName ts qs zs : List ℕ) (ok : MayWrite r qName tNam
       (row-more (written (Number Size) [] [] 0 0 (r .target .size) 0 (t .sizeSome, t .sizeRange))
       (row-more (coordinate-written 0 (r .target .start) (t .startRange))
       (row-more (coordinate-written 0 (r .target .end) (t .endRange))
-      (row-more (written Count [] [] 0 0 n 0 (k .someBlock, k .fewBlocks))
-      (row-more (list-written Size n (take n zs) (k .someBlock) (length-take-le n zs (k .sizeRows)) sizes-between)
-      (row-more (list-written Coordinate n (take n qs) (k .someBlock) (length-take-le n qs (k .queryRows)) queries-between)
-      (row-more (list-written Coordinate n (take n ts) (k .someBlock) (length-take-le n ts (k .targetRows)) targets-between)
+      (row-more (written Count [] [] 0 0 n 0 (k .rows .someBlock, k .rows .fewBlocks))
+      (row-more (list-written Size n (take n zs) (k .rows .someBlock) (length-take-le n zs (k .rows .sizeRows)) sizes-between)
+      (row-more (list-written Coordinate n (take n qs) (k .rows .someBlock) (length-take-le n qs (k .rows .queryRows)) queries-between)
+      (row-more (list-written Coordinate n (take n ts) (k .rows .someBlock) (length-take-le n ts (k .rows .targetRows)) targets-between)
       row-none))))))))))))))))))))
 
   pub words-spell : Meant pslColumns 0 (pslWords r qName tName ts qs zs) (wordValues r qName tName)

@@ -21,21 +21,23 @@ use Rattle.kinds.specs.declared.Kind.the-variants.{Name, Number}
 use Rattle.kinds.specs.Kinds.{leastOf, mostOf, spelt, isStrand}
 use Rattle.kinds.proofs.RangeLaws.{number-spelt, name-spelt, strand-spelt}
 use Rattle.columns.proofs.Meant.{Meant, spells-meant}
+use Rattle.columns.specs.Names.{partOf}
 use Rattle.columns.specs.Places.{kindAt}
 use Rattle.columns.proofs.PlaceLaws.{spelt-at}
-use Rattle.blocks.specs.Blocks.{orderFrom, blocksFill, allBetween}
-use Rattle.blocks.proofs.RuleLaws.{fills-of, ranged-of, fill-low, wider}
-use Rattle.chain.specs.declared.Chain.{Chain}
-use Rattle.chain.specs.declared.ChainAnswer.the-variants.{Accepted}
-use Rattle.chain.specs.Table.{chainColumns, blockColumns}
-use Rattle.chain.specs.Records.{chainTargets, chainQueries, chainSizes}
-use Rattle.chain.specs.Read.{chainCheck}
-use Rattle.chain.specs.Tests.{chainValid}
-use Rattle.chain.specs.Rules.{BlockLines, last-line, more-lines, ChainText, ChainRules}
-use Rattle.chain.proofs.RuleLaws.{rules-is}
-use Rattle.chain.proofs.TextLaws.{text-of}
-use Rattle.columns.specs.Names.{partOf}
 use Rattle.columns.proofs.WordLaws.{word-length}
+use Rattle.blocks.specs.Blocks.{orderFrom, blocksFill, allBetween}
+use Rattle.blocks.specs.Rules.{RowsInUse}
+use Rattle.blocks.proofs.RuleLaws.{fills-of, ranged-of, fill-low, wider}
+use Rattle.chain.specs.declared.Chain.{Chain}
+use Rattle.chain.specs.declared.ChainAnswer.the-variants.{Accepted}
+use Rattle.chain.specs.Columns as column
+use Rattle.chain.specs.Table.{chainColumns, blockColumns}
+use Rattle.chain.specs.Records.{chainTargets, chainQueries, chainSizes}
+use Rattle.chain.specs.Read.{chainCheck}
+use Rattle.chain.specs.Tests.{chainValid}
+use Rattle.chain.specs.Rules.{BlockLines, last-line, more-lines, ChainText, ChainRules}
+use Rattle.chain_laws.proofs.RuleLaws.{rules-is}
+use Rattle.chain_laws.proofs.TextLaws.{text-of}
 
 -- a block before others that start after its end
 fill-more : (t z a last : ℕ) (ss zs : List ℕ) → t + z ≤ a → blocksFill a last ss zs ≡ true → blocksFill t last (t ∷ ss) (z ∷ zs) ≡ true
@@ -86,11 +88,11 @@ lines-some (more-lines sp b) = omega arith
 
 -- A TEXT'S RECORD WITH ITS ROWS OBEYS THE RULES
 module _ (s vs : List ℕ) (ls : List (List ℕ)) (r : Chain) (ts qs zs : List ℕ) (c : ChainText s vs ls r ts qs zs) where
-  number-at : (k : ℕ) (g : Range) → k < 13 → kindAt chainColumns k ≡ Number g → (leastOf g ≤ getD vs k 0) × (getD vs k 0 ≤ mostOf g)
+  number-at : (k : ℕ) (g : Range) → k < column.headerCount → kindAt chainColumns k ≡ Number g → (leastOf g ≤ getD vs k 0) × (getD vs k 0 ≤ mostOf g)
   unfolding chainColumns
   number-at k g h q = number-spelt g _ _ (getD vs k 0) (rw q at (spelt-at (spells-meant (c .spelt)) k h))
 
-  name-at : (k : ℕ) (p : Part) → k < 13 → kindAt chainColumns k ≡ Name → p ≡ partOf (wordAt s 0 k) → (1 ≤ p .length) × (p .length ≤ nameLimit)
+  name-at : (k : ℕ) (p : Part) → k < column.headerCount → kindAt chainColumns k ≡ Name → p ≡ partOf (wordAt s 0 k) → (1 ≤ p .length) × (p .length ≤ nameLimit)
   unfolding chainColumns
   name-at k p h q e =
       let n = name-spelt _ (getD (wordsOf (lineOf s)) k []) (getD vs k 0) (rw q at (spelt-at (spells-meant (c .spelt)) k h)) in
@@ -101,9 +103,9 @@ module _ (s vs : List ℕ) (ls : List (List ℕ)) (r : Chain) (ts qs zs : List �
   strand-at : r .qStrand ≡ Dot → ⊥
   unfolding chainColumns
   strand-at d =
-      let n = strand-spelt false _ _ (getD vs 9 0) (spelt-at (spells-meant (c .spelt)) 9 (omega arith)) in
-      let v : getD vs 9 0 ≡ 46 = sym (c .qStrand) ∙ ap strandLetter d in
-      let x : isStrand false (46 ∷ []) ≡ true = rw v at (n .0) in
+      let n = strand-spelt false _ _ (getD vs column.qStrand 0) (spelt-at (spells-meant (c .spelt)) column.qStrand (omega arith)) in
+      let v : getD vs column.qStrand 0 ≡ strandLetter Dot = sym (c .qStrand) ∙ ap strandLetter d in
+      let x : isStrand false (strandLetter Dot ∷ []) ≡ true = rw v at (n .0) in
       let z : _≡_ {A = ℕ} 0 1 = cc in
       omega arith
 
@@ -116,31 +118,43 @@ module _ (s vs : List ℕ) (ls : List (List ℕ)) (r : Chain) (ts qs zs : List �
   qs-count : length qs ≡ r .blockCount
   qs-count = lines-query-count (c .blocks) ∙ c .count
 
-  pub text-rules : ChainRules r ts qs zs
-  unfolding chainColumns
-  text-rules =
+  rows-used : r .tEnd ≤ largestPosition → r .qEnd ≤ largestPosition → RowsInUse (r .blockCount) ts qs zs
+  rows-used te qe =
       let n = r .blockCount in
-      let tName = name-at 2 (r .tName) (omega arith) refl (c .tName) in
-      let qName = name-at 7 (r .qName) (omega arith) refl (c .qName) in
-      let score = number-at 1 ChainScore (omega arith) refl in
-      let tSize = number-at 3 Size (omega arith) refl in
-      let tStart = number-at 5 Coordinate (omega arith) refl in
-      let tEnd = number-at 6 Coordinate (omega arith) refl in
-      let qSize = number-at 8 Size (omega arith) refl in
-      let qStart = number-at 10 Coordinate (omega arith) refl in
-      let qEnd = number-at 11 Coordinate (omega arith) refl in
-      let id = number-at 12 ChainId (omega arith) refl in
       let some = lines-some (c .blocks) in
       let tFill = lines-fill-target (c .blocks) in
       let qFill = lines-fill-query (c .blocks) in
-      let te : r .tEnd ≤ largestPosition = rw (c .tEnd) (tEnd .1) in
-      let qe : r .qEnd ≤ largestPosition = rw (c .qEnd) (qEnd .1) in
       record {
         someBlock = omega (arith, c .count);
         fewBlocks = c .few;
         targetRows = omega (arith, ts-count);
         queryRows = omega (arith, qs-count);
         sizeRows = omega (arith, zs-count);
+        targetRange = ranged-of 0 largestPosition n ts ts-count (wider (r .tStart) (r .tEnd) 0 largestPosition ts (omega arith) te (fill-low (r .tStart) (r .tEnd) ts zs tFill));
+        queryRange = ranged-of 0 largestPosition n qs qs-count (wider (r .qStart) (r .qEnd) 0 largestPosition qs (omega arith) qe (fill-low (r .qStart) (r .qEnd) qs zs qFill));
+        sizeRange = ranged-of 1 largestPosition n zs zs-count (lines-sizes (c .blocks));
+      }
+
+  pub text-rules : ChainRules r ts qs zs
+  unfolding chainColumns
+  text-rules =
+      let n = r .blockCount in
+      let tName = name-at column.tName (r .tName) (omega arith) refl (c .tName) in
+      let qName = name-at column.qName (r .qName) (omega arith) refl (c .qName) in
+      let score = number-at column.score ChainScore (omega arith) refl in
+      let tSize = number-at column.tSize Size (omega arith) refl in
+      let tStart = number-at column.tStart Coordinate (omega arith) refl in
+      let tEnd = number-at column.tEnd Coordinate (omega arith) refl in
+      let qSize = number-at column.qSize Size (omega arith) refl in
+      let qStart = number-at column.qStart Coordinate (omega arith) refl in
+      let qEnd = number-at column.qEnd Coordinate (omega arith) refl in
+      let id = number-at column.id ChainId (omega arith) refl in
+      let tFill = lines-fill-target (c .blocks) in
+      let qFill = lines-fill-query (c .blocks) in
+      let te : r .tEnd ≤ largestPosition = rw (c .tEnd) (tEnd .1) in
+      let qe : r .qEnd ≤ largestPosition = rw (c .qEnd) (qEnd .1) in
+      record {
+        rows = rows-used te qe;
         tNameSome = tName .0;
         tNameShort = tName .1;
         qNameSome = qName .0;
@@ -156,9 +170,6 @@ module _ (s vs : List ℕ) (ls : List (List ℕ)) (r : Chain) (ts qs zs : List �
         qStartRange = rw (c .qStart) (qStart .1);
         qEndRange = qe;
         idRange = rw (c .id) (id .1);
-        targetRange = ranged-of 0 largestPosition n ts ts-count (wider (r .tStart) (r .tEnd) 0 largestPosition ts (omega arith) te (fill-low (r .tStart) (r .tEnd) ts zs tFill));
-        queryRange = ranged-of 0 largestPosition n qs qs-count (wider (r .qStart) (r .qEnd) 0 largestPosition qs (omega arith) qe (fill-low (r .qStart) (r .qEnd) qs zs qFill));
-        sizeRange = ranged-of 1 largestPosition n zs zs-count (lines-sizes (c .blocks));
         tSpan = c .tSpan;
         tInside = c .tInside;
         qSpan = c .qSpan;

@@ -2,25 +2,25 @@
 use mathlib.Core.Path.{_≡_}
 use mathlib.Core.Bool.{true, _&&_}
 use mathlib.Core.List.{List}
-use Prim.Native.Nat.{ℕ, _≤_}
-use native.Mathlib.Omega.{arith}
-use lib.ListN.{length, take}
+use Prim.Native.Nat.{ℕ}
+use lib.ListN.{take}
 use lib.Seq.{length-take-le}
 use lib.Dec.{leb, ltb}
 use borrow.Author.Tests.{leb-true, ltb-true, eqb-true, le-leb, lt-ltb, eq-eqb}
 use Rattle.ledger.specs.Strands.{isTold}
 use Rattle.ledger.proofs.Laws.{told-of, told-is}
-use Rattle.ledger.specs.Limits.{blockLimit, nameLimit, largestPosition}
+use Rattle.ledger.specs.Limits.{nameLimit, largestPosition}
 use Rattle.text.proofs.TextLaws.{both}
 use Rattle.blocks.specs.Blocks.{countFits, rowsOf, rowNumbersFit, spanFits}
-use Rattle.blocks.proofs.RuleLaws.{fills-of, fills-is, ranged-of, ranged-is}
-use Rattle.blocks.proofs.TakeLaws.{fills-take, fills-back, ranged-take, ranged-back}
+use Rattle.blocks.proofs.RuleLaws.{fills-of, fills-is}
+use Rattle.blocks.proofs.TakeLaws.{fills-take, fills-back}
+use Rattle.blocks.proofs.UseLaws.{use-of, use-counts, use-numbers}
 use Rattle.psl.specs.declared.Counts.{Counts}
 use Rattle.psl.specs.declared.Side.{Side}
 use Rattle.psl.specs.declared.Psl.{Psl}
 use Rattle.psl.specs.Rows.{rowsFit, countsFit}
 use Rattle.psl.specs.Tests.{sideFits, countNumbersFit, fieldsFit, spansFit, pslValid}
 use Rattle.psl.specs.Rules.{SpanIn, CountRules, SideRange, PslRules}
 use Rattle.columns.specs.Names.{lengthFits}
 use Rattle.columns.proofs.WordLaws.{and-i}
 
@@ -49,10 +49,10 @@ side-of x n e =
       endRange = leb-true _ _ (span .1);
     }
 
-pub name-is : (x : Side) → SideRange x → lengthFits (x .name .length) ≡ true
+name-is : (x : Side) → SideRange x → lengthFits (x .name .length) ≡ true
 name-is x h = and-i _ _ (le-leb 1 (x .name .length) (h .nameSome)) (le-leb (x .name .length) nameLimit (h .nameShort))
 
-pub side-is : (x : Side) → SideRange x → sideFits x ≡ true
+side-is : (x : Side) → SideRange x → sideFits x ≡ true
 side-is x h =
     and-i _ _ (and-i _ _ (le-leb 1 (x .size) (h .sizeSome)) (le-leb (x .size) largestPosition (h .sizeRange)))
     (and-i _ _ (le-leb (x .start) largestPosition (h .startRange)) (le-leb (x .end) largestPosition (h .endRange)))
@@ -80,16 +80,10 @@ module _ (c : Counts) (ts qs zs : List ℕ) where
 
 -- THE TEST SAYS THE RULES
 pub rules-of : (r : Psl) (ts qs zs : List ℕ) → pslValid r ts qs zs ≡ true → PslRules r ts qs zs
-unfolding pslValid countNumbersFit fieldsFit rowNumbersFit spansFit rowsFit
+unfolding pslValid countNumbersFit fieldsFit spansFit rowsFit
 rules-of r ts qs zs e =
     let n = r .blockCount in
-    let count = both _ _ e in
-    let some = both (leb 1 n) _ (count .0) in
-    let fits = both (leb n blockLimit) (leb n (rowsOf ts qs zs)) (some .1) in
-    let held = leb-true n (rowsOf ts qs zs) (fits .1) in
-    let ht : n ≤ length ts = omega arith in
-    let hq : n ≤ length qs = omega arith in
-    let hz : n ≤ length zs = omega arith in
+    let count = both (countFits n (rowsOf ts qs zs)) _ e in
     let names = both _ _ (count .1) in
     let query = both (lengthFits (r .query .name .length)) _ (names .0) in
     let target = both (lengthFits (r .target .name .length)) (isTold (r .strand)) (query .1) in
@@ -103,22 +97,17 @@ rules-of r ts qs zs e =
     let qNumInsert = both _ _ (nCount .1) in
     let qBaseInsert = both _ _ (qNumInsert .1) in
     let tInsert = both _ _ (qBaseInsert .1) in
-    let numbers = both _ _ (fields .1) in
-    let targets = both _ _ (numbers .0) in
-    let queries = both _ _ (targets .1) in
+    let numbers = both (rowNumbersFit (take n ts) (take n qs) (take n zs)) _ (fields .1) in
+    let used = use-of n ts qs zs (count .0) (numbers .0) in
     let spans = both _ _ (numbers .1) in
     let span = both (spanFits (r .query .start) (r .query .end) (r .query .size)) (spanFits (r .target .start) (r .target .end) (r .target .size)) (spans .0) in
     let rows = both _ _ (spans .1) in
     let blocks = both _ _ (rows .0) in
-    let lt = length-take-le n ts ht in
-    let lq = length-take-le n qs hq in
-    let lz = length-take-le n zs hz in
+    let lt = length-take-le n ts (used .targetRows) in
+    let lq = length-take-le n qs (used .queryRows) in
+    let lz = length-take-le n zs (used .sizeRows) in
     record {
-      someBlock = leb-true 1 n (some .0);
-      fewBlocks = leb-true n blockLimit (fits .0);
-      targetRows = ht;
-      queryRows = hq;
-      sizeRows = hz;
+      rows = used;
       strand = told-of (r .strand) (target .1);
       queryRange = side-of (r .query) (query .0) (sides .0);
       targetRange = side-of (r .target) (target .0) (sides .1);
@@ -130,9 +119,6 @@ rules-of r ts qs zs e =
       qBaseInsertRange = leb-true _ _ (qBaseInsert .0);
       tNumInsertRange = leb-true _ _ (tInsert .0);
       tBaseInsertRange = leb-true _ _ (tInsert .1);
-      targetsRange = ranged-back 0 largestPosition n ts (ranged-of 0 largestPosition n (take n ts) lt (targets .0));
-      queriesRange = ranged-back 0 largestPosition n qs (ranged-of 0 largestPosition n (take n qs) lq (queries .0));
-      sizesRange = ranged-back 1 largestPosition n zs (ranged-of 1 largestPosition n (take n zs) lz (queries .1));
       querySpan = span-of (r .query) (span .0);
       targetSpan = span-of (r .target) (span .1);
       targetBlocks = fills-back _ _ n ts zs (fills-of _ _ n (take n ts) (take n zs) lt lz (blocks .0));
@@ -142,25 +128,19 @@ rules-of r ts qs zs e =
 
 -- THE RULES PASS THE TEST
 pub rules-is : (r : Psl) (ts qs zs : List ℕ) → PslRules r ts qs zs → pslValid r ts qs zs ≡ true
-unfolding pslValid countNumbersFit fieldsFit rowNumbersFit spansFit rowsFit
+unfolding pslValid countNumbersFit fieldsFit spansFit rowsFit
 rules-is r ts qs zs b =
     let n = r .blockCount in
-    let held : n ≤ rowsOf ts qs zs = omega (arith, b .targetRows, b .queryRows, b .sizeRows) in
-    let lt = length-take-le n ts (b .targetRows) in
-    let lq = length-take-le n qs (b .queryRows) in
-    let lz = length-take-le n zs (b .sizeRows) in
-    let count : countFits n (rowsOf ts qs zs) ≡ true = and-i _ _ (le-leb _ _ (b .someBlock)) (and-i _ _ (le-leb _ _ (b .fewBlocks)) (le-leb _ _ held)) in
+    let lt = length-take-le n ts (b .rows .targetRows) in
+    let lq = length-take-le n qs (b .rows .queryRows) in
+    let lz = length-take-le n zs (b .rows .sizeRows) in
     let names = and-i _ _ (name-is (r .query) (b .queryRange)) (and-i _ _ (name-is (r .target) (b .targetRange)) (told-is (r .strand) (b .strand))) in
     let inserts = and-i _ _ (le-leb _ _ (b .qNumInsertRange)) (and-i _ _ (le-leb _ _ (b .qBaseInsertRange)) (and-i _ _ (le-leb _ _ (b .tNumInsertRange)) (le-leb _ _ (b .tBaseInsertRange)))) in
     let numbers : countNumbersFit (r .counts) ≡ true = and-i _ _ (le-leb _ _ (b .matchesRange)) (and-i _ _ (le-leb _ _ (b .misMatchesRange)) (and-i _ _ (le-leb _ _ (b .repMatchesRange)) (and-i _ _ (le-leb _ _ (b .nCountRange)) inserts))) in
     let fields : fieldsFit r ≡ true = and-i _ _ numbers (and-i _ _ (side-is (r .query) (b .queryRange)) (side-is (r .target) (b .targetRange))) in
-    let targets = ranged-is 0 largestPosition n (take n ts) lt (ranged-take 0 largestPosition n ts (b .targetsRange)) in
-    let queries = ranged-is 0 largestPosition n (take n qs) lq (ranged-take 0 largestPosition n qs (b .queriesRange)) in
-    let sizes = ranged-is 1 largestPosition n (take n zs) lz (ranged-take 1 largestPosition n zs (b .sizesRange)) in
-    let rowNumbers : rowNumbersFit (take n ts) (take n qs) (take n zs) ≡ true = and-i _ _ targets (and-i _ _ queries sizes) in
     let spans : spansFit r ≡ true = and-i _ _ (span-is (r .query) (b .querySpan)) (span-is (r .target) (b .targetSpan)) in
     let targetBlocks = fills-is _ _ n (take n ts) (take n zs) lt lz (fills-take _ _ n ts zs (b .targetBlocks)) in
     let queryBlocks = fills-is _ _ n (take n qs) (take n zs) lq lz (fills-take _ _ n qs zs (b .queryBlocks)) in
     let rows : rowsFit r (take n ts) (take n qs) (take n zs) ≡ true = and-i _ _ targetBlocks queryBlocks in
     let counts = counts-is (r .counts) (take n ts) (take n qs) (take n zs) (b .counts) in
-    and-i _ _ count (and-i _ _ names (and-i _ _ fields (and-i _ _ rowNumbers (and-i _ _ spans (and-i _ _ rows counts)))))
+    and-i _ _ (use-counts n ts qs zs (b .rows)) (and-i _ _ names (and-i _ _ fields (and-i _ _ (use-numbers n ts qs zs (b .rows)) (and-i _ _ spans (and-i _ _ rows counts)))))

@@ -8,38 +8,39 @@ use lib.ListN.{length, getD, take, drop, drop-of-length-le}
 use lib.Dec.{ltb}
 use borrow.Author.Tests.{leb-true, ltb-true, eq-eqb}
 use Rattle.ledger.specs.Limits.{blockLimit}
-use Rattle.ledger.specs.declared.Refusal.{Refusal}
+use Rattle.ledger.specs.declared.Fault.{Fault}
 use Rattle.text.specs.declared.Class.the-variants.{Line}
-use Rattle.text.specs.declared.Check.{Check}
-use Rattle.text.specs.declared.Check.the-variants.{Holds}
-use Rattle.text.specs.declared.Check.the-variants as check
+use Rattle.text.specs.declared.Stage.{Stage}
+use Rattle.text.specs.declared.Stage.the-variants.{Passes}
+use Rattle.text.specs.declared.Stage.the-variants as stage
 use Rattle.text.specs.Scan.{run, endOf}
-use Rattle.text.specs.Checks.{lastLineCheck, wordsCheck}
+use Rattle.text.specs.Checks.{thenCheck, lastLineCheck, wordsCheck}
 use Rattle.text.specs.Pieces.{linesOf, lineOf, wordsOf}
 use Rattle.text.specs.Words.{lineEnd, nextLine, wordCount}
 use Rattle.text.proofs.Laws.{either, line-last}
 use Rattle.text.proofs.PieceLaws.{lines-none, lines-step}
+use Rattle.text.proofs.StageLaws.{require-passes}
 use Rattle.columns.specs.declared.Columns.{Columns}
 use Rattle.columns.specs.declared.Columns.the-variants.{Next}
 use Rattle.columns.specs.declared.Columns.the-variants as columns
-use Rattle.columns.specs.Columns.{columnsFrom, valuesFrom}
+use Rattle.columns.specs.Columns.{columnsFrom, valuesFrom, valueOf, thenNext}
 use Rattle.columns.specs.Spells.{firsts}
 use Rattle.columns.proofs.Meant.{Meant, meant-length, meant-spells, spells-meant}
 use Rattle.columns.proofs.SpellsLaws.{columns-mean, Reads, meant-read}
 use Rattle.columns.proofs.PlaceLaws.{value-first}
-use Rattle.chain.specs.declared.Block.{Block}
-use Rattle.chain.specs.declared.Block.the-variants.{Last, Gap}
-use Rattle.chain.specs.declared.Block.the-variants as block
+use Rattle.chain.specs.declared.BlockLine.{BlockLine}
+use Rattle.chain.specs.declared.BlockLine.the-variants.{Last, Gap}
+use Rattle.chain.specs.declared.BlockLine.the-variants as block
 use Rattle.chain.specs.declared.Ending.{Ending}
 use Rattle.chain.specs.declared.Lines.the-variants.{Ended}
 use Rattle.chain.specs.declared.Lines.the-variants as lines
+use Rattle.chain.specs.Columns as column
 use Rattle.chain.specs.Table.{blockColumns}
 use Rattle.chain.specs.Records.{targetsFrom, queriesFrom, sizesFrom}
-use Rattle.chain.specs.Read.{blockWords, checkBlock, readBlock, blockIs, blockNumbers, blockLine, thenBlock, endingAt, linesFrom}
+use Rattle.chain.specs.Read.{blockWords, limitCheck, blockIs, blockNumbers, blockLine, thenBlock, endingAt, linesFrom}
 use Rattle.chain.specs.Rules.{BlockLines, last-line, more-lines}
 use Rattle.chain.proofs.BlockLaws.{count-split, words-good, gap-holds, last-holds}
 use Rattle.chain.proofs.WalkLaws.{from-last, from-gap}
-use Rattle.text.proofs.CheckLaws.{require-holds}
 
 -- the lines from a place on
 module _ (s : List ℕ) (i : ℕ) where
@@ -76,43 +77,43 @@ one-is (a ∷ []) e = refl
 one-is (a ∷ b ∷ l) e = absurd (omega arith)
 
 -- a block line that is read
-record Good (s : List ℕ) (line : ℕ) (b : Block) : Type 0 where
-  count : blockWords s line (wordCount s line) ≡ Holds
+record Good (s : List ℕ) (line : ℕ) (b : BlockLine) : Type 0 where
+  count : blockWords s line (wordCount s line) ≡ Passes
   end : ℕ
   read : columnsFrom (take (wordCount s line) blockColumns) 0 s line ≡ Next end
   is : b ≡ blockIs (wordCount s line) (valuesFrom (take (wordCount s line) blockColumns) 0 s line)
 
 module _ (s : List ℕ) (line : ℕ) where
-  good-of : (b : Block) → ((x : Refusal) → b ≡ block.Refused x → ⊥) → blockLine s line ≡ b → Good s line b
+  good-of : (b : BlockLine) → ((x : Fault) → b ≡ block.Faulty x → ⊥) → blockLine s line ≡ b → Good s line b
   unfolding blockLine blockNumbers
   good-of b never e = go (blockWords s line (wordCount s line)) (columnsFrom (take (wordCount s line) blockColumns) 0 s line) refl refl e
     where
-      go : (c : Check) (d : Columns) → blockWords s line (wordCount s line) ≡ c → columnsFrom (take (wordCount s line) blockColumns) 0 s line ≡ d
-          → checkBlock c (readBlock d (blockIs (wordCount s line) (valuesFrom (take (wordCount s line) blockColumns) 0 s line))) ≡ b → Good s line b
-      go Holds (Next f) p q k = record { count = p; end = f; read = q; is = sym k }
-      go Holds (columns.Refused x) p q k = absurd (never x (sym k))
-      go (check.Refused x) d p q k = absurd (never x (sym k))
+      go : (c : Stage) (d : Columns) → blockWords s line (wordCount s line) ≡ c → columnsFrom (take (wordCount s line) blockColumns) 0 s line ≡ d
+          → thenCheck block.Faulty c (thenNext block.Faulty d (blockIs (wordCount s line) (valuesFrom (take (wordCount s line) blockColumns) 0 s line))) ≡ b → Good s line b
+      go Passes (Next f) p q k = record { count = p; end = f; read = q; is = sym k }
+      go Passes (columns.Faulty x) p q k = absurd (never x (sym k))
+      go (stage.Faulty x) d p q k = absurd (never x (sym k))
 
   abbrev here : List (List ℕ)
   here = wordsOf (lineOf (drop line s))
 
-  three-spell : (z dt dq e : ℕ) → wordCount s line ≡ 3 → columnsFrom (take 3 blockColumns) 0 s line ≡ Next e → Gap z dt dq ≡ blockIs 3 (valuesFrom (take 3 blockColumns) 0 s line) → Meant blockColumns 0 here (z ∷ dt ∷ dq ∷ [])
+  three-spell : (z dt dq e : ℕ) → wordCount s line ≡ column.gapCount → columnsFrom (take column.gapCount blockColumns) 0 s line ≡ Next e → Gap z dt dq ≡ blockIs column.gapCount (valuesFrom (take column.gapCount blockColumns) 0 s line) → Meant blockColumns 0 here (z ∷ dt ∷ dq ∷ [])
   unfolding blockColumns
   three-spell z dt dq e w read is =
-      let vs = valuesFrom (take 3 blockColumns) 0 s line in
-      let sp : Meant blockColumns 0 here (firsts vs) = columns-mean (take 3 blockColumns) 0 s line e w read in
-      let a : getD (firsts vs) 0 0 ≡ z = value-first vs 0 ∙ cc in
-      let b : getD (firsts vs) 1 0 ≡ dt = value-first vs 1 ∙ cc in
-      let c : getD (firsts vs) 2 0 ≡ dq = value-first vs 2 ∙ cc in
+      let vs = valuesFrom (take column.gapCount blockColumns) 0 s line in
+      let sp : Meant blockColumns 0 here (firsts vs) = columns-mean (take column.gapCount blockColumns) 0 s line e w read in
+      let a : getD (firsts vs) column.size 0 ≡ z = value-first vs column.size ∙ cc in
+      let b : getD (firsts vs) column.dt 0 ≡ dt = value-first vs column.dt ∙ cc in
+      let c : getD (firsts vs) column.dq 0 ≡ dq = value-first vs column.dq ∙ cc in
       let f : firsts vs ≡ z ∷ dt ∷ dq ∷ [] = three-is (firsts vs) (meant-length sp .1) ∙ rw (a, b, c) in
       rw f at sp
 
-  one-spell : (z e : ℕ) → wordCount s line ≡ 1 → columnsFrom (take 1 blockColumns) 0 s line ≡ Next e → Last z ≡ blockIs 1 (valuesFrom (take 1 blockColumns) 0 s line) → Meant (take 1 blockColumns) 0 here (z ∷ [])
+  one-spell : (z e : ℕ) → wordCount s line ≡ column.lastCount → columnsFrom (take column.lastCount blockColumns) 0 s line ≡ Next e → Last z ≡ blockIs column.lastCount (valuesFrom (take column.lastCount blockColumns) 0 s line) → Meant (take column.lastCount blockColumns) 0 here (z ∷ [])
   unfolding blockColumns
   one-spell z e w read is =
-      let vs = valuesFrom (take 1 blockColumns) 0 s line in
-      let sp : Meant (take 1 blockColumns) 0 here (firsts vs) = columns-mean (take 1 blockColumns) 0 s line e w read in
-      let a : getD (firsts vs) 0 0 ≡ z = value-first vs 0 ∙ cc in
+      let vs = valuesFrom (take column.lastCount blockColumns) 0 s line in
+      let sp : Meant (take column.lastCount blockColumns) 0 here (firsts vs) = columns-mean (take column.lastCount blockColumns) 0 s line e w read in
+      let a : getD (firsts vs) column.size 0 ≡ z = value-first vs column.size ∙ cc in
       let f : firsts vs ≡ z ∷ [] = one-is (firsts vs) (meant-length sp .1) ∙ rw a in
       rw f at sp
 
@@ -120,10 +121,10 @@ module _ (s : List ℕ) (line : ℕ) where
   gap-spells z dt dq e =
       let g = good-of (Gap z dt dq) (λ x q. let k : _≡_ {A = ℕ} 0 1 = cc in omega arith) e in
       count-split (wordCount s line) (words-good s line (wordCount s line) (g .count)) _
-      (λ q. absurd (let k = rw (eq-eqb (wordCount s line) 1 q) at (g .is) in let z : _≡_ {A = ℕ} 0 1 = cc in omega arith))
+      (λ q. absurd (let k = rw (eq-eqb (wordCount s line) column.lastCount q) at (g .is) in let z : _≡_ {A = ℕ} 0 1 = cc in omega arith))
       (λ q. three-spell z dt dq (g .end) q (rw q at (g .read)) (rw q at (g .is)))
 
-  pub last-spells : (z : ℕ) → blockLine s line ≡ Last z → Meant (take 1 blockColumns) 0 here (z ∷ [])
+  pub last-spells : (z : ℕ) → blockLine s line ≡ Last z → Meant (take column.lastCount blockColumns) 0 here (z ∷ [])
   last-spells z e =
       let g = good-of (Last z) (λ x q. let k : _≡_ {A = ℕ} 0 1 = cc in omega arith) e in
       count-split (wordCount s line) (words-good s line (wordCount s line) (g .count)) _
@@ -133,21 +134,21 @@ module _ (s : List ℕ) (line : ℕ) where
   pub spells-gap : (z dt dq : ℕ) → Meant blockColumns 0 here (z ∷ dt ∷ dq ∷ []) → blockLine s line ≡ Gap z dt dq
   unfolding blockLine blockWords wordsCheck blockNumbers blockColumns wordCount
   spells-gap z dt dq sp =
-      let w : length here ≡ 3 = meant-length sp .0 in
-      let rd : Reads (take 3 blockColumns) 0 s line (z ∷ dt ∷ dq ∷ []) = meant-read (take 3 blockColumns) 0 s line here (z ∷ dt ∷ dq ∷ []) w refl sp in
-      let vs = valuesFrom (take 3 blockColumns) 0 s line in
-      let a : getD vs 0 0 ≡ z = sym (value-first vs 0) ∙ ap (λ (l : List ℕ). getD l 0 0) (rd .values) in
-      let b : getD vs 2 0 ≡ dt = sym (value-first vs 1) ∙ ap (λ (l : List ℕ). getD l 1 0) (rd .values) in
-      let c : getD vs 4 0 ≡ dq = sym (value-first vs 2) ∙ ap (λ (l : List ℕ). getD l 2 0) (rd .values) in
+      let w : length here ≡ column.gapCount = meant-length sp .0 in
+      let rd : Reads (take column.gapCount blockColumns) 0 s line (z ∷ dt ∷ dq ∷ []) = meant-read (take column.gapCount blockColumns) 0 s line here (z ∷ dt ∷ dq ∷ []) w refl sp in
+      let vs = valuesFrom (take column.gapCount blockColumns) 0 s line in
+      let a : valueOf vs column.size ≡ z = sym (value-first vs column.size) ∙ ap (λ (l : List ℕ). getD l column.size 0) (rd .values) in
+      let b : valueOf vs column.dt ≡ dt = sym (value-first vs column.dt) ∙ ap (λ (l : List ℕ). getD l column.dt 0) (rd .values) in
+      let c : valueOf vs column.dq ≡ dq = sym (value-first vs column.dq) ∙ ap (λ (l : List ℕ). getD l column.dq 0) (rd .values) in
       rw (w, rd .read, a, b, c)
 
-  pub spells-last : (z : ℕ) → Meant (take 1 blockColumns) 0 here (z ∷ []) → blockLine s line ≡ Last z
+  pub spells-last : (z : ℕ) → Meant (take column.lastCount blockColumns) 0 here (z ∷ []) → blockLine s line ≡ Last z
   unfolding blockLine blockWords wordsCheck blockNumbers blockColumns wordCount
   spells-last z sp =
-      let w : length here ≡ 1 = meant-length sp .0 in
-      let rd : Reads (take 1 blockColumns) 0 s line (z ∷ []) = meant-read (take 1 blockColumns) 0 s line here (z ∷ []) w refl sp in
-      let vs = valuesFrom (take 1 blockColumns) 0 s line in
-      let a : getD vs 0 0 ≡ z = sym (value-first vs 0) ∙ ap (λ (l : List ℕ). getD l 0 0) (rd .values) in
+      let w : length here ≡ column.lastCount = meant-length sp .0 in
+      let rd : Reads (take column.lastCount blockColumns) 0 s line (z ∷ []) = meant-read (take column.lastCount blockColumns) 0 s line here (z ∷ []) w refl sp in
+      let vs = valuesFrom (take column.lastCount blockColumns) 0 s line in
+      let a : valueOf vs column.size ≡ z = sym (value-first vs column.size) ∙ ap (λ (l : List ℕ). getD l column.size 0) (rd .values) in
       rw (w, rd .read, a)
 
 -- the block lines that a walk passed say its rows
@@ -159,10 +160,10 @@ pub record Ends (te qe : ℕ) (s : List ℕ) (k line t q count : ℕ) : Type 0 w
   pub says : BlockLines te qe (linesOf (drop line s)) t q (targetsFrom n s line t) (queriesFrom n s line q) (sizesFrom n s line)
 
 module _ (te qe : ℕ) (s : List ℕ) (k line t q count : ℕ) (fits : suc k ≤ blockLimit) (h : line < length s) where
-  last-ends : (z : ℕ) → blockLine s line ≡ Last z → lastLineCheck s line ≡ Holds → t + z ≡ te → q + z ≡ qe → count ≡ blockLimit - k → Ends te qe s (suc k) line t q count
+  last-ends : (z : ℕ) → blockLine s line ≡ Last z → lastLineCheck s line ≡ Passes → t + z ≡ te → q + z ≡ qe → count ≡ blockLimit - k → Ends te qe s (suc k) line t q count
   unfolding lastLineCheck targetsFrom queriesFrom sizesFrom
   last-ends z g l et eq ec =
-      let past : length s ≤ nextLine s line = leb-true (length s) (nextLine s line) (require-holds _ _ _ l .0) in
+      let past : length s ≤ nextLine s line = leb-true (length s) (nextLine s line) (require-passes _ _ _ l .0) in
       let one : linesOf (drop line s) ≡ lineOf (drop line s) ∷ [] = lines-at s line h ∙ ap (λ (x : List (List ℕ)). lineOf (drop line s) ∷ x) (lines-past s (nextLine s line) past) in
       record { n = 1; some = omega arith; few = omega arith; is = omega arith; says = rw (one, last-holds s line z g) (last-line (meant-spells (last-spells s line z g)) et eq) }
 
@@ -174,17 +175,17 @@ module _ (te qe : ℕ) (s : List ℕ) (k line t q count : ℕ) (fits : suc k ≤
       let b = r .is in
       record { n = suc (r .n); some = omega arith; few = omega arith; is = omega arith; says = rw (lines-at s line h, v .0, v .1, v .2) (more-lines (meant-spells (gap-spells s line z dt dq g)) (r .says)) }
 
-pub walk-says : (s : List ℕ) (k : ℕ) → k ≤ blockLimit → (line t q : ℕ) (e : Ending) → linesFrom k s line t q ≡ Ended e → lastLineCheck s (e .line) ≡ Holds → Ends (e .target) (e .query) s k line t q (e .count)
-unfolding linesFrom
+pub walk-says : (s : List ℕ) (k : ℕ) → k ≤ blockLimit → (line t q : ℕ) (e : Ending) → linesFrom k s line t q ≡ Ended e → lastLineCheck s (e .line) ≡ Passes → Ends (e .target) (e .query) s k line t q (e .count)
+unfolding linesFrom limitCheck
 walk-says s zero fits line t q e w l = absurd (go (ltb line (length s)) _ _ w)
   where
-    go : (b : Bool) (x y : Refusal) → cond b (lines.Refused x) (lines.Refused y) ≡ Ended e → ⊥
+    go : (b : Bool) (x y : Fault) → cond b (lines.Faulty x) (lines.Faulty y) ≡ Ended e → ⊥
     go true x y k = let z : _≡_ {A = ℕ} 0 1 = cc in omega arith
     go false x y k = let z : _≡_ {A = ℕ} 0 1 = cc in omega arith
 walk-says s (suc k) fits line t q e w l = go (ltb line (length s)) (blockLine s line) _ refl refl w (λ z dt dq v. walk-says s k (omega arith) (nextLine s line) (t + z + dt) (q + z + dq) e v l)
   where
-    go : (b : Bool) (x : Block) (y : Refusal) → ltb line (length s) ≡ b → blockLine s line ≡ x
-        → cond b (thenBlock x (λ z. Ended (endingAt line (blockLimit - k) (t + z) (q + z))) (λ z dt dq. linesFrom k s (nextLine s line) (t + z + dt) (q + z + dq))) (lines.Refused y) ≡ Ended e
+    go : (b : Bool) (x : BlockLine) (y : Fault) → ltb line (length s) ≡ b → blockLine s line ≡ x
+        → cond b (thenBlock x (λ z. Ended (endingAt line (blockLimit - k) (t + z) (q + z))) (λ z dt dq. linesFrom k s (nextLine s line) (t + z + dt) (q + z + dq))) (lines.Faulty y) ≡ Ended e
         → ((z dt dq : ℕ) → linesFrom k s (nextLine s line) (t + z + dt) (q + z + dq) ≡ Ended e → Ends (e .target) (e .query) s k (nextLine s line) (t + z + dt) (q + z + dq) (e .count))
         → Ends (e .target) (e .query) s (suc k) line t q (e .count)
     go true (Last z) y p g v ih =
@@ -193,14 +194,14 @@ walk-says s (suc k) fits line t q e w l = go (ltb line (length s)) (blockLine s 
         last-ends (e .target) (e .query) s k line t q (e .count) fits (ltb-true line (length s) p) z g (rw el at l) (ap (λ (x : Ending). x .target) i) (ap (λ (x : Ending). x .query) i) (sym (ap (λ (x : Ending). x .count) i))
     go true (Gap z dt dq) y p g v ih =
         more-ends (e .target) (e .query) s k line t q (e .count) fits (ltb-true line (length s) p) z dt dq g (ih z dt dq v)
-    go true (block.Refused x) y p g v ih = absurd (let z : _≡_ {A = ℕ} 0 1 = cc in omega arith)
+    go true (block.Faulty x) y p g v ih = absurd (let z : _≡_ {A = ℕ} 0 1 = cc in omega arith)
     go false x y p g v ih = absurd (let z : _≡_ {A = ℕ} 0 1 = cc in omega arith)
 
 -- and block lines that say rows are passed by the walk, with just those rows
 pub record Ran (te qe : ℕ) (s : List ℕ) (k line t q : ℕ) (ts qs zs : List ℕ) : Type 0 where
   pub end : Ending
   pub ran : linesFrom k s line t q ≡ Ended end
-  pub last : lastLineCheck s (end .line) ≡ Holds
+  pub last : lastLineCheck s (end .line) ≡ Passes
   pub target : end .target ≡ te
   pub query : end .query ≡ qe
   pub count : end .count ≡ blockLimit - k + length zs
@@ -224,7 +225,7 @@ module _ (te qe : ℕ) (s : List ℕ) (k line t q : ℕ) (fits : suc k ≤ block
   less : suc k - 1 ≡ k
   less = omega arith
 
-  last-ran : (z : ℕ) → ls ≡ [] → Meant (take 1 blockColumns) 0 (wordsOf l) (z ∷ []) → t + z ≡ te → q + z ≡ qe → Ran te qe s (suc k) line t q (t ∷ []) (q ∷ []) (z ∷ [])
+  last-ran : (z : ℕ) → ls ≡ [] → Meant (take column.lastCount blockColumns) 0 (wordsOf l) (z ∷ []) → t + z ≡ te → q + z ≡ qe → Ran te qe s (suc k) line t q (t ∷ []) (q ∷ []) (z ∷ [])
   unfolding targetsFrom queriesFrom sizesFrom
   last-ran z none sp et eq =
       let g : blockLine s line ≡ Last z = spells-last s line z (rw this-line at sp) in
