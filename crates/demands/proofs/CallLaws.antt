@@ -14,7 +14,8 @@ use Rattle.ledger.specs.declared.Refusal.{Refusal}
 use Rattle.ledger.specs.Limits.{largestNumber}
 use Rattle.ledger.specs.Reasons.{reasonNumber}
 use Rattle.text.specs.declared.Check.the-variants as check
-use Rattle.text.specs.Checks.{require}
+use Rattle.ledger.specs.Refusals.{require}
+use Rattle.text.specs.Checks.{refused}
 use Rattle.numbers.specs.Ranges.{Between, between-none, between-more}
 use Rattle.chain.specs.declared.Chain.{Chain}
 use Rattle.chain.specs.declared.ChainAnswer.{ChainAnswer}
@@ -151,7 +152,7 @@ module _ (s : List ℕ) (c : Chain) (rows : List Row) (p : ChainSpells s c rows)
   unfolding sentText
   text-sends = rw (spelt-check s c rows p, ← spelt-rows s c rows p)
 
-  pub text-checks : textBatchCheck s regions room ≡ require (roomInBytes regions room) NoRoom 0 check.Holds
+  pub text-checks : textBatchCheck s regions room ≡ require (roomInBytes regions room) (refused NoRoom) check.Holds
   unfolding textBatchCheck
   text-checks = rw (spelt-check s c rows p)
 
@@ -160,7 +161,7 @@ module _ (s : List ℕ) (c : Chain) (rows : List Row) (p : ChainSpells s c rows)
   unfolding tallyAfter sentBytes sentThrough
   many-left t g rest b′ h = (rw (text-checks, text-sends, tally-back t rest g) at h) ∙ go (roomInBytes regions room)
     where
-      go : (v : Bool) → onCheck (require v NoRoom 0 check.Holds) (λ _. tallyBytes t ++ rest) (tallyKept (sentThrough t (sentIf v (map (sentAs c rows) (regionsIn regions)))) (tallyBytes t ++ rest))
+      go : (v : Bool) → onCheck (require v (refused NoRoom) check.Holds) (λ _. tallyBytes t ++ rest) (tallyKept (sentThrough t (sentIf v (map (sentAs c rows) (regionsIn regions)))) (tallyBytes t ++ rest))
           ≡ tallyBytes (sentThrough t (sentIf v (map (sentAs c rows) (regionsIn regions)))) ++ rest
       go true = kept-front t (sentThrough t (map (sentAs c rows) (regionsIn regions))) rest
       go false = refl
@@ -170,7 +171,7 @@ unfolding tallyAfter textBatchCheck
 many-other s regions lent room f = go (chainCheck s) refl (roomInBytes regions room)
   where
     go : (x : ChainAnswer) → chainCheck s ≡ x → (v : Bool)
-        → onCheck (require v NoRoom 0 (ofChecked check.Refused (λ _. check.Holds) x)) (λ _. lent) (tallyKept (sentThrough (tallyIn lent) (sentText s regions room)) lent) ≡ lent
+        → onCheck (require v (refused NoRoom) (ofChecked check.Refused (λ _. check.Holds) x)) (λ _. lent) (tallyKept (sentThrough (tallyIn lent) (sentText s regions room)) lent) ≡ lent
     go (chain.Accepted c) e v = absurd (f c (chainRows s c) (spelt-of s c e))
     go (chain.Refused y) e true = refl
     go (chain.Refused y) e false = refl

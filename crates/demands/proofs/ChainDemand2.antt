@@ -26,9 +26,9 @@ use Rattle.chain.specs.Rules.{ChainText, ChainRules, named, placed}
 use Rattle.ledger.specs.Strands.{isTold}
 use Rattle.chain.specs.Tests.{namesFit, fieldsFit, spansFit, rowsFit, chainValid}
 use Rattle.chain.specs.Write.{namesShow, writeCheck, chainText, chainWrite, recordCheck}
-use Rattle.chain.proofs.TextLaws.{text-of, text-is, text-targets, text-queries, text-sizes}
-use Rattle.chain.proofs.RuleLaws.{rules-of, rules-is}
-use Rattle.chain.proofs.BackLaws.{back-target-name, back-query-name}
+use Rattle.chain_laws.proofs.TextLaws.{text-of, text-is, text-targets, text-queries, text-sizes}
+use Rattle.chain_laws.proofs.RuleLaws.{rules-of, rules-is}
+use Rattle.chain_laws.proofs.BackLaws.{back-target-name, back-query-name}
 use Rattle.demands.specs.Formats.{Names}
 use Rattle.demands.specs.Demand2.{Demand2}
 use Rattle.demands.specs.Chain.{chainNames, chainHanded, chainNameWords, ChainSpells, ChainValid, SameChain, chain}

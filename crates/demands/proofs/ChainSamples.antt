@@ -17,7 +17,7 @@ use Rattle.blocks.specs.Rows.{tableOf}
 use Rattle.chain.specs.Table.{chainColumns, blockColumns}
 use Rattle.chain.specs.Records.{chainRecord, lineValues, sizeAt, targetGap, queryGap, targetsFrom, queriesFrom, sizesFrom, chainTargets, chainQueries, chainSizes, chainRows}
 use Rattle.chain.specs.Read.{spanCheck, blockWords, blockNumbers, blockLine, linesFrom, fillCheck, roomCheck, afterLast, afterLines, afterSpans, afterColumns, afterWords, afterText, chainCheck, chainRead}
-use Rattle.chain.proofs.Vectors.{chainA as recordA, rowsA}
+use Rattle.chain_laws.proofs.Vectors.{chainA as recordA, rowsA}
 use Rattle.chain.specs.Tests.{namesFit, fieldsFit, spansFit, rowsFit, chainValid}
 use Rattle.chain.specs.Write.{headWords, gapWords, blockText, chainText}
 use Rattle.text.specs.Pieces.{joined}

@@ -17,7 +17,7 @@ use Rattle.chain.specs.declared.Chain.{Chain}
 use Rattle.chain.specs.declared.ChainAnswer.the-variants.{Accepted}
 use Rattle.chain.specs.Records.{chainTargets, chainQueries, chainSizes, chainRows}
 use Rattle.chain.specs.Write.{recordCheck}
-use Rattle.chain.proofs.ValidLaws.{accepted-valid}
+use Rattle.chain_laws.proofs.ValidLaws.{accepted-valid}
 use Rattle.table_chain.specs.Rows.{RowsRead}
 use Rattle.table_chain.proofs.RowLaws.{chain-reads}
 use Rattle.table_chain.proofs.TableLaws.{left-valid}

@@ -8,7 +8,7 @@ use native.Mathlib.Omega.{arith}
 use lib.ListN.{length, length-append, length-map, length-take}
 use lib.Seq.{take-all, ext-getD}
 use borrow.Author.Tests.{le-leb, lt-leb, ne-eqb}
-use Rattle.ledger.specs.Refusals.{withoutText}
+use Rattle.ledger.specs.Refusals.{withoutText, require}
 use Rattle.ledger.specs.declared.Row.{Row}
 use Rattle.ledger.specs.declared.Reason.the-variants.{BadWord, NoRoom}
 use Rattle.ledger.specs.declared.Refusal.{Refusal}
@@ -33,11 +33,11 @@ use Rattle.chain.specs.declared.Chain.{Chain}
 use Rattle.chain.specs.declared.ChainAnswer.the-variants as chainAnswer
 use Rattle.text.specs.declared.Check.{Check}
 use Rattle.text.specs.declared.Check.the-variants as checkAnswer
-use Rattle.text.specs.Checks.{require}
+use Rattle.text.specs.Checks.{refused}
 use Rattle.chain.specs.Read.{chainCheck}
 use Rattle.chain.specs.Rules.{named}
 use Rattle.chain.specs.Write.{chainText, chainWrite}
-use Rattle.chain.proofs.RuleLaws.{rules-of}
+use Rattle.chain_laws.proofs.RuleLaws.{rules-of}
 use Rattle.number_line.specs.declared.NumbersAnswer.{NumbersAnswer}
 use Rattle.number_line.specs.declared.NumbersAnswer.the-variants as numbersAnswer
 use Rattle.number_line.specs.Numbers.{largestListed, numbersIn, numbersCheck}
@@ -381,7 +381,7 @@ batch-only : (s regions lent lent′ b b′ : List ℕ) (a : ℕ) → BatchTold 
 unfolding batchLifted textBatchCheck
 batch-only s regions lent lent′ b b′ a h z = spelt-or s _ (λ y. y) (λ x e. absurd (go (roomInBytes regions (length b)) x (rw e at (h .rowsTold .is))))
   where
-    go : (v : Bool) (x : Refusal) → a ≡ onCheck (require v NoRoom 0 (checkAnswer.Refused x)) refuses (gives (length regions / regionSize) (rowsBytes (answerRows (tallyIn lent) (sentText s regions (length b))))) .answer → ⊥
+    go : (v : Bool) (x : Refusal) → a ≡ onCheck (require v (refused NoRoom) (checkAnswer.Refused x)) refuses (gives (length regions / regionSize) (rowsBytes (answerRows (tallyIn lent) (sentText s regions (length b))))) .answer → ⊥
     go true x e = no-count x a e z
     go false x e = no-count (withoutText NoRoom) a e z
 

@@ -5,12 +5,12 @@ use mathlib.Core.List.{List, _++_}
 use Prim.Native.Nat.{ℕ, _≤_}
 use native.Mathlib.Omega.{arith}
 use lib.ListN.{length, drop}
-use Rattle.ledger.specs.Refusals.{faultAt, refusalAt}
+use Rattle.ledger.specs.Refusals.{faultAt, refusalAt, require}
 use Rattle.ledger.specs.declared.Row.{Row}
 use Rattle.ledger.specs.declared.Reason.the-variants.{BlockRules, NoRoom}
 use Rattle.ledger.specs.Limits.{textLimit}
 use Rattle.text.specs.declared.Check.the-variants.{Holds}
-use Rattle.text.specs.Checks.{require}
+use Rattle.text.specs.Checks.{refused}
 use Rattle.writing.specs.declared.Writing.{Writing}
 use Rattle.writing.specs.declared.Writing.the-variants.{Written}
 use Rattle.writing.specs.Answers.{roomAnswer, leftAfter}
@@ -43,7 +43,7 @@ pub record Shown (f : Format) : Type 1 where
   pub leftValid : (s : List ℕ) (before after : List Row) (r : f .Record) → f .Reads s before after (f .accepted r) → f .Valid r (f .names s r) after
   -- its test of a record with a table
   pub valid : f .Record → List Row → Bool
-  pub checks : (r : f .Record) (table : List Row) → f .check r table ≡ require (valid r table) BlockRules 0 Holds
+  pub checks : (r : f .Record) (table : List Row) → f .check r table ≡ require (valid r table) (refused BlockRules) Holds
   pub rulesOf : (r : f .Record) (table : List Row) → valid r table ≡ true → f .Rules r table
   pub rulesIs : (r : f .Record) (table : List Row) → f .Rules r table → valid r table ≡ true
   -- a valid record's text is short, is written where there is room, and reads back

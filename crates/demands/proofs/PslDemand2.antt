@@ -27,10 +27,10 @@ use Rattle.psl.specs.Rows.{rowsFit, countsFit}
 use Rattle.ledger.specs.Strands.{isTold}
 use Rattle.psl.specs.Tests.{fieldsFit, spansFit, pslValid}
 use Rattle.psl.specs.Write.{wordsShow, writeCheck, pslText, pslWrite, recordCheck}
-use Rattle.psl.proofs.LineLaws.{line-targets, line-queries, line-sizes, line-of, line-is}
-use Rattle.psl.proofs.RuleLaws.{rules-of, rules-is}
+use Rattle.psl_laws.proofs.LineLaws.{line-targets, line-queries, line-sizes, line-of, line-is}
+use Rattle.psl_laws.proofs.RuleLaws.{rules-of, rules-is}
 use Rattle.psl.proofs.BackWordLaws.{on-renamed}
-use Rattle.psl.proofs.BackLaws.{back-query, back-target}
+use Rattle.psl_laws.proofs.BackLaws.{back-query, back-target}
 use Rattle.demands.specs.Formats.{Names}
 use Rattle.demands.specs.Demand2.{Demand2}
 use Rattle.demands.specs.Psl.{pslNames, pslHanded, pslNameWords, PslSpells, PslValid, SamePsl, psl}

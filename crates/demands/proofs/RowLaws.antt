@@ -6,7 +6,7 @@ use Prim.Native.Nat.{ℕ, _≤_, _<_}
 use native.Mathlib.Omega.{arith}
 use lib.ListN.{length, drop, drop-of-length-le}
 use borrow.Author.Tests.{le-leb, lt-leb}
-use Rattle.ledger.specs.Refusals.{withoutText}
+use Rattle.ledger.specs.Refusals.{withoutText, require}
 use Rattle.ledger.specs.Limits.{textLimit, blockLimit}
 use Rattle.ledger.specs.declared.Reason.the-variants.{BlockRules, NoRoom}
 use Rattle.ledger.specs.declared.Refusal.{Refusal}
@@ -15,7 +15,7 @@ use Rattle.blocks.specs.Rows.{tableOf, targetsOf, queriesOf, sizesOf}
 use Rattle.blocks.proofs.TableLaws.{table-length}
 use Rattle.text.specs.declared.Check.the-variants.{Holds}
 use Rattle.text.specs.declared.Check.the-variants as check
-use Rattle.text.specs.Checks.{require}
+use Rattle.text.specs.Checks.{refused}
 use Rattle.writing.specs.declared.Writing.the-variants.{Written}
 use Rattle.writing.specs.declared.Writing.the-variants as writing
 use Rattle.writing.specs.Answers.{roomAnswer}
@@ -56,12 +56,12 @@ pub front-rows : (rows said before after : List Row) (n : ℕ) → rows ≡ said
 front-rows rows said before after n e l h = rw (e, l) h
 
 -- a test that a checker passed
-pub holds-if : (t : Bool) → require t BlockRules 0 Holds ≡ Holds → t ≡ true
+pub holds-if : (t : Bool) → require t (refused BlockRules) Holds ≡ Holds → t ≡ true
 holds-if true e = refl
 holds-if false e = absurd (let z : _≡_ {A = ℕ} 0 1 = cc in omega arith)
 
 -- and one that it did not pass: 9 at place 0
-pub breach-if : (t : Bool) (x : Refusal) → require t BlockRules 0 Holds ≡ check.Refused x → x ≡ withoutText BlockRules
+pub breach-if : (t : Bool) (x : Refusal) → require t (refused BlockRules) Holds ≡ check.Refused x → x ≡ withoutText BlockRules
 breach-if true x e = absurd (let z : _≡_ {A = ℕ} 0 1 = cc in omega arith)
 breach-if false x e = cc
 

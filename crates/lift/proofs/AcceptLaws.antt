@@ -16,7 +16,8 @@ use Rattle.ledger.specs.Limits.{largestPosition, nameLimit, blockLimit, chainSc
 use Rattle.text.specs.declared.Check.{Check}
 use Rattle.text.specs.declared.Check.the-variants.{Holds}
 use Rattle.text.specs.declared.Check.the-variants as check
-use Rattle.text.specs.Checks.{require}
+use Rattle.ledger.specs.Refusals.{require}
+use Rattle.text.specs.Checks.{refused}
 use Rattle.blocks.specs.Blocks.{countFits, rowsOf}
 use Rattle.blocks.specs.Rows.{tableOf, targetsOf, queriesOf, sizesOf}
 use Rattle.blocks.proofs.RuleLaws.{both, fills-of, fills-is, ranged-of, ranged-is}
@@ -25,7 +26,7 @@ use Rattle.blocks.proofs.TableLaws.{table-length, taken-length, taken-at, colum
 use Rattle.chain.specs.declared.Chain.{Chain}
 use Rattle.chain.specs.Tests.{chainValid}
 use Rattle.chain.specs.Write.{recordCheck}
-use Rattle.chain.proofs.RuleLaws.{rules-of, rules-is, valid-used}
+use Rattle.chain_laws.proofs.RuleLaws.{rules-of, rules-is, valid-used}
 use Rattle.lift.specs.Accepted.{used, accepted, Ready}
 use Rattle.lift.proofs.RunLaws.{run-at, Placed, placed-of, placed-is}
 
@@ -57,19 +58,20 @@ accepted-rules c rows e =
     let qs = queriesOf rows in
     let zs = sizesOf rows in
     let r = rules-of c ts qs zs e in
-    let lt = length-take-le n ts (r .targetRows) in
-    let lq = length-take-le n qs (r .queryRows) in
-    let lz = length-take-le n zs (r .sizeRows) in
+    let u = r .rows in
+    let lt = length-take-le n ts (u .targetRows) in
+    let lq = length-take-le n qs (u .queryRows) in
+    let lz = length-take-le n zs (u .sizeRows) in
     let tf = fills-is _ _ n (take n ts) (take n zs) lt lz (fills-take _ _ n ts zs (r .tBlocks)) in
     let qf = fills-is _ _ n (take n qs) (take n zs) lq lz (fills-take _ _ n qs zs (r .qBlocks)) in
-    let zr = ranged-is 1 largestPosition n (take n zs) lz (ranged-take 1 largestPosition n zs (r .sizeRange)) in
+    let zr = ranged-is 1 largestPosition n (take n zs) lz (ranged-take 1 largestPosition n zs (u .sizeRange)) in
     let et = take-map (λ (b : Row). b .target) n rows in
     let eq = take-map (λ (b : Row). b .query) n rows in
     let ez = take-map (λ (b : Row). b .size) n rows in
     record {
-      someBlock = r .someBlock;
-      fewBlocks = r .fewBlocks;
-      inTable = omega (arith, r .targetRows, length-map rows (λ (b : Row). b .target));
+      someBlock = u .someBlock;
+      fewBlocks = u .fewBlocks;
+      inTable = omega (arith, u .targetRows, length-map rows (λ (b : Row). b .target));
       tNameSome = r .tNameSome;
       tNameShort = r .tNameShort;
       qNameSome = r .qNameSome;
@@ -105,11 +107,16 @@ rules-accepted c rows r =
     let lq = length-take-le n qs hq in
     let lz = length-take-le n zs hz in
     rules-is c ts qs zs (record {
-      someBlock = r .someBlock;
-      fewBlocks = r .fewBlocks;
-      targetRows = ht;
-      queryRows = hq;
-      sizeRows = hz;
+      rows = record {
+        someBlock = r .someBlock;
+        fewBlocks = r .fewBlocks;
+        targetRows = ht;
+        queryRows = hq;
+        sizeRows = hz;
+        targetRange = ranged-back 0 largestPosition n ts (ranged-of 0 largestPosition n (take n ts) lt (rw et (w .targets)));
+        queryRange = ranged-back 0 largestPosition n qs (ranged-of 0 largestPosition n (take n qs) lq (rw eq (w .queries)));
+        sizeRange = ranged-back 1 largestPosition n zs (ranged-of 1 largestPosition n (take n zs) lz (rw ez (w .sizes)));
+      };
       tNameSome = r .tNameSome;
       tNameShort = r .tNameShort;
       qNameSome = r .qNameSome;
@@ -125,9 +132,6 @@ rules-accepted c rows r =
       qStartRange = omega arith;
       qEndRange = omega arith;
       idRange = r .idRange;
-      targetRange = ranged-back 0 largestPosition n ts (ranged-of 0 largestPosition n (take n ts) lt (rw et (w .targets)));
-      queryRange = ranged-back 0 largestPosition n qs (ranged-of 0 largestPosition n (take n qs) lq (rw eq (w .queries)));
-      sizeRange = ranged-back 1 largestPosition n zs (ranged-of 1 largestPosition n (take n zs) lz (rw ez (w .sizes)));
       tSpan = r .tSpan;
       tInside = r .tInside;
       qSpan = r .qSpan;
@@ -199,7 +203,7 @@ pub accepted-if : (c : Chain) (ts qs zs : List ℕ) (x : Check) → x ≡ record
 unfolding recordCheck
 accepted-if c ts qs zs x e h = go (chainValid c ts qs zs) refl (sym h ∙ e)
   where
-    go : (t : Bool) → chainValid c ts qs zs ≡ t → Holds ≡ require t BlockRules 0 Holds → true ≡ accepted c (tableOf ts qs zs)
+    go : (t : Bool) → chainValid c ts qs zs ≡ t → Holds ≡ require t (refused BlockRules) Holds → true ≡ accepted c (tableOf ts qs zs)
     go true k l = sym k ∙ table-accepted c ts qs zs
     go false k l = absurd (let z : _≡_ {A = ℕ} 0 1 = cc in omega arith)
 
@@ -207,6 +211,6 @@ pub not-accepted-if : (c : Chain) (ts qs zs : List ℕ) (x : Check) (y : Refusal
 unfolding recordCheck
 not-accepted-if c ts qs zs x y e h = go (chainValid c ts qs zs) refl (sym h ∙ e)
   where
-    go : (t : Bool) → chainValid c ts qs zs ≡ t → check.Refused y ≡ require t BlockRules 0 Holds → false ≡ accepted c (tableOf ts qs zs)
+    go : (t : Bool) → chainValid c ts qs zs ≡ t → check.Refused y ≡ require t (refused BlockRules) Holds → false ≡ accepted c (tableOf ts qs zs)
     go true k l = absurd (let z : _≡_ {A = ℕ} 0 1 = cc in omega arith)
     go false k l = sym k ∙ table-accepted c ts qs zs

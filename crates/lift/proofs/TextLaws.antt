@@ -12,7 +12,7 @@ use Rattle.chain.specs.declared.ChainAnswer.{ChainAnswer}
 use Rattle.chain.specs.declared.ChainAnswer.the-variants as chain
 use Rattle.chain.specs.Records.{chainTargets, chainQueries, chainSizes, chainRows}
 use Rattle.chain.specs.Read.{InRoom}
-use Rattle.chain.proofs.ValidLaws.{accepted-valid}
+use Rattle.chain_laws.proofs.ValidLaws.{accepted-valid}
 use Rattle.lift.specs.declared.PositionAnswer.{PositionAnswer}
 use Rattle.lift.specs.declared.PositionAnswer.the-variants as position
 use Rattle.lift.specs.Accepted.{Ready}

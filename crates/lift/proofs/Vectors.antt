@@ -7,7 +7,7 @@ use Rattle.ledger.specs.declared.Row.{Row}
 use Rattle.ledger.specs.declared.Reason.the-variants.{NumberOutOfRange, SpanDisagrees, BlockRules, NoPair, OutsideTarget}
 use Rattle.blocks.specs.Blocks.{blocksFill, orderFrom, allBetween, rowNumbersFit}
 use Rattle.blocks.specs.Rows.{rowAs}
-use Rattle.chain.proofs.Vectors.{chainA, rowsA}
+use Rattle.chain_laws.proofs.Vectors.{chainA, rowsA}
 use Rattle.chain.specs.Tests.{namesFit, fieldsFit, spansFit, rowsFit, chainValid}
 use Rattle.lift.specs.declared.PositionAnswer.{PositionAnswer}
 use Rattle.lift.specs.declared.PositionAnswer.the-variants.{Lifted}

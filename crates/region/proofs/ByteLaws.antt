@@ -14,7 +14,8 @@ use Rattle.ledger.specs.declared.Row.{Row}
 use Rattle.ledger.specs.declared.Refusal.{Refusal}
 use Rattle.ledger.specs.declared.Reason.the-variants.{NoRoom}
 use Rattle.text.specs.declared.Check.the-variants as check
-use Rattle.text.specs.Checks.{require}
+use Rattle.ledger.specs.Refusals.{require}
+use Rattle.text.specs.Checks.{refused}
 use Rattle.blocks.proofs.RuleLaws.{both}
 use Rattle.writing.specs.Puts.{Put}
 use Rattle.writing.proofs.PutLaws.{Completes, completes-all, completes-step, completes-done}
@@ -217,7 +218,7 @@ pub refused-none : (s regions : List ℕ) (room : ℕ) (x : Refusal) → textBat
 unfolding textBatchCheck sentText sentBytes
 refused-none s regions room x = go (roomInBytes regions room) (chainCheck s)
   where
-    go : (v : Bool) (y : ChainAnswer) → require v NoRoom 0 (ofChecked check.Refused (λ _. check.Holds) y) ≡ check.Refused x
+    go : (v : Bool) (y : ChainAnswer) → require v (refused NoRoom) (ofChecked check.Refused (λ _. check.Holds) y) ≡ check.Refused x
         → ofChecked {A = List Sent} (λ _. []) (λ c. sentIf v (map (sentAs c (chainRows s c)) (regionsIn regions))) y ≡ []
     go true (chain.Accepted c) e = absurd (let z : _≡_ {A = ℕ} 0 1 = cc in omega arith)
     go true (chain.Refused y) e = refl

@@ -5,7 +5,7 @@ use Prim.Native.Nat.{ℕ, _-_}
 use Rattle.ledger.specs.declared.Reason.the-variants.{NumberOutOfRange, NoPair, OutsideTarget}
 use Rattle.ledger.specs.Limits.{tallyLimit}
 use Rattle.blocks.specs.Blocks.{orderFrom, blocksFill, allBetween, rowNumbersFit}
-use Rattle.chain.proofs.Vectors.{chainA, rowsA}
+use Rattle.chain_laws.proofs.Vectors.{chainA, rowsA}
 use Rattle.chain.specs.Tests.{namesFit, fieldsFit, spansFit, rowsFit, chainValid}
 use Rattle.lift.specs.Accepted.{accepted}
 use Rattle.lift.specs.Pairs.{blockPairs, pairsOf, pairs, partnerOf}

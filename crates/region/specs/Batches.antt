@@ -10,7 +10,8 @@ use Rattle.ledger.specs.declared.Reason.the-variants.{NoRoom}
 use Rattle.ledger.specs.Reasons.{reasonNumber}
 use Rattle.text.specs.declared.Check.{Check}
 use Rattle.text.specs.declared.Check.the-variants as check
-use Rattle.text.specs.Checks.{require}
+use Rattle.ledger.specs.Refusals.{require}
+use Rattle.text.specs.Checks.{refused}
 use Rattle.binary.specs.Bytes.{wordSize, wordsBytes, lowAt}
 use Rattle.chain.specs.declared.Chain.{Chain}
 use Rattle.chain.specs.Records.{chainRows}
@@ -49,7 +50,7 @@ unfoldable pub sentBatch : Chain → List Row → List (List ℕ) → ℕ → Li
 sentBatch c rows regions room = sentIf (leb (length regions) room) (map (sentAs c rows) regions)
 
 unfoldable pub batchCheck : List (List ℕ) → ℕ → Check
-batchCheck regions room = require (leb (length regions) room) NoRoom 0 check.Holds
+batchCheck regions room = require (leb (length regions) room) (refused NoRoom) check.Holds
 
 -- WHAT A BATCH PROMISES: refused by 11 alone, once and before all else; the tally after the regions sent; a row for each of them, and the rows past those as before
 pub record BatchDone (t : Tally) (c : Chain) (rows : List Row) (regions before after : List (List ℕ)) (r : Batched) : Type 0 where
@@ -103,7 +104,7 @@ sentText s regions room = ofChecked (λ _. []) (λ c. sentBytes c (chainRows s c
 
 -- too few rows, or a region cut short, is 11 before the text is read; then the text's own refusals
 unfoldable pub textBatchCheck : List ℕ → List ℕ → ℕ → Check
-textBatchCheck s regions room = require (roomInBytes regions room) NoRoom 0 (ofChecked check.Refused (λ _. check.Holds) (chainCheck s))
+textBatchCheck s regions room = require (roomInBytes regions room) (refused NoRoom) (ofChecked check.Refused (λ _. check.Holds) (chainCheck s))
 
 -- WHAT A BATCH THROUGH A TEXT PROMISES
 pub record TextBatch (s : List ℕ) (t : Tally) (regions before after : List ℕ) (r : Batched) : Type 0 where

@@ -12,7 +12,8 @@ use Rattle.ledger.specs.Limits.{tallyLimit}
 use Rattle.ledger.specs.declared.Reason.{Reason}
 use Rattle.ledger.specs.declared.Reason.the-variants.{NumberOutOfRange, BlockRules, CountsDisagree, NoRoom, OutsideTarget}
 use Rattle.text.specs.declared.Check.the-variants.{Holds}
-use Rattle.text.specs.Checks.{require}
+use Rattle.ledger.specs.Refusals.{require}
+use Rattle.text.specs.Checks.{refused}
 use Rattle.chain.specs.declared.Chain.{Chain}
 use Rattle.region.specs.declared.Admission.{Admission}
 use Rattle.region.specs.declared.Admission.the-variants.{Admitted, Refused}
@@ -55,7 +56,7 @@ stepReady t size r a e = ofAdmission (admission t size a e) t (grownBy t r (e - 
 
 -- ---- a batch
 abbrev pub noRoom : Tally → Batched
-noRoom t = record { tally = t; check = require false NoRoom 0 Holds }
+noRoom t = record { tally = t; check = require false (refused NoRoom) Holds }
 
 -- so many regions through no accepted chain
 unfoldable pub refusedRows : ℕ → List (List ℕ)

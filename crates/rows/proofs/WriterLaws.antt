@@ -12,7 +12,8 @@ use Rattle.ledger.specs.declared.Refusal.{Refusal}
 use Rattle.ledger.specs.declared.Reason.the-variants.{BlockRules}
 use Rattle.text.specs.declared.Check.{Check}
 use Rattle.text.specs.declared.Check.the-variants as check
-use Rattle.text.specs.Checks.{require}
+use Rattle.ledger.specs.Refusals.{require}
+use Rattle.text.specs.Checks.{refused}
 use Rattle.text.proofs.TextLaws.{both}
 use Rattle.writing.specs.declared.Writing.{Writing}
 use Rattle.writing.specs.declared.Writing.the-variants as writing
@@ -26,14 +27,14 @@ module _ (n : ℕ) (rest : List ℕ → List ℕ → List ℕ → Check) (text :
     (front : (ts qs zs : List ℕ) → 1 ≤ n → text ts qs zs ≡ text (take n ts) (take n qs) (take n zs)) where
   -- the writer, and what it leaves in a buffer
   abbrev pub written : List ℕ → List ℕ → List ℕ → ℕ → Writing
-  written ts qs zs room = next (require (countFits n (rowsOf ts qs zs)) BlockRules 0 (rest (take n ts) (take n qs) (take n zs))) (roomAnswer (length (text ts qs zs)) room)
+  written ts qs zs room = next (require (countFits n (rowsOf ts qs zs)) (refused BlockRules) (rest (take n ts) (take n qs) (take n zs))) (roomAnswer (length (text ts qs zs)) room)
 
   abbrev pub left : List ℕ → List ℕ → List ℕ → List ℕ → List ℕ
   left before ts qs zs = leftAfter (written ts qs zs (length before)) (text ts qs zs) before
 
   -- the same, as they look at the rows in use
   abbrev seen : ℕ → Bool → List ℕ → List ℕ → List ℕ → Writing
-  seen room t a b c = next (require t BlockRules 0 (rest a b c)) (roomAnswer (length (text a b c)) room)
+  seen room t a b c = next (require t (refused BlockRules) (rest a b c)) (roomAnswer (length (text a b c)) room)
 
   abbrev leftSeen : List ℕ → Bool → List ℕ → List ℕ → List ℕ → List ℕ
   leftSeen before t a b c = leftAfter (seen (length before) t a b c) (text a b c) before
@@ -64,7 +65,7 @@ module _ (n : ℕ) (rest : List ℕ → List ℕ → List ℕ → Check) (text :
         go : (t : Bool) → fits ≡ t → left before ts qs zs ≡ leftSeen before fits (take n ts) (take n qs) (take n zs)
         go true k = rw (← (front ts qs zs (some k)))
         go false k =
-            let r : leftAfter (next (require false BlockRules 0 (rest (take n ts) (take n qs) (take n zs))) (roomAnswer (length (text ts qs zs)) (length before))) (text ts qs zs) before ≡ before =
+            let r : leftAfter (next (require false (refused BlockRules) (rest (take n ts) (take n qs) (take n zs))) (roomAnswer (length (text ts qs zs)) (length before))) (text ts qs zs) before ≡ before =
             ap (λ (y : Writing). leftAfter y (text ts qs zs) before) (stops _ _) in
             rw k (r ∙ sym (unchanged before (take n ts) (take n qs) (take n zs)))
 

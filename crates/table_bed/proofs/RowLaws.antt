@@ -14,7 +14,8 @@ use Rattle.ledger.specs.declared.Refusal.{Refusal}
 use Rattle.ledger.specs.declared.Reason.the-variants.{NumberOutOfRange, BadWord, SpanDisagrees, BlockRules, NoRoom}
 use Rattle.text.specs.declared.Check.{Check}
 use Rattle.text.specs.declared.Check.the-variants.{Holds}
-use Rattle.text.specs.Checks.{require}
+use Rattle.ledger.specs.Refusals.{require}
+use Rattle.text.specs.Checks.{refused}
 use Rattle.writing.specs.declared.Writing.{Writing}
 use Rattle.blocks.specs.Blocks.{rowNumbersFit}
 use Rattle.blocks.specs.Rows.{targetsOf, queriesOf, sizesOf}
@@ -81,7 +82,7 @@ filled-accepted a r e = rw e
 -- THE RECORD CHECKER, as it looks at the rows in use
 abbrev pub checkSeen : Bed → Bool → List ℕ → List ℕ → List ℕ → Check
 checkSeen r t ts qs zs =
-    require (t && (namesFit (r .words) (r .chrom .length) (r .name .length) && (strandFits r && (fieldsFit r && (rowNumbersFit ts qs zs && (spansFit r && rowsFit r ts qs zs)))))) BlockRules 0 Holds
+    require (t && (namesFit (r .words) (r .chrom .length) (r .name .length) && (strandFits r && (fieldsFit r && (rowNumbersFit ts qs zs && (spansFit r && rowsFit r ts qs zs)))))) (refused BlockRules) Holds
 
 check-cut : (r : Bed) (rows : List Row) → recordCheck r (targetsOf (cutRows rows)) (queriesOf (cutRows rows)) (sizesOf (cutRows rows)) ≡ recordCheck r (targetsOf rows) (queriesOf rows) (sizesOf rows)
 unfolding recordCheck bedValid
@@ -100,8 +101,8 @@ module _ (r : Bed) (chrom name : List ℕ) where
   -- the checks after the count of rows
   abbrev rest : List ℕ → List ℕ → List ℕ → Check
   rest ts qs zs =
-      require (namesShow r chrom name && strandFits r) BadWord 0
-      (require (fieldsFit r && rowNumbersFit ts qs zs) NumberOutOfRange 0 (require (spansFit r) SpanDisagrees 0 (require (rowsFit r ts qs zs) BlockRules 0 Holds)))
+      require (namesShow r chrom name && strandFits r) (refused BadWord)
+      (require (fieldsFit r && rowNumbersFit ts qs zs) (refused NumberOutOfRange) (require (spansFit r) (refused SpanDisagrees) (require (rowsFit r ts qs zs) (refused BlockRules) Holds)))
 
   wrote-cut : (rows : List Row) (before after : List ℕ) (x : Writing) → BedWrote r chrom name (targetsOf (cutRows rows)) (queriesOf (cutRows rows)) (sizesOf (cutRows rows)) before after x
       → BedWrote r chrom name (targetsOf rows) (queriesOf rows) (sizesOf rows) before after x

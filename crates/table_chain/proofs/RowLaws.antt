@@ -14,7 +14,8 @@ use Rattle.ledger.specs.declared.Refusal.{Refusal}
 use Rattle.ledger.specs.declared.Reason.the-variants.{NumberOutOfRange, BadWord, SpanDisagrees, BlockRules, NoRoom}
 use Rattle.text.specs.declared.Check.{Check}
 use Rattle.text.specs.declared.Check.the-variants.{Holds}
-use Rattle.text.specs.Checks.{require}
+use Rattle.ledger.specs.Refusals.{require}
+use Rattle.text.specs.Checks.{refused}
 use Rattle.writing.specs.Digits.{digits}
 use Rattle.writing.specs.declared.Writing.{Writing}
 use Rattle.blocks.specs.Blocks.{rowNumbersFit}
@@ -31,8 +32,8 @@ use Rattle.chain.specs.Read.{roomCheck, rowsAfter, chainCheck, chainRead, Chain
 use Rattle.ledger.specs.Strands.{isTold}
 use Rattle.chain.specs.Tests.{namesFit, fieldsFit, spansFit, rowsFit, chainValid}
 use Rattle.chain.specs.Write.{namesShow, writeCheck, headWords, fedWords, gapTo, gapWords, blockText, chainText, chainWrite, ChainWrote, recordCheck}
-use Rattle.chain.proofs.TextLaws.{text-of}
-use Rattle.chain.proofs.ValidLaws.{lines-target-count, lines-query-count}
+use Rattle.chain_laws.proofs.TextLaws.{text-of}
+use Rattle.chain_laws.proofs.ValidLaws.{lines-target-count, lines-query-count}
 use Rattle.table_chain.specs.Rows.{tableAfter, RowsRead, rowsFilled, ColumnsRead}
 use Rattle.columns.specs.Lines.{thenWrite}
 
@@ -84,7 +85,7 @@ filled-accepted a r e = rw e
 -- THE RECORD CHECKER, as it looks at the rows in use
 abbrev pub checkSeen : Chain → Bool → List ℕ → List ℕ → List ℕ → Check
 checkSeen r t ts qs zs =
-    require (t && (namesFit (r .tName .length) (r .qName .length) && (isTold (r .qStrand) && (fieldsFit r && (rowNumbersFit ts qs zs && (spansFit r && rowsFit r ts qs zs)))))) BlockRules 0 Holds
+    require (t && (namesFit (r .tName .length) (r .qName .length) && (isTold (r .qStrand) && (fieldsFit r && (rowNumbersFit ts qs zs && (spansFit r && rowsFit r ts qs zs)))))) (refused BlockRules) Holds
 
 check-cut : (r : Chain) (rows : List Row) → recordCheck r (targetsOf (cutRows rows)) (queriesOf (cutRows rows)) (sizesOf (cutRows rows)) ≡ recordCheck r (targetsOf rows) (queriesOf rows) (sizesOf rows)
 unfolding recordCheck chainValid
@@ -118,8 +119,8 @@ module _ (r : Chain) (tName qName : List ℕ) where
   -- the checks after the count of rows
   abbrev rest : List ℕ → List ℕ → List ℕ → Check
   rest ts qs zs =
-      require (namesShow tName qName && isTold (r .qStrand)) BadWord 0
-      (require (fieldsFit r && rowNumbersFit ts qs zs) NumberOutOfRange 0 (require (spansFit r) SpanDisagrees 0 (require (rowsFit r ts qs zs) BlockRules 0 Holds)))
+      require (namesShow tName qName && isTold (r .qStrand)) (refused BadWord)
+      (require (fieldsFit r && rowNumbersFit ts qs zs) (refused NumberOutOfRange) (require (spansFit r) (refused SpanDisagrees) (require (rowsFit r ts qs zs) (refused BlockRules) Holds)))
 
   wrote-cut : (rows : List Row) (before after : List ℕ) (x : Writing) → ChainWrote r tName qName (targetsOf (cutRows rows)) (queriesOf (cutRows rows)) (sizesOf (cutRows rows)) before after x
       → ChainWrote r tName qName (targetsOf rows) (queriesOf rows) (sizesOf rows) before after x

@@ -17,8 +17,8 @@ use Rattle.chain.specs.Records.{chainTargets, chainQueries, chainSizes, chainRo
 use Rattle.chain.specs.Tests.{chainValid}
 use Rattle.chain.specs.Write.{writeCheck, chainText, recordCheck}
 use Rattle.chain.specs.Rules.{placed}
-use Rattle.chain.proofs.ValidLaws.{accepted-valid}
-use Rattle.chain.proofs.BackLaws.{back-read, back-targets, back-queries, back-sizes}
+use Rattle.chain_laws.proofs.ValidLaws.{accepted-valid}
+use Rattle.chain_laws.proofs.BackLaws.{back-read, back-targets, back-queries, back-sizes}
 use Rattle.table_chain.specs.Rows.{tableAfter, RowsRead}
 use Rattle.table_chain.proofs.RowLaws.{chain-reads, checkSeen}
 

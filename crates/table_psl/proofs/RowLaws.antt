@@ -14,7 +14,8 @@ use Rattle.ledger.specs.declared.Refusal.{Refusal}
 use Rattle.ledger.specs.declared.Reason.the-variants.{NumberOutOfRange, BadWord, SpanDisagrees, BlockRules, CountsDisagree, NoRoom}
 use Rattle.text.specs.declared.Check.{Check}
 use Rattle.text.specs.declared.Check.the-variants.{Holds}
-use Rattle.text.specs.Checks.{require}
+use Rattle.ledger.specs.Refusals.{require}
+use Rattle.text.specs.Checks.{refused}
 use Rattle.writing.specs.declared.Writing.{Writing}
 use Rattle.blocks.specs.Blocks.{rowNumbersFit}
 use Rattle.blocks.specs.Rows.{targetsOf, queriesOf, sizesOf}
@@ -31,8 +32,8 @@ use Rattle.ledger.specs.Strands.{isTold}
 use Rattle.psl.specs.Tests.{fieldsFit, spansFit, pslValid}
 use Rattle.psl.specs.Write.{wordsShow, writeCheck, pslWords, pslText, pslWrite, PslWrote, recordCheck}
 use Rattle.psl.specs.Rows.{rowsFit, countsFit}
-use Rattle.psl.proofs.LineLaws.{accepted-targets, accepted-queries, accepted-sizes}
-use Rattle.psl.proofs.ValidLaws.{accepted-rules}
+use Rattle.psl_laws.proofs.LineLaws.{accepted-targets, accepted-queries, accepted-sizes}
+use Rattle.psl_laws.proofs.ValidLaws.{accepted-rules}
 use Rattle.table_psl.specs.Rows.{tableAfter, RowsRead, rowsFilled, ColumnsRead}
 use Rattle.columns.specs.Names.{lengthFits}
 use Rattle.columns.specs.Lines.{thenWrite}
@@ -88,7 +89,7 @@ checkSeen r t ts qs zs =
     require
     (t && ((lengthFits (r .query .name .length) && (lengthFits (r .target .name .length) && isTold (r .strand)))
     && (fieldsFit r && (rowNumbersFit ts qs zs && (spansFit r && (rowsFit r ts qs zs && countsFit (r .counts) ts qs zs))))))
-    BlockRules 0 Holds
+    (refused BlockRules) Holds
 
 check-cut : (r : Psl) (rows : List Row) → recordCheck r (targetsOf (cutRows rows)) (queriesOf (cutRows rows)) (sizesOf (cutRows rows)) ≡ recordCheck r (targetsOf rows) (queriesOf rows) (sizesOf rows)
 unfolding recordCheck pslValid
@@ -108,9 +109,9 @@ module _ (r : Psl) (qName tName : List ℕ) where
   -- the checks after the count of rows
   abbrev rest : List ℕ → List ℕ → List ℕ → Check
   rest ts qs zs =
-      require (wordsShow r qName tName) BadWord 0
-      (require (fieldsFit r && rowNumbersFit ts qs zs) NumberOutOfRange 0
-      (require (spansFit r) SpanDisagrees 0 (require (rowsFit r ts qs zs) BlockRules 0 (require (countsFit (r .counts) ts qs zs) CountsDisagree 0 Holds))))
+      require (wordsShow r qName tName) (refused BadWord)
+      (require (fieldsFit r && rowNumbersFit ts qs zs) (refused NumberOutOfRange)
+      (require (spansFit r) (refused SpanDisagrees) (require (rowsFit r ts qs zs) (refused BlockRules) (require (countsFit (r .counts) ts qs zs) (refused CountsDisagree) Holds))))
 
   wrote-cut : (rows : List Row) (before after : List ℕ) (x : Writing) → PslWrote r qName tName (targetsOf (cutRows rows)) (queriesOf (cutRows rows)) (sizesOf (cutRows rows)) before after x
       → PslWrote r qName tName (targetsOf rows) (queriesOf rows) (sizesOf rows) before after x

@@ -17,8 +17,8 @@ use Rattle.psl.specs.Records.{pslTargets, pslQueries, pslSizes, pslRows}
 use Rattle.psl.specs.Tests.{pslValid}
 use Rattle.psl.specs.Write.{writeCheck, pslText, recordCheck}
 use Rattle.psl.specs.Rules.{placed}
-use Rattle.psl.proofs.ValidLaws.{accepted-valid}
-use Rattle.psl.proofs.BackLaws.{back-read, back-targets, back-queries, back-sizes}
+use Rattle.psl_laws.proofs.ValidLaws.{accepted-valid}
+use Rattle.psl_laws.proofs.BackLaws.{back-read, back-targets, back-queries, back-sizes}
 use Rattle.table_psl.specs.Rows.{tableAfter, RowsRead}
 use Rattle.table_psl.proofs.RowLaws.{psl-reads, checkSeen}
 

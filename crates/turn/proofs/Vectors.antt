@@ -8,7 +8,7 @@ use Rattle.ledger.specs.declared.Row.{Row}
 use Rattle.blocks.specs.Blocks.{orderFrom, blocksFill, allBetween, rowNumbersFit}
 use Rattle.blocks.specs.Rows.{rowAs}
 use Rattle.chain.specs.declared.Chain.{Chain}
-use Rattle.chain.proofs.Vectors.{chainA, rowsA}
+use Rattle.chain_laws.proofs.Vectors.{chainA, rowsA}
 use Rattle.chain.specs.Tests.{namesFit, fieldsFit, spansFit, rowsFit, chainValid}
 use Rattle.lift.specs.Accepted.{accepted}
 use Rattle.turn.specs.declared.TurnAnswer.the-variants.{Turned}
