@@ -4,28 +4,31 @@ use mathlib.Core.Bool.{true}
 use mathlib.Core.List.{List, [], _∷_}
 use Prim.Native.Nat.{ℕ, _-_, _≤_, _<_}
 use native.Mathlib.Omega.{arith}
-use lib.ListN.{length, getD, take}
+use lib.ListN.{length, take}
 use lib.Dec.{ltb}
 use borrow.Author.Tests.{lt-ltb, le-ltb, ltb-true, ne-eqb}
-use Rattle.text.specs.declared.Check.{Check}
-use Rattle.text.specs.declared.Check.the-variants.{Holds}
-use Rattle.text.specs.declared.Check.the-variants as check
-use Rattle.text.specs.Checks.{textCheck, lastLineCheck}
+use Rattle.text.specs.declared.Stage.{Stage}
+use Rattle.text.specs.declared.Stage.the-variants.{Passes}
+use Rattle.text.specs.Checks.{thenCheck, textCheck, lastLineCheck}
 use Rattle.text.specs.Words.{wordAt, wordCount, bytesOf}
+use Rattle.text.proofs.CheckLaws.{words-hold}
+use Rattle.text.proofs.StageLaws.{require-passes, went}
 use Rattle.numbers.specs.Lists.{valuesOf}
-use Rattle.text.proofs.CheckLaws.{require-holds, words-hold}
 use Rattle.columns.specs.declared.Columns.{Columns}
 use Rattle.columns.specs.declared.Columns.the-variants.{Next}
 use Rattle.columns.specs.declared.Columns.the-variants as columns
-use Rattle.columns.specs.Columns.{columnsFrom, valuesFrom}
+use Rattle.columns.specs.Columns.{columnsFrom, valuesFrom, valueOf, thenNext}
 use Rattle.blocks.specs.Blocks.{blocksFill}
 use Rattle.bed.specs.declared.Bed.{Bed}
-use Rattle.bed.specs.declared.BedAnswer.{BedAnswer}
-use Rattle.bed.specs.declared.BedAnswer.the-variants.{Accepted, Refused}
+use Rattle.bed.specs.declared.BedReading.{BedReading}
+use Rattle.bed.specs.declared.BedReading.the-variants.{Read, Faulty}
+use Rattle.bed.specs.declared.BedAnswer.the-variants.{Accepted}
+use Rattle.bed.specs.Columns as column
 use Rattle.bed.specs.Table.{bedColumns}
 use Rattle.bed.specs.Records.{isWordCount, bedRecord, bedSizes, bedStarts}
-use Rattle.bed.specs.Read.{thenCheck, thenRead, bedWordsCheck, thickFits, spanCheck, blockCheck, afterSpans, afterColumns, afterWords, bedCheck}
+use Rattle.bed.specs.Read.{bedWordsCheck, thickFits, spanCheck, blockCheck, afterSpans, afterColumns, afterWords, afterText, bedStages, bedCheck}
 use Rattle.bed.specs.Rules.{WordNumber}
+use Rattle.bed.proofs.ReadLaws.{read-apart, checked-of, checked-is}
 use Rattle.bed.proofs.ColumnLaws.{number-of, by-number, all-columns, block-sizes, block-starts}
 
 -- the values of a line: two numbers for each of its words
@@ -34,100 +37,99 @@ lineValues s = valuesFrom (take (wordCount s 0) bedColumns) 0 s 0
 
 -- what the row of checks found of a line that is accepted with the record r
 pub record Accepts (s : List ℕ) (r : Bed) : Type 0 where
-  pub text : textCheck s ≡ Holds
-  pub number : bedWordsCheck s (wordCount s 0) ≡ Holds
+  pub text : textCheck s ≡ Passes
+  pub number : bedWordsCheck s (wordCount s 0) ≡ Passes
   pub end : ℕ
   pub read : columnsFrom (take (wordCount s 0) bedColumns) 0 s 0 ≡ Next end
-  pub line : lastLineCheck s 0 ≡ Holds
+  pub line : lastLineCheck s 0 ≡ Passes
   pub is : r ≡ bedRecord (wordCount s 0) (length s) (lineValues s)
-  pub spans : spanCheck r (lineValues s) ≡ Holds
-  pub blocks : blockCheck s r ≡ Holds
+  pub spans : spanCheck r (lineValues s) ≡ Passes
+  pub blocks : blockCheck s r ≡ Passes
 
--- a stage that accepts: its check held, and the rest accepts
-check-then : (c : Check) (rest : BedAnswer) (r : Bed) → thenCheck c rest ≡ Accepted r → (c ≡ Holds) × (rest ≡ Accepted r)
-check-then Holds rest r e = (refl, e)
-check-then (check.Refused x) rest r e = absurd (let z : _≡_ {A = ℕ} 0 1 = cc in omega arith)
+-- a stage that reads: its check passed, and the rest reads
+check-then : (c : Stage) (rest : BedReading) (r : Bed) → thenCheck Faulty c rest ≡ Read r → (c ≡ Passes) × (rest ≡ Read r)
+check-then c rest r = went Faulty c rest (Read r) (read-apart r)
 
-record Went (c : Columns) (rest : BedAnswer) (r : Bed) : Type 0 where
+record Went (c : Columns) (rest : BedReading) (r : Bed) : Type 0 where
   end : ℕ
   read : c ≡ Next end
-  on : rest ≡ Accepted r
+  on : rest ≡ Read r
 
-read-then : (c : Columns) (rest : BedAnswer) (r : Bed) → thenRead c rest ≡ Accepted r → Went c rest r
-read-then (Next n) rest r e = record { end = n; read = refl; on = e }
-read-then (columns.Refused x) rest r e = absurd (let z : _≡_ {A = ℕ} 0 1 = cc in omega arith)
+next-then : (c : Columns) (rest : BedReading) (r : Bed) → thenNext Faulty c rest ≡ Read r → Went c rest r
+next-then (Next n) rest r e = record { end = n; read = refl; on = e }
+next-then (columns.Faulty x) rest r e = absurd (read-apart r x e)
 
 module _ (s : List ℕ) (r : Bed) where
   pub accepts-of : bedCheck s ≡ Accepted r → Accepts s r
-  unfolding bedCheck afterWords afterColumns afterSpans
+  unfolding bedStages afterText afterWords afterColumns afterSpans
   accepts-of e =
       let n = wordCount s 0 in
       let q = bedRecord n (length s) (lineValues s) in
-      let a = check-then (textCheck s) (thenCheck (bedWordsCheck s n) (afterWords s n)) r e in
+      let a = check-then (textCheck s) (afterText s) r (checked-of s r e) in
       let b = check-then (bedWordsCheck s n) (afterWords s n) r (a .1) in
-      let c = read-then (columnsFrom (take n bedColumns) 0 s 0) (afterColumns s n (lineValues s)) r (b .1) in
-      let d = check-then (lastLineCheck s 0) (thenCheck (spanCheck q (lineValues s)) (afterSpans s q)) r (c .on) in
+      let c = next-then (columnsFrom (take n bedColumns) 0 s 0) (afterColumns s n (lineValues s)) r (b .1) in
+      let d = check-then (lastLineCheck s 0) (thenCheck Faulty (spanCheck q (lineValues s)) (afterSpans s q)) r (c .on) in
       let f = check-then (spanCheck q (lineValues s)) (afterSpans s q) r (d .1) in
-      let g = check-then (blockCheck s q) (Accepted q) r (f .1) in
+      let g = check-then (blockCheck s q) (Read q) r (f .1) in
       let i : q ≡ r = cc (g .1) in
       record { text = a .0; number = b .0; end = c .end; read = c .read; line = d .0; is = sym i; spans = rw i at (f .0); blocks = rw i at (g .0) }
 
   pub accepts-is : Accepts s r → bedCheck s ≡ Accepted r
-  unfolding bedCheck afterWords afterColumns afterSpans
-  accepts-is a = rw (a .text, a .number, a .read, a .line, ← (a .is), a .spans, a .blocks)
+  unfolding bedStages afterText afterWords afterColumns afterSpans
+  accepts-is a = checked-is s r (rw (a .text, a .number, a .read, a .line, ← (a .is), a .spans, a .blocks))
 
 -- the checks one by one
-pub words-of : (s : List ℕ) (n : ℕ) → bedWordsCheck s n ≡ Holds → WordNumber n
-words-of s n e = number-of n (words-hold s 0 n 12 (isWordCount n) e .1)
+pub words-of : (s : List ℕ) (n : ℕ) → bedWordsCheck s n ≡ Passes → WordNumber n
+words-of s n e = number-of n (words-hold s 0 n column.all (isWordCount n) e .1)
 
-pub span-of : (r : Bed) (vs : List ℕ) → spanCheck r vs ≡ Holds → r .chromStart < r .chromEnd
+pub span-of : (r : Bed) (vs : List ℕ) → spanCheck r vs ≡ Passes → r .chromStart < r .chromEnd
 unfolding spanCheck
-span-of r vs e = ltb-true (r .chromStart) (r .chromEnd) (require-holds (ltb (r .chromStart) (r .chromEnd)) _ _ e .0)
+span-of r vs e = ltb-true (r .chromStart) (r .chromEnd) (require-passes (ltb (r .chromStart) (r .chromEnd)) _ _ e .0)
 
-pub thick-of : (r : Bed) (vs : List ℕ) → spanCheck r vs ≡ Holds → thickFits r ≡ true
+pub thick-of : (r : Bed) (vs : List ℕ) → spanCheck r vs ≡ Passes → thickFits r ≡ true
 unfolding spanCheck
-thick-of r vs e = require-holds (thickFits r) _ _ (require-holds (ltb (r .chromStart) (r .chromEnd)) _ _ e .1) .0
+thick-of r vs e = require-passes (thickFits r) _ _ (require-passes (ltb (r .chromStart) (r .chromEnd)) _ _ e .1) .0
 
-pub fill-of : (s : List ℕ) (r : Bed) → blockCheck s r ≡ Holds → blocksFill 0 (r .chromEnd - r .chromStart) (bedStarts s r) (bedSizes s r) ≡ true
+pub fill-of : (s : List ℕ) (r : Bed) → blockCheck s r ≡ Passes → blocksFill 0 (r .chromEnd - r .chromStart) (bedStarts s r) (bedSizes s r) ≡ true
 unfolding blockCheck
-fill-of s r e = require-holds _ Holds _ e .0
+fill-of s r e = require-passes _ Passes _ e .0
 
 -- the lists of the blocks are as long as their count says
 module _ (s : List ℕ) (e : ℕ) (read : columnsFrom (take (wordCount s 0) bedColumns) 0 s 0 ≡ Next e) (len : ℕ) where
   abbrev made : Bed
   made = bedRecord (wordCount s 0) len (lineValues s)
 
-  module _ (w : wordCount s 0 ≡ 12) where
+  module _ (w : wordCount s 0 ≡ column.all) where
     columns-all : take (wordCount s 0) bedColumns ≡ bedColumns
     columns-all = rw w all-columns
 
     pub read-all : columnsFrom bedColumns 0 s 0 ≡ Next e
     read-all = rw columns-all at read
 
-    count-given : made .blockCount ≡ getD (valuesFrom bedColumns 0 s 0) 18 0
+    count-given : made .blockCount ≡ valueOf (valuesFrom bedColumns 0 s 0) column.blockCount
     unfolding bedRecord
-    count-given = rw (lt-ltb 9 (wordCount s 0) (omega arith), columns-all)
+    count-given = rw (lt-ltb column.blockCount (wordCount s 0) (omega arith), columns-all)
 
-    sizes-given : bedSizes s made ≡ valuesOf (bytesOf s (wordAt s 0 10))
+    sizes-given : bedSizes s made ≡ valuesOf (bytesOf s (wordAt s 0 column.blockSizes))
     unfolding bedSizes bedRecord
     sizes-given = rw w
 
-    starts-given : bedStarts s made ≡ valuesOf (bytesOf s (wordAt s 0 11))
+    starts-given : bedStarts s made ≡ valuesOf (bytesOf s (wordAt s 0 column.blockStarts))
     unfolding bedStarts bedRecord
     starts-given = rw w
 
   module _ (h : wordCount s 0 ≤ 9) where
     count-one : made .blockCount ≡ 1
     unfolding bedRecord
-    count-one = rw (le-ltb 9 (wordCount s 0) h)
+    count-one = rw (le-ltb column.blockCount (wordCount s 0) h)
 
     sizes-one : bedSizes s made ≡ (made .chromEnd - made .chromStart) ∷ []
     unfolding bedSizes bedRecord
-    sizes-one = rw (ne-eqb (wordCount s 0) 12 (λ q. omega arith))
+    sizes-one = rw (ne-eqb (wordCount s 0) column.all (λ q. omega arith))
 
     starts-one : bedStarts s made ≡ 0 ∷ []
     unfolding bedStarts bedRecord
-    starts-one = rw (ne-eqb (wordCount s 0) 12 (λ q. omega arith))
+    starts-one = rw (ne-eqb (wordCount s 0) column.all (λ q. omega arith))
 
   module _ (number : WordNumber (wordCount s 0)) where
     pub sizes-count : length (bedSizes s made) ≡ made .blockCount

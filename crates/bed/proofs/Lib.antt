@@ -2,11 +2,7 @@ pub mod ReadLaws
 pub mod ColumnLaws
 pub mod AcceptLaws
 pub mod LineLaws
-pub mod ValidLaws
-pub mod StandardLaws
+pub mod RowLaws
 pub mod StoreLaws
-pub mod RuleLaws
+pub mod StandardLaws
 pub mod WriteLaws
-pub mod BackWordLaws
-pub mod BackLaws
-pub mod Vectors

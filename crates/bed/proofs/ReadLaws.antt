@@ -1,43 +1,110 @@
 -- What each step of reading a BED line shows, on plain values. Assumes nothing.
-use mathlib.Core.Path.{_≡_, refl, ap, _∙_}
+use mathlib.Core.Path.{_≡_, refl, sym, ap, _∙_}
 use mathlib.Core.Bool.{Bool, true, false}
 use mathlib.Core.List.{List, [], _∷_}
-use Prim.Native.Nat.{ℕ, zero, suc, _+_, _-_, _*_, _≤_, _<_}
+use Prim.Native.Nat.{ℕ, zero, suc, _-_, _*_, _≤_, _<_}
 use native.Mathlib.Omega.{arith}
-use lib.ListN.{length, set, getD, take, drop, length-set}
+use lib.ListN.{length, set, take, drop, length-set}
 use lib.Dec.{eqb}
 use borrow.Author.Tests.{le-leb, lt-leb, lt-ltb, le-ltb, ne-eqb, eq-eqb, eqb-true, eqb-false}
-use Rattle.ledger.specs.Strands.{strandOf}
+use Rattle.ledger.specs.Strands.{strandOf, strandIs, strandLetter}
+use Rattle.ledger.specs.Parts.{partAt}
+use Rattle.ledger.specs.Refusals.{faultAt, refusalAt, require}
 use Rattle.ledger.specs.declared.Strand.{Strand}
+use Rattle.ledger.specs.declared.Strand.the-variants.{Dot}
 use Rattle.ledger.specs.declared.Part.{Part}
-use Rattle.ledger.specs.declared.Reason.the-variants.{BlockRules}
+use Rattle.ledger.specs.declared.Reason.the-variants.{BlockRules, NoRoom}
+use Rattle.ledger.specs.declared.Fault.{Fault}
 use Rattle.ledger.specs.declared.Refusal.{Refusal}
-use Rattle.text.specs.declared.Check.{Check}
-use Rattle.text.specs.declared.Check.the-variants.{Holds}
-use Rattle.text.specs.declared.Check.the-variants as check
-use Rattle.text.specs.Checks.{require, lastLineCheck}
+use Rattle.text.specs.declared.Stage.{Stage}
+use Rattle.text.specs.declared.Stage.the-variants.{Passes}
+use Rattle.text.specs.declared.Stage.the-variants as stage
+use Rattle.text.specs.Checks.{fault, lastLineCheck}
+use Rattle.text.specs.Steps.{Staged}
 use Rattle.text.specs.Words.{lineEnd}
 use Rattle.text.proofs.Laws.{last-as}
+use Rattle.text.proofs.StageLaws.{staged-stops, staged-goes}
+use Rattle.columns.specs.Columns.{valueOf, placeOf}
 use Rattle.blocks.specs.Blocks.{blocksFill}
 use Rattle.blocks.proofs.TakeLaws.{part-all}
 use Rattle.bed.specs.declared.Bed.{Bed}
+use Rattle.bed.specs.declared.BedReading.{BedReading}
+use Rattle.bed.specs.declared.BedReading.the-variants.{Read, Faulty}
 use Rattle.bed.specs.declared.BedAnswer.{BedAnswer}
 use Rattle.bed.specs.declared.BedAnswer.the-variants.{Accepted, Refused}
-use Rattle.ledger.specs.Strands.{strandIs}
-use Rattle.ledger.specs.Parts.{partAt}
+use Rattle.bed.specs.Columns as column
 use Rattle.bed.specs.Records.{valueOr, placeOr, bedRecord, bedSizes, bedStarts}
 use Rattle.bed.specs.Tests.{ifThere}
-use Rattle.bed.specs.Read.{thickPlace, spanCheck, blockCheck, withDefault, afterSpans, afterColumns, Listed, Blocked, Staged}
+use Rattle.bed.specs.Read.{thickPlace, spanCheck, blockCheck, afterSpans, afterColumns, bedStages, bedAnswer, bedCheck, bedRead}
+use Rattle.bed.specs.Steps.{withDefault, Listed, Blocked}
+
+-- a fault is no record
+pub read-apart : (r : Bed) (x : Fault) → Faulty x ≡ Read r → ⊥
+read-apart r x e = let z : _≡_ {A = ℕ} 0 1 = cc in omega arith
+
+-- a record that is accepted is not refused
+pub answers-apart : (r : Bed) (y : Refusal) → Accepted r ≡ Refused y → ⊥
+answers-apart r y e = let z : _≡_ {A = ℕ} 0 1 = cc in omega arith
+
+-- what a caller is told says what was read
+told-read : (a : BedReading) (r : Bed) → bedAnswer a ≡ Accepted r → a ≡ Read r
+told-read (Read q) r e = let p : q ≡ r = cc in rw p
+told-read (Faulty x) r e = absurd (answers-apart r (refusalAt x) (sym e))
+
+told-fault : (a : BedReading) (y : Refusal) → bedAnswer a ≡ Refused y → a ≡ Faulty (faultAt (y .reason) (y .place))
+told-fault (Read q) y e = absurd (answers-apart q y e)
+told-fault (Faulty x) y e = let p : refusalAt x ≡ y = cc in rw (← p)
+
+-- and is told of it
+pub tells-read : (a : BedReading) (r : Bed) → a ≡ Read r → Accepted r ≡ bedAnswer a
+tells-read a r e = rw e
+
+pub tells-fault : (a : BedReading) (x : Fault) (y : Refusal) → a ≡ Faulty x → y ≡ refusalAt x → Refused y ≡ bedAnswer a
+tells-fault a x y e q = rw (e, q)
+
+module _ (s : List ℕ) where
+  pub checked-of : (r : Bed) → bedCheck s ≡ Accepted r → bedStages s ≡ Read r
+  unfolding bedCheck
+  checked-of r e = told-read (bedStages s) r e
+
+  pub checked-is : (r : Bed) → bedStages s ≡ Read r → bedCheck s ≡ Accepted r
+  unfolding bedCheck
+  checked-is r e = rw e
+
+  pub refused-of : (y : Refusal) → bedCheck s ≡ Refused y → bedStages s ≡ Faulty (faultAt (y .reason) (y .place))
+  unfolding bedCheck
+  refused-of y e = told-fault (bedStages s) y e
+
+  pub refused-is : (x : Fault) → bedStages s ≡ Faulty x → bedCheck s ≡ Refused (refusalAt x)
+  unfolding bedCheck
+  refused-is x e = rw e
+
+  pub checked-told : (x : BedReading) (a : BedAnswer) → x ≡ bedStages s → a ≡ bedAnswer x → a ≡ bedCheck s
+  unfolding bedCheck
+  checked-told x a e q = rw (← e) q
+
+  -- the reader: the text checker, then the room
+  pub read-roomy : (r : Bed) (room : ℕ) → bedCheck s ≡ Accepted r → r .blockCount ≤ room → bedRead s room ≡ Accepted r
+  unfolding bedRead
+  read-roomy r room e h = rw (checked-of r e, le-leb (r .blockCount) room h)
+
+  pub read-short : (r : Bed) (room : ℕ) → bedCheck s ≡ Accepted r → room < r .blockCount → bedRead s room ≡ Refused (refusalAt (faultAt NoRoom (length s)))
+  unfolding bedRead
+  read-short r room e h = rw (checked-of r e, lt-leb (r .blockCount) room h)
+
+  pub read-refused : (y : Refusal) (room : ℕ) → bedCheck s ≡ Refused y → bedRead s room ≡ Refused y
+  unfolding bedRead
+  read-refused y room e = rw (refused-of y e)
 
 -- a column or its default
 module _ (n : ℕ) (vs : List ℕ) (k d : ℕ) where
-  pub value-there : (r : ℕ) → k < n → r ≡ getD vs (2 * k) 0 → r ≡ valueOr n vs k d
+  pub value-there : (r : ℕ) → k < n → r ≡ valueOf vs k → r ≡ valueOr n vs k d
   value-there r h e = rw (lt-ltb k n h) e
 
   pub value-left : n ≤ k → d ≡ valueOr n vs k d
   value-left h = rw (le-ltb k n h)
 
-  pub place-there : (r : ℕ) → k < n → r ≡ getD vs (2 * k + 1) 0 → r ≡ placeOr n vs k d
+  pub place-there : (r : ℕ) → k < n → r ≡ placeOf vs k → r ≡ placeOr n vs k d
   place-there r h e = rw (lt-ltb k n h) e
 
   pub place-left : n ≤ k → d ≡ placeOr n vs k d
@@ -45,19 +112,19 @@ module _ (n : ℕ) (vs : List ℕ) (k d : ℕ) where
 
 -- the place of a thick breach
 module _ (n : ℕ) (vs : List ℕ) (r : ℕ) where
-  pub thick-end : 8 ≤ n → r ≡ getD vs 15 0 → r ≡ thickPlace n vs
-  thick-end h e = rw (le-leb 8 n h) e
+  pub thick-end : column.thickEnd < n → r ≡ placeOf vs column.thickEnd → r ≡ thickPlace n vs
+  thick-end h e = rw (lt-ltb column.thickEnd n h) e
 
-  pub thick-start : n < 8 → r ≡ getD vs 13 0 → r ≡ thickPlace n vs
-  thick-start h e = rw (lt-leb 8 n h) e
+  pub thick-start : n ≤ column.thickEnd → r ≡ placeOf vs column.thickStart → r ≡ thickPlace n vs
+  thick-start h e = rw (le-ltb column.thickEnd n h) e
 
 -- the default block
 module _ (b : ℕ) (r : Bed) (l : List ℕ) where
-  pub block-given : r .words ≡ 12 → l ≡ withDefault b r l
-  block-given e = rw (eq-eqb (r .words) 12 e)
+  pub block-given : r .words ≡ column.all → l ≡ withDefault b r l
+  block-given e = rw (eq-eqb (r .words) column.all e)
 
-  pub block-default : (v : ℕ) (l₁ l₂ : List ℕ) → (r .words ≡ 12 → ⊥) → v ≡ r .chromEnd - r .chromStart → l₁ ≡ set l 0 v → l₂ ≡ set l₁ b 0 → l₂ ≡ withDefault b r l
-  block-default v l₁ l₂ h e e₁ e₂ = rw (ne-eqb (r .words) 12 h, e₂, e₁, e)
+  pub block-default : (v : ℕ) (l₁ l₂ : List ℕ) → (r .words ≡ column.all → ⊥) → v ≡ r .chromEnd - r .chromStart → l₁ ≡ set l 0 v → l₂ ≡ set l₁ b 0 → l₂ ≡ withDefault b r l
+  block-default v l₁ l₂ h e e₁ e₂ = rw (ne-eqb (r .words) column.all h, e₂, e₁, e)
 
 -- the blocks, tested in the working room
 module _ (b : ℕ) (s : List ℕ) (r : Bed) (l : List ℕ) (held : Blocked b s r l) (t : Bool) (v : ℕ) (ev : v ≡ r .chromEnd - r .chromStart)
@@ -65,7 +132,7 @@ module _ (b : ℕ) (s : List ℕ) (r : Bed) (l : List ℕ) (held : Blocked b s r
   tested : t ≡ blocksFill 0 (r .chromEnd - r .chromStart) (bedStarts s r) (bedSizes s r)
   tested = rw (← ev, ← (held .starts), ← (held .sizes)) (rw (part-all l b) at et)
 
-  pub blocks-checked : (c : Check) → c ≡ require t BlockRules (length s) Holds → c ≡ blockCheck s r
+  pub blocks-checked : (c : Stage) → c ≡ require t (fault BlockRules (length s)) Passes → c ≡ blockCheck s r
   unfolding blockCheck
   blocks-checked c e = rw (← tested) e
 
@@ -95,57 +162,61 @@ drop-set-at (x ∷ l) (suc i) v h = drop-set-at l i v (omega arith)
 pub block-held : (b : ℕ) (s : List ℕ) (r : Bed) (l l′ : List ℕ) → Listed b s r l → l′ ≡ withDefault b r l → Blocked b s r l′
 unfolding bedSizes bedStarts
 block-held b s r l l′ h e =
-    split (r .words) 12 _ (λ w.
-    let q : l′ ≡ l = e ∙ rw (eq-eqb (r .words) 12 w) in
-    record { long = rw q (h .long); few = h .few; sizes = rw (q, eq-eqb (r .words) 12 w) (h .sizes w); starts = rw (q, eq-eqb (r .words) 12 w) (h .starts w) })
+    split (r .words) column.all _ (λ w.
+    let q : l′ ≡ l = e ∙ rw (eq-eqb (r .words) column.all w) in
+    record { long = rw q (h .long); few = h .few; sizes = rw (q, eq-eqb (r .words) column.all w) (h .sizes w); starts = rw (q, eq-eqb (r .words) column.all w) (h .starts w) })
     (λ w.
     let v = r .chromEnd - r .chromStart in
-    let q : l′ ≡ set (set l 0 v) b 0 = e ∙ rw (ne-eqb (r .words) 12 w) in
+    let q : l′ ≡ set (set l 0 v) b 0 = e ∙ rw (ne-eqb (r .words) column.all w) in
     let one = h .one w in
     let some : 1 ≤ b = omega (arith, one, h .few) in
     let z : length (set l 0 v) ≡ 2 * b = length-set l 0 v ∙ h .long in
     record {
       long = rw q (length-set (set l 0 v) b 0 ∙ z);
       few = h .few;
-      sizes = rw (q, ne-eqb (r .words) 12 w, one) (take-set-past (set l 0 v) b 0 1 some ∙ first-set l v (omega (arith, h .long)));
-      starts = rw (q, ne-eqb (r .words) 12 w, one) (drop-set-at (set l 0 v) b 0 (omega (arith, z)));
+      sizes = rw (q, ne-eqb (r .words) column.all w, one) (take-set-past (set l 0 v) b 0 1 some ∙ first-set l v (omega (arith, h .long)));
+      starts = rw (q, ne-eqb (r .words) column.all w, one) (drop-set-at (set l 0 v) b 0 (omega (arith, z)));
     })
 
--- a stage that refuses, and one that goes on
-module _ (b : ℕ) (s : List ℕ) (l : List ℕ) (c : Check) where
+-- a stage that stops, and one that goes on
+module _ (b : ℕ) (s : List ℕ) (l : List ℕ) (c : Stage) where
   module _ (r : Bed) (ec : c ≡ blockCheck s r) (held : Blocked b s r l) where
-    pub spans-refused : (x : Refusal) → c ≡ check.Refused x → Staged b s (afterSpans s r) l (Refused x)
+    pub spans-stop : (x : Fault) → c ≡ stage.Faulty x → Staged Read (Blocked b s) (afterSpans s r) l (Faulty x)
     unfolding afterSpans
-    spans-refused x q = record { is = rw (← ec, q); held = λ y e. absurd (let z : _≡_ {A = ℕ} 0 1 = cc in omega arith) }
+    spans-stop x q = staged-stops Faulty read-apart x (rw (← ec, q))
 
-    pub spans-accepted : c ≡ Holds → Staged b s (afterSpans s r) l (Accepted r)
+    pub spans-read : c ≡ Passes → Staged Read (Blocked b s) (afterSpans s r) l (Read r)
     unfolding afterSpans
-    spans-accepted q = record { is = rw (← ec, q); held = λ y e. let p : r ≡ y = cc in rw p at held }
+    spans-read q = record { is = rw (← ec, q); held = λ y e. let p : r ≡ y = cc in rw p at held }
 
   module _ (n : ℕ) (vs : List ℕ) (end : ℕ) (on : lineEnd s end ≡ lineEnd s 0) (el : c ≡ lastLineCheck s end) where
     ec : c ≡ lastLineCheck s 0
     ec = el ∙ last-as s end 0 on
 
-    pub columns-refused : (x : Refusal) → c ≡ check.Refused x → Staged b s (afterColumns s n vs) l (Refused x)
+    pub columns-stop : (x : Fault) → c ≡ stage.Faulty x → Staged Read (Blocked b s) (afterColumns s n vs) l (Faulty x)
     unfolding afterColumns
-    columns-refused x q = record { is = rw (← ec, q); held = λ y e. absurd (let z : _≡_ {A = ℕ} 0 1 = cc in omega arith) }
+    columns-stop x q = staged-stops Faulty read-apart x (rw (← ec, q))
 
-    module _ (q : c ≡ Holds) (r : Bed) (er : r ≡ bedRecord n (length s) vs) (d : Check) (ed : d ≡ spanCheck r vs) where
-      pub lines-refused : (x : Refusal) → d ≡ check.Refused x → Staged b s (afterColumns s n vs) l (Refused x)
+    module _ (q : c ≡ Passes) (r : Bed) (er : r ≡ bedRecord n (length s) vs) (d : Stage) (ed : d ≡ spanCheck r vs) where
+      pub lines-stop : (x : Fault) → d ≡ stage.Faulty x → Staged Read (Blocked b s) (afterColumns s n vs) l (Faulty x)
       unfolding afterColumns
-      lines-refused x k = record { is = rw (← ec, q, ← er, ← ed, k); held = λ y e. absurd (let z : _≡_ {A = ℕ} 0 1 = cc in omega arith) }
+      lines-stop x k = staged-stops Faulty read-apart x (rw (← ec, q, ← er, ← ed, k))
 
-      pub lines-on : (l′ : List ℕ) (a : BedAnswer) → d ≡ Holds → Staged b s (afterSpans s r) l′ a → Staged b s (afterColumns s n vs) l′ a
+      pub lines-on : (l′ : List ℕ) (a : BedReading) → d ≡ Passes → Staged Read (Blocked b s) (afterSpans s r) l′ a → Staged Read (Blocked b s) (afterColumns s n vs) l′ a
       unfolding afterColumns
-      lines-on l′ a k h = record { is = rw (← ec, q, ← er, ← ed, k) (h .is); held = h .held }
+      lines-on l′ a k h = staged-goes a (rw (← ec, q, ← er, ← ed, k)) h
 
 pub listed-as : (b : ℕ) (s : List ℕ) (r r′ : Bed) (l : List ℕ) → r ≡ r′ → Listed b s r′ l → Listed b s r l
 listed-as b s r r′ l e h = rw e h
 
 -- a record from its columns
-pub record-is : (n len : ℕ) (vs : List ℕ) (start end chromPlace chromLength namePlace nameLength score letter thickStart thickEnd rgb count : ℕ) (chrom name : Part) (strand : Strand) → start ≡ getD vs 2 0 → end ≡ getD vs 4 0
-    → chromPlace ≡ getD vs 1 0 → chromLength ≡ getD vs 0 0 → chrom ≡ partAt chromPlace chromLength → namePlace ≡ placeOr n vs 3 len → nameLength ≡ valueOr n vs 3 0 → name ≡ partAt namePlace nameLength
-    → score ≡ valueOr n vs 4 0 → letter ≡ valueOr n vs 5 46 → strand ≡ strandIs (strandOf letter) → thickStart ≡ valueOr n vs 6 start → thickEnd ≡ valueOr n vs 7 end → rgb ≡ valueOr n vs 8 0 → count ≡ valueOr n vs 9 1
+pub record-is : (n len : ℕ) (vs : List ℕ) (start end chromPlace chromLength namePlace nameLength score letter thickStart thickEnd rgb count : ℕ) (chrom name : Part) (strand : Strand)
+    → start ≡ valueOf vs column.chromStart → end ≡ valueOf vs column.chromEnd
+    → chromPlace ≡ placeOf vs column.chrom → chromLength ≡ valueOf vs column.chrom → chrom ≡ partAt chromPlace chromLength
+    → namePlace ≡ placeOr n vs column.name len → nameLength ≡ valueOr n vs column.name 0 → name ≡ partAt namePlace nameLength
+    → score ≡ valueOr n vs column.score 0 → letter ≡ valueOr n vs column.strand (strandLetter Dot) → strand ≡ strandIs (strandOf letter)
+    → thickStart ≡ valueOr n vs column.thickStart start → thickEnd ≡ valueOr n vs column.thickEnd end
+    → rgb ≡ valueOr n vs column.itemRgb 0 → count ≡ valueOr n vs column.blockCount 1
     → record {
       words = n;
       chrom = chrom;

@@ -1,5 +1,5 @@
--- An accepted BED line's record may be written; and a line in standard form is its record's standard text. Assumes nothing.
-use mathlib.Core.Path.{_≡_, refl, sym, ap, _∙_}
+-- A line in standard form is its record's standard text. Assumes nothing.
+use mathlib.Core.Path.{_≡_, sym, ap, _∙_}
 use mathlib.Core.Bool.{Bool, true, not, _&&_, _||_}
 use mathlib.Core.List.{List, [], _∷_, _++_}
 use Prim.Native.Nat.{ℕ, zero, suc, _+_, _-_, _≤_, _<_}
@@ -9,17 +9,15 @@ use lib.ListN.{length, take, drop, getD, length-take, length-drop, drop-of-lengt
 use lib.Seq.{drop-cons, take-all, getD-take, getD-drop}
 use lib.Dec.{eqb}
 use borrow.Author.Tests.{eq-eqb, eqb-true}
-use Rattle.text.specs.declared.Class.the-variants.{Graphic}
-use Rattle.text.specs.declared.Check.the-variants.{Holds}
-use Rattle.text.specs.Scan.{run, endOf}
+use Rattle.ledger.specs.Limits.{textLimit}
+use Rattle.text.specs.Scan.{endOf}
 use Rattle.text.specs.Pieces.{lineOf, wordsOf, joined, Plain}
 use Rattle.text.specs.declared.Extent.{Extent}
 use Rattle.text.specs.Words.{nextWord, wordAt, wordCount, bytesOf}
-use Rattle.text.specs.Parts.{partIn, partBytes}
-use Rattle.text.proofs.Laws.{either, word-ends, word-next}
+use Rattle.text.specs.Parts.{partBytes}
+use Rattle.text.proofs.Laws.{word-ends, word-next}
 use Rattle.text.proofs.ShowLaws.{word-in}
-use Rattle.ledger.specs.Limits.{textLimit}
-use Rattle.text.proofs.TextLaws.{All, both}
+use Rattle.text.proofs.TextLaws.{both}
 use Rattle.text.proofs.PieceLaws.{word-bytes}
 use Rattle.numbers.specs.Lists.{lastByte}
 use Rattle.numbers.proofs.ListLaws.{last-is}
@@ -32,37 +30,25 @@ use Rattle.kinds.proofs.TidyLaws.{Tidy, standardWord, tidy-word}
 use Rattle.columns.specs.Places.{kindAt}
 use Rattle.columns.specs.Spells.{Spells, spells-none, spells-more, firsts}
 use Rattle.columns.proofs.Meant.{listsIn}
-use Rattle.columns.proofs.WordLaws.{word-length, graphic-all}
-use Rattle.columns.proofs.PartLaws.{part-shows, name-word, handed-in, name-handed}
-use Rattle.blocks.specs.Blocks.{countFits, rowsOf, rowNumbersFit, subtracted}
+use Rattle.columns.proofs.WordLaws.{word-length}
+use Rattle.columns.proofs.PartLaws.{name-word}
+use Rattle.blocks.specs.Blocks.{subtracted}
 use Rattle.blocks.proofs.RuleLaws.{shifted-back}
 use Rattle.bed.specs.declared.Bed.{Bed}
 use Rattle.bed.specs.declared.BedAnswer.{BedAnswer}
 use Rattle.bed.specs.declared.BedAnswer.the-variants.{Accepted}
+use Rattle.bed.specs.Columns as column
 use Rattle.bed.specs.Table.{bedColumns}
-use Rattle.bed.specs.Records.{bedSizes, bedStarts, bedTargets, bedQueries}
+use Rattle.bed.specs.Records.{bedSizes, bedStarts, bedTargets}
 use Rattle.bed.specs.Read.{bedCheck}
-use Rattle.bed.specs.Standard.{Tidied, Standard}
+use Rattle.bed.specs.Standard.{Standard}
 use Rattle.bed.specs.Rules.{BedLine}
-use Rattle.bed.specs.Tests.{namesFit, strandFits, fieldsFit, spansFit, rowsFit, bedValid}
-use Rattle.bed.specs.Write.{namesShow, writeCheck, bedWords, bedText}
+use Rattle.bed.specs.Write.{bedWords, bedText}
+use Rattle.bed.specs.Steps.{Tidied}
 use Rattle.bed.proofs.ColumnLaws.{most-words, by-number}
 use Rattle.bed.proofs.AcceptLaws.{lineValues}
 use Rattle.bed.proofs.LineLaws.{line-of}
-use Rattle.bed.proofs.ValidLaws.{accepted-rows, accepted-valid}
-
--- ---- A VALID RECORD PASSES THE WRITER'S CHECKS, with names of its lengths that show
-pub valid-writes : (r : Bed) (chrom name ts qs zs : List ℕ) → bedValid r ts qs zs ≡ true → length chrom ≡ r .chrom .length → length name ≡ r .name .length → All Graphic chrom → All Graphic name → writeCheck r chrom name ts qs zs ≡ Holds
-unfolding writeCheck namesShow bedValid
-valid-writes r chrom name ts qs zs v c d k l =
-    let n = r .blockCount in
-    let count = both (countFits n (rowsOf ts qs zs)) _ v in
-    let names = both (namesFit (r .words) (r .chrom .length) (r .name .length)) _ (count .1) in
-    let strand = both (strandFits r) _ (names .1) in
-    let fields = both (fieldsFit r) _ (strand .1) in
-    let numbers = both (rowNumbersFit (take n ts) (take n qs) (take n zs)) _ (fields .1) in
-    let spans = both (spansFit r) (rowsFit r (take n ts) (take n qs) (take n zs)) (numbers .1) in
-    rw (count .0, graphic-all chrom k, graphic-all name l, c, d, names .0, strand .0, fields .0, numbers .0, spans .0, spans .1)
+use Rattle.bed.proofs.RowLaws.{accepted-rows}
 
 -- ---- words that spell values, by their number
 record SpeltSo (c : Kind) (w : List ℕ) (v : ℕ) (us : List ℕ) : Type 0 where
@@ -101,21 +87,6 @@ module _ (s : List ℕ) (r : Bed) (ok : bedCheck s ≡ Accepted r) where
   line : BedLine s vs ls r (bedStarts s r) (bedSizes s r)
   line = line-of s r ok
 
-  -- its names show, and have the lengths that the record says
-  none-shows : (All Graphic (partBytes s (record { start = length s; length = 0 }))) × (length (partBytes s (record { start = length s; length = 0 })) ≡ 0)
-  unfolding partBytes run
-  none-shows = (refl, refl)
-
-  pub chrom-shows : (All Graphic (partBytes s (r .chrom))) × (length (partBytes s (r .chrom)) ≡ r .chrom .length)
-  chrom-shows = rw (line .chrom) (part-shows s (line .allowed) 0)
-
-  pub name-shows : (All Graphic (partBytes s (r .name))) × (length (partBytes s (r .name)) ≡ r .name .length)
-  name-shows = either (r .words) 3 _ (λ h. rw (line .noName h) none-shows) (λ h. rw (line .name h) (part-shows s (line .allowed) 3))
-
-  -- ITS RECORD MAY BE WRITTEN
-  pub accepted-writable : writeCheck r (partBytes s (r .chrom)) (partBytes s (r .name)) (bedTargets s r) (bedQueries s r) (bedSizes s r) ≡ Holds
-  accepted-writable = valid-writes r _ _ _ _ _ (accepted-valid s r ok) (chrom-shows .1) (name-shows .1) (chrom-shows .0) (name-shows .0)
-
   -- ---- its words are standard words
   word-count : length ws ≡ r .words
   unfolding wordCount
@@ -133,15 +104,8 @@ module _ (s : List ℕ) (r : Bed) (ok : bedCheck s ≡ Accepted r) where
       let q : SpeltAs (kindAt bedColumns k) (p .count) (getD ws k []) (getD vs k 0) (getD ls k []) = rw (← getD-take (wordCount s 0) bedColumns k Name l) (p .says) in
       tidy-word (kindAt bedColumns k) (p .count) (getD ws k []) (getD vs k 0) (getD ls k []) q t
 
-  -- its names are handed back whole
-  pub chrom-handed : partBytes s (partIn s (r .chrom)) ≡ partBytes s (r .chrom)
-  chrom-handed = name-handed s 0 (r .chrom) (line .chrom)
-
-  pub name-back : partBytes s (partIn s (r .name)) ≡ partBytes s (r .name)
-  name-back = either (r .words) 3 _ (λ h. rw (line .noName h) (handed-in s (record { start = length s; length = 0 }) (omega arith) (omega arith))) (λ h. name-handed s 3 (r .name) (line .name h))
-
   -- all words are there
-  all-there : 9 < r .words → r .words ≡ 12
+  all-there : column.blockCount < r .words → r .words ≡ column.all
   all-there h = by-number (line .number) _ (λ a b. absurd (omega (arith, line .words))) (λ q. line .words ∙ q)
 
   -- all of its blocks are its rows
@@ -154,25 +118,25 @@ module _ (s : List ℕ) (r : Bed) (ok : bedCheck s ≡ Accepted r) where
       ap (subtracted (r .chromStart)) (take-all (r .blockCount) (bedTargets s r) (omega (arith, accepted-rows s r ok .targets)))
       ∙ shifted-back (r .chromStart) (bedStarts s r)
 
-  module _ (colour : 8 < r .words → r .itemRgb ≡ 0 → length (bytesOf s (wordAt s 0 8)) ≡ 1) (sizes : r .words ≡ 12 → lastByte 0 (bytesOf s (wordAt s 0 10)) ≡ 44) (starts : r .words ≡ 12 → lastByte 0 (bytesOf s (wordAt s 0 11)) ≡ 44) where
+  module _ (colour : column.itemRgb < r .words → r .itemRgb ≡ 0 → length (bytesOf s (wordAt s 0 column.itemRgb)) ≡ 1) (sizes : r .words ≡ column.all → lastByte 0 (bytesOf s (wordAt s 0 column.blockSizes)) ≡ 44) (starts : r .words ≡ column.all → lastByte 0 (bytesOf s (wordAt s 0 column.blockStarts)) ≡ 44) where
     there : (k : ℕ) → k < length ws → k < r .words
     there k h = omega (arith, word-count)
 
     words-agree : Agree ws 0 (bedWords r (partBytes s (r .chrom)) (partBytes s (r .name)) (bedTargets s r) (bedSizes s r))
     unfolding bedWords bedColumns
     words-agree =
-        agree-more (λ h. name-word s 0 (r .chrom) (line .chrom))
-        (agree-more (λ h. ap digits (line .chromStart) ∙ standard-at 1 h tt)
-        (agree-more (λ h. ap digits (line .chromEnd) ∙ standard-at 2 h tt)
-        (agree-more (λ h. name-word s 3 (r .name) (line .name (there 3 h)))
-        (agree-more (λ h. ap digits (line .score (there 4 h)) ∙ standard-at 4 h tt)
-        (agree-more (λ h. ap (λ (v : ℕ). v ∷ []) (line .strand (there 5 h)) ∙ standard-at 5 h tt)
-        (agree-more (λ h. ap digits (line .thickStart (there 6 h)) ∙ standard-at 6 h tt)
-        (agree-more (λ h. ap digits (line .thickEnd (there 7 h)) ∙ standard-at 7 h tt)
-        (agree-more (λ h. ap colourText (line .itemRgb (there 8 h)) ∙ standard-at 8 h (λ e. ap length (sym (bytes-word 8)) ∙ colour (there 8 h) (line .itemRgb (there 8 h) ∙ e)))
-        (agree-more (λ h. ap digits (line .blockCount (there 9 h)) ∙ standard-at 9 h tt)
-        (agree-more (λ h. ap listText (rows-sizes ∙ line .listedSizes (omega (arith, there 10 h))) ∙ standard-at 10 h (ap (lastByte 0) (sym (bytes-word 10)) ∙ sizes (all-there (omega (arith, there 10 h)))))
-        (agree-more (λ h. ap listText (rows-starts ∙ line .listedStarts (omega (arith, there 11 h))) ∙ standard-at 11 h (ap (lastByte 0) (sym (bytes-word 11)) ∙ starts (all-there (omega (arith, there 11 h)))))
+        agree-more (λ h. name-word s column.chrom (r .chrom) (line .chrom))
+        (agree-more (λ h. ap digits (line .chromStart) ∙ standard-at column.chromStart h tt)
+        (agree-more (λ h. ap digits (line .chromEnd) ∙ standard-at column.chromEnd h tt)
+        (agree-more (λ h. name-word s column.name (r .name) (line .name (there column.name h)))
+        (agree-more (λ h. ap digits (line .score (there column.score h)) ∙ standard-at column.score h tt)
+        (agree-more (λ h. ap (λ (v : ℕ). v ∷ []) (line .strand (there column.strand h)) ∙ standard-at column.strand h tt)
+        (agree-more (λ h. ap digits (line .thickStart (there column.thickStart h)) ∙ standard-at column.thickStart h tt)
+        (agree-more (λ h. ap digits (line .thickEnd (there column.thickEnd h)) ∙ standard-at column.thickEnd h tt)
+        (agree-more (λ h. ap colourText (line .itemRgb (there column.itemRgb h)) ∙ standard-at column.itemRgb h (λ e. ap length (sym (bytes-word column.itemRgb)) ∙ colour (there column.itemRgb h) (line .itemRgb (there column.itemRgb h) ∙ e)))
+        (agree-more (λ h. ap digits (line .blockCount (there column.blockCount h)) ∙ standard-at column.blockCount h tt)
+        (agree-more (λ h. ap listText (rows-sizes ∙ line .listedSizes (omega (arith, there column.blockSizes h))) ∙ standard-at column.blockSizes h (ap (lastByte 0) (sym (bytes-word column.blockSizes)) ∙ sizes (all-there (omega (arith, there column.blockSizes h)))))
+        (agree-more (λ h. ap listText (rows-starts ∙ line .listedStarts (omega (arith, there column.blockStarts h))) ∙ standard-at column.blockStarts h (ap (lastByte 0) (sym (bytes-word column.blockStarts)) ∙ starts (all-there (omega (arith, there column.blockStarts h)))))
         agree-none)))))))))))
 
     standard-words : take (r .words) (bedWords r (partBytes s (r .chrom)) (partBytes s (r .name)) (bedTargets s r) (bedSizes s r)) ≡ ws
@@ -181,8 +145,8 @@ module _ (s : List ℕ) (r : Bed) (ok : bedCheck s ≡ Accepted r) where
 
 -- A LINE IN STANDARD FORM AND A FEED ARE ITS RECORD'S STANDARD TEXT: black is one digit, and the lists end with a comma
 pub standard-same : (s : List ℕ) (r : Bed) → bedCheck s ≡ Accepted r → Plain s
-    → (8 < r .words → r .itemRgb ≡ 0 → length (bytesOf s (wordAt s 0 8)) ≡ 1)
-    → (r .words ≡ 12 → lastByte 0 (bytesOf s (wordAt s 0 10)) ≡ 44) → (r .words ≡ 12 → lastByte 0 (bytesOf s (wordAt s 0 11)) ≡ 44)
+    → (8 < r .words → r .itemRgb ≡ 0 → length (bytesOf s (wordAt s 0 column.itemRgb)) ≡ 1)
+    → (r .words ≡ column.all → lastByte 0 (bytesOf s (wordAt s 0 column.blockSizes)) ≡ 44) → (r .words ≡ column.all → lastByte 0 (bytesOf s (wordAt s 0 column.blockStarts)) ≡ 44)
     → bedText r (partBytes s (r .chrom)) (partBytes s (r .name)) (bedTargets s r) (bedSizes s r) ≡ lineOf s ++ (10 ∷ [])
 unfolding bedText
 standard-same s r ok p colour sizes starts = ap (λ (x : List (List ℕ)). joined 9 x ++ (10 ∷ [])) (standard-words s r ok colour sizes starts) ∙ ap (λ (x : List ℕ). x ++ (10 ∷ [])) (sym (p .is))
@@ -206,34 +170,31 @@ word-after s j (suc k) =
     rw q (ap (λ (w : Extent). nextWord s (w .end)) (word-after s j k))
 
 -- where the name of an accepted line ends
-module _ (s : List ℕ) (r : Bed) (ok : bedCheck s ≡ Accepted r) (h : 9 ≤ r .words) where
-  name-ends : r .name .start + r .name .length ≡ wordAt s 0 3 .end
+module _ (s : List ℕ) (r : Bed) (ok : bedCheck s ≡ Accepted r) (h : column.itemRgb < r .words) where
+  name-ends : r .name .start + r .name .length ≡ wordAt s 0 column.name .end
   unfolding endOf
   name-ends =
       let e = line s r ok .name (omega arith) in
-      let m : wordAt s 0 3 .start ≤ wordAt s 0 3 .end = omega (arith, word-ends s 0 3) in
+      let m : wordAt s 0 column.name .start ≤ wordAt s 0 column.name .end = omega (arith, word-ends s 0 column.name) in
       rw e (omega arith)
 
   pub name-fits : r .name .start + r .name .length ≤ textLimit
-  name-fits = omega (arith, name-ends, word-in s 0 3 (omega arith) .1, line s r ok .short)
+  name-fits = omega (arith, name-ends, word-in s 0 column.name (omega arith) .1, line s r ok .short)
 
-  pub rgb-word : (p : ℕ) (w : Extent) → p ≡ r .name .start + r .name .length → w ≡ wordAt s p 4 → w ≡ wordAt s 0 8
-  rgb-word p w e q = q ∙ ap (λ (i : ℕ). wordAt s i 4) (e ∙ name-ends) ∙ word-after s 3 4
+  pub rgb-word : (p : ℕ) (w : Extent) → p ≡ r .name .start + r .name .length → w ≡ wordAt s p (column.itemRgb - column.name - 1) → w ≡ wordAt s 0 column.itemRgb
+  rgb-word p w e q = q ∙ ap (λ (i : ℕ). wordAt s i (column.itemRgb - column.name - 1)) (e ∙ name-ends) ∙ word-after s column.name (column.itemRgb - column.name - 1)
 
-pub tidy-short : (s : List ℕ) (r : Bed) → r .words < 9 → Tidied s r
-tidy-short s r h = record { black = λ l. absurd (omega arith); sizes = λ q. absurd (omega arith); starts = λ q. absurd (omega arith) }
-
-module _ (s : List ℕ) (r : Bed) (ok : bedCheck s ≡ Accepted r) (h : 9 ≤ r .words) (p : ℕ) (ep : p ≡ r .name .start + r .name .length) (rgb : Extent) (e4 : rgb ≡ wordAt s p 4) (black : Bool) (eb : black ≡ (not (eqb (r .itemRgb) 0) || eqb (rgb .end - rgb .start) 1)) where
-  e8 : rgb ≡ wordAt s 0 8
+module _ (s : List ℕ) (r : Bed) (ok : bedCheck s ≡ Accepted r) (h : column.itemRgb < r .words) (p : ℕ) (ep : p ≡ r .name .start + r .name .length) (rgb : Extent) (e4 : rgb ≡ wordAt s p (column.itemRgb - column.name - 1)) (black : Bool) (eb : black ≡ (not (eqb (r .itemRgb) 0) || eqb (rgb .end - rgb .start) 1)) where
+  e8 : rgb ≡ wordAt s 0 column.itemRgb
   e8 = rgb-word s r ok h p rgb ep e4
 
-  one-digit : black ≡ true → r .itemRgb ≡ 0 → length (bytesOf s (wordAt s 0 8)) ≡ 1
+  one-digit : black ≡ true → r .itemRgb ≡ 0 → length (bytesOf s (wordAt s 0 column.itemRgb)) ≡ 1
   one-digit t z =
       let q : eqb (rgb .end - rgb .start) 1 ≡ true = rw (eq-eqb (r .itemRgb) 0 z) at (sym eb ∙ t) in
       let n : rgb .end - rgb .start ≡ 1 = eqb-true (rgb .end - rgb .start) 1 q in
-      word-length s 8 ∙ rw e8 at n
+      word-length s column.itemRgb ∙ rw e8 at n
 
-  pub tidy-nine : r .words < 12 → black ≡ true → Tidied s r
+  pub tidy-nine : r .words < column.all → black ≡ true → Tidied s r
   tidy-nine l t = record { black = λ l z. one-digit t z; sizes = λ q. absurd (omega arith); starts = λ q. absurd (omega arith) }
 
   pub tidy-twelve : (count sizes starts : Extent) → count ≡ nextWord s (rgb .end) → sizes ≡ nextWord s (count .end) → starts ≡ nextWord s (sizes .end) → (a b : Bool) → (a ≡ true → lastByte 0 (bytesOf s sizes) ≡ 44)
@@ -241,9 +202,9 @@ module _ (s : List ℕ) (r : Bed) (ok : bedCheck s ≡ Accepted r) (h : 9 ≤ r 
   tidy-twelve count sizes starts e9 e10 e11 a b fa fb t =
       let p = both black (a && b) t in
       let q = both a b (p .1) in
-      let w9 = word-next s 0 8 rgb count e8 e9 in
-      let w10 = word-next s 0 9 count sizes w9 e10 in
-      let w11 = word-next s 0 10 sizes starts w10 e11 in
+      let w9 = word-next s 0 column.itemRgb rgb count e8 e9 in
+      let w10 = word-next s 0 column.blockCount count sizes w9 e10 in
+      let w11 = word-next s 0 column.blockSizes sizes starts w10 e11 in
       record { black = λ l z. one-digit (p .0) z; sizes = λ h. rw w10 at (fa (q .0)); starts = λ h. rw w11 at (fb (q .1)) }
 
 pub accepted-as : (s : List ℕ) (x : BedAnswer) (r : Bed) → x ≡ bedCheck s → x ≡ Accepted r → bedCheck s ≡ Accepted r

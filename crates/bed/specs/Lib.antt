@@ -1,3 +1,4 @@
+pub mod Columns
 pub mod Table
 pub mod Records
 pub mod Read
@@ -5,3 +6,4 @@ pub mod Tests
 pub mod Rules
 pub mod Write
 pub mod Standard
+pub mod Steps

@@ -1,56 +1,60 @@
 -- Writing a BED record: the writers' refusals in their order, and the standard text.
-use Prim.Native.Nat.{ℕ, _*_, _≤_}
+use Prim.Native.Nat.{ℕ}
 use mathlib.Core.Path.{_≡_}
 use mathlib.Core.Bool.{Bool, _&&_}
 use mathlib.Core.List.{List, [], _∷_, _++_}
-use lib.ListN.{length, take, drop}
+use lib.ListN.{length, take}
 use Rattle.ledger.specs.declared.Reason.the-variants.{NumberOutOfRange, BadWord, SpanDisagrees, BlockRules}
-use Rattle.ledger.specs.Limits.{nameLimit, blockLimit}
+use Rattle.ledger.specs.Refusals.{require}
 use Rattle.ledger.specs.Strands.{strandLetter}
 use Rattle.text.specs.declared.Check.{Check}
 use Rattle.text.specs.declared.Check.the-variants.{Holds}
-use Rattle.text.specs.declared.Check.the-variants as check
-use Rattle.text.specs.Checks.{require}
+use Rattle.text.specs.Checks.{refused}
 use Rattle.text.specs.Pieces.{joined}
 use Rattle.writing.specs.Digits.{digits, listText}
 use Rattle.writing.specs.declared.Writing.{Writing}
-use Rattle.writing.specs.declared.Writing.the-variants as writing
 use Rattle.writing.specs.Answers.{roomAnswer, leftAfter}
 use Rattle.kinds.specs.Words.{colourText}
+use Rattle.columns.specs.Names.{allGraphic}
+use Rattle.columns.specs.Lines.{thenWrite}
 use Rattle.blocks.specs.Blocks.{countFits, rowsOf, subtracted, rowNumbersFit}
 use Rattle.bed.specs.declared.Bed.{Bed}
 use Rattle.bed.specs.Tests.{namesFit, strandFits, fieldsFit, spansFit, rowsFit, bedValid}
-use Rattle.columns.specs.Names.{allGraphic}
-use Rattle.columns.specs.Lines.{thenWrite}
 
 -- the names that are handed in: their lengths, and that all their bytes show
 unfoldable pub namesShow : Bed → List ℕ → List ℕ → Bool
 namesShow r chrom name = namesFit (r .words) (length chrom) (length name) && (allGraphic chrom && allGraphic name)
 
--- the refusals, each at place 0: a bad row count (9); names and strand (6); the word count and numbers, a row's too (5); spans (7); blocks (9)
+-- the refusals, without a text: a bad row count (9); names and strand (6); the word count and numbers, a row's too (5); spans (7); blocks (9)
 unfoldable pub writeCheck : Bed → List ℕ → List ℕ → List ℕ → List ℕ → List ℕ → Check
 writeCheck r chrom name ts qs zs =
-    require (countFits (r .blockCount) (rowsOf ts qs zs)) BlockRules 0
-    (require (namesShow r chrom name && strandFits r) BadWord 0
-    (require (fieldsFit r && rowNumbersFit (take (r .blockCount) ts) (take (r .blockCount) qs) (take (r .blockCount) zs)) NumberOutOfRange 0
-    (require (spansFit r) SpanDisagrees 0
-    (require (rowsFit r (take (r .blockCount) ts) (take (r .blockCount) qs) (take (r .blockCount) zs)) BlockRules 0
+    require (countFits (r .blockCount) (rowsOf ts qs zs)) (refused BlockRules)
+    (require (namesShow r chrom name && strandFits r) (refused BadWord)
+    (require (fieldsFit r && rowNumbersFit (take (r .blockCount) ts) (take (r .blockCount) qs) (take (r .blockCount) zs)) (refused NumberOutOfRange)
+    (require (spansFit r) (refused SpanDisagrees)
+    (require (rowsFit r (take (r .blockCount) ts) (take (r .blockCount) qs) (take (r .blockCount) zs)) (refused BlockRules)
     Holds))))
 
 -- the twelve words of a record: ts and zs are the targets and sizes of its rows
 unfoldable pub bedWords : Bed → List ℕ → List ℕ → List ℕ → List ℕ → List (List ℕ)
 bedWords r chrom name ts zs =
-    chrom ∷ digits (r .chromStart) ∷ digits (r .chromEnd) ∷ name ∷ digits (r .score) ∷ (strandLetter (r .strand) ∷ []) ∷ digits (r .thickStart) ∷ digits (r .thickEnd) ∷ colourText (r .itemRgb) ∷ digits (r .blockCount)
-    ∷ listText (take (r .blockCount) zs) ∷ listText (subtracted (r .chromStart) (take (r .blockCount) ts)) ∷ []
+    chrom
+    ∷ digits (r .chromStart)
+    ∷ digits (r .chromEnd)
+    ∷ name
+    ∷ digits (r .score)
+    ∷ (strandLetter (r .strand) ∷ [])
+    ∷ digits (r .thickStart)
+    ∷ digits (r .thickEnd)
+    ∷ colourText (r .itemRgb)
+    ∷ digits (r .blockCount)
+    ∷ listText (take (r .blockCount) zs)
+    ∷ listText (subtracted (r .chromStart) (take (r .blockCount) ts))
+    ∷ []
 
 -- THE STANDARD TEXT: the words up to the word count, a tab between them, and a line feed
 unfoldable pub bedText : Bed → List ℕ → List ℕ → List ℕ → List ℕ → List ℕ
 bedText r chrom name ts zs = joined 9 (take (r .words) (bedWords r chrom name ts zs)) ++ (10 ∷ [])
-
--- the same as values by column, for the line writer: two numbers a column, a name's length and where it stands in a text of names
-unfoldable pub bedValues : Bed → ℕ → ℕ → List ℕ
-bedValues r chrom name =
-    chrom ∷ 0 ∷ r .chromStart ∷ 0 ∷ r .chromEnd ∷ 0 ∷ name ∷ nameLimit ∷ r .score ∷ 0 ∷ strandLetter (r .strand) ∷ 0 ∷ r .thickStart ∷ 0 ∷ r .thickEnd ∷ 0 ∷ r .itemRgb ∷ 0 ∷ r .blockCount ∷ 0 ∷ r .blockCount ∷ 0 ∷ r .blockCount ∷ 0 ∷ []
 
 -- THE WRITER: the checks, then the text's length (1), then the room (11)
 unfoldable pub bedWrite : Bed → List ℕ → List ℕ → List ℕ → List ℕ → List ℕ → ℕ → Writing
@@ -61,25 +65,6 @@ pub record BedWrote (r : Bed) (chrom name ts qs zs before after : List ℕ) (x :
   pub is : x ≡ bedWrite r chrom name ts qs zs (length before)
   pub left : after ≡ leftAfter x (bedText r chrom name ts zs) before
 
--- THE RECORD CHECKER: any breach is 9, at place 0
+-- THE RECORD CHECKER: any breach is 9
 unfoldable pub recordCheck : Bed → List ℕ → List ℕ → List ℕ → Check
-recordCheck r ts qs zs = require (bedValid r ts qs zs) BlockRules 0 Holds
-
--- the stages of writing a record that passed the checks: the two lists of its blocks
-pub record RowsThere (r : Bed) (ts zs lists : List ℕ) : Type 0 where
-  pub long : length lists ≡ 2 * blockLimit
-  pub few : r .blockCount ≤ blockLimit
-  pub targets : r .blockCount ≤ length ts
-  pub sizes : r .blockCount ≤ length zs
-
-pub record ListsPut (r : Bed) (ts zs lists : List ℕ) : Type 0 where
-  pub sizes : take (r .blockCount) (drop 0 lists) ≡ take (r .blockCount) zs
-  pub starts : take (r .blockCount) (drop blockLimit lists) ≡ subtracted (r .chromStart) (take (r .blockCount) ts)
-
-pub record Writable (r : Bed) (chrom name ts zs : List ℕ) : Type 0 where
-  pub words : r .words ≤ 12
-  pub chromShort : length chrom ≤ nameLimit
-  pub nameShort : length name ≤ nameLimit
-  pub few : r .blockCount ≤ blockLimit
-  pub targets : r .blockCount ≤ length ts
-  pub sizes : r .blockCount ≤ length zs
+recordCheck r ts qs zs = require (bedValid r ts qs zs) (refused BlockRules) Holds

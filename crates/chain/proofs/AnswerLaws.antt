@@ -1,5 +1,5 @@
 -- What a caller is told of a reading, and what it shows of the reading. Assumes nothing.
-use mathlib.Core.Path.{_≡_, refl, sym, ap, _∙_}
+use mathlib.Core.Path.{_≡_, refl, sym, ap}
 use mathlib.Core.List.{List}
 use Prim.Native.Nat.{ℕ}
 use native.Mathlib.Omega.{arith}
@@ -14,7 +14,6 @@ use Rattle.blocks.specs.Readers.{thenRoom}
 use Rattle.chain.specs.declared.Chain.{Chain}
 use Rattle.chain.specs.declared.ChainReading.{ChainReading}
 use Rattle.chain.specs.declared.ChainReading.the-variants.{Read, Faulty}
-use Rattle.chain.specs.declared.ChainAnswer.{ChainAnswer}
 use Rattle.chain.specs.declared.ChainAnswer.the-variants.{Accepted, Refused}
 use Rattle.chain.specs.Read.{chainStages, chainAnswer, chainCheck, onReading, onAnswer, chainRoomed, chainRead}
 

@@ -1,6 +1,6 @@
 -- Block lines taken in one pass: what is good there is the block line. Assumes nothing.
 use mathlib.Core.Path.{_≡_, refl, sym, ap, _∙_}
-use mathlib.Core.Bool.{true, false, _&&_}
+use mathlib.Core.Bool.{Bool, true, false, _&&_}
 use mathlib.Core.List.{List, [], _∷_}
 use Prim.Native.Nat.{ℕ, suc, _+_, _≤_, _<_}
 use native.Mathlib.Omega.{arith}
@@ -26,16 +26,17 @@ use Rattle.kinds.specs.declared.Range.{Range}
 use Rattle.kinds.specs.declared.Range.the-variants.{Coordinate, Size, ChainScore, ChainId}
 use Rattle.kinds.specs.Kinds.{leastOf, mostOf, spelt}
 use Rattle.columns.specs.declared.Columns.the-variants.{Next}
-use Rattle.columns.specs.declared.Got.{Got}
 use Rattle.columns.specs.Columns.{fieldFrom, columnsFrom, valuesFrom, FieldTaken}
+use Rattle.columns.proofs.WordLaws.{and-i}
 use Rattle.columns.proofs.WalkLaws.{Run, run-none, run-more, walk-through}
 use Rattle.chain.specs.declared.BlockLine.the-variants.{Last, Gap}
+use Rattle.chain.specs.declared.Head.{Head}
 use Rattle.chain.specs.declared.Quick.{Quick}
 use Rattle.chain.specs.declared.Rest.{Rest}
 use Rattle.chain.specs.Columns as column
 use Rattle.chain.specs.Table.{blockColumns, chainColumns}
 use Rattle.chain.specs.Read.{blockWords, blockNumbers, blockLine}
-use Rattle.chain.specs.Steps.{WordTaken, RestSeen, GapTaken, LastTaken, StepRead, HeadTaken}
+use Rattle.chain.specs.Steps.{WordTaken, RestSeen, GapTaken, LastTaken, StepRead, headValues, HeadTaken}
 use Rattle.chain.proofs.BlockLaws.{limit-ahead}
 
 -- the number of the word at or after a place
@@ -180,47 +181,73 @@ module _ (s : List ℕ) (line k : ℕ) (some : 1 ≤ k) where
     next = λ z dt dq q. absurd (let w : _≡_ {A = ℕ} 0 1 = cc in omega arith);
   }
 
--- a header taken in one pass
-module _ (s : List ℕ) (a : Got) (ta : FieldTaken (kind.Word fixed.Chain) s 0 a) (b : Got) (tb : FieldTaken (Number ChainScore) s (a .end) b) (c : Got) (tc : FieldTaken (Name) s (b .end) c) (d : Got) (td : FieldTaken (Number Size) s (c .end) d) (e : Got) (te : FieldTaken (kind.Word fixed.Plus) s (d .end) e) (f : Got) (tf : FieldTaken (Number Coordinate) s (e .end) f) (g : Got) (tg : FieldTaken (Number Coordinate) s (f .end) g) (h : Got) (th : FieldTaken (Name) s (g .end) h) (i : Got) (ti : FieldTaken (Number Size) s (h .end) i) (j : Got) (tj : FieldTaken (Stranded false) s (i .end) j) (k : Got) (tk : FieldTaken (Number Coordinate) s (j .end) k) (l : Got) (tl : FieldTaken (Number Coordinate) s (k .end) l) (m : Got) (tm : FieldTaken (Number ChainId) s (l .end) m) (r : Rest) (tr : RestSeen s (m .end) r) where
-  head-run : a .good ≡ true → b .good ≡ true → c .good ≡ true → d .good ≡ true → e .good ≡ true → f .good ≡ true → g .good ≡ true → h .good ≡ true → i .good ≡ true → j .good ≡ true → k .good ≡ true → l .good ≡ true → m .good ≡ true → Run chainColumns s 0 (a .value ∷ a .start ∷ b .value ∷ b .start ∷ c .value ∷ c .start ∷ d .value ∷ d .start ∷ e .value ∷ e .start ∷ f .value ∷ f .start ∷ g .value ∷ g .start ∷ h .value ∷ h .start ∷ i .value ∷ i .start ∷ j .value ∷ j .start ∷ k .value ∷ k .start ∷ l .value ∷ l .start ∷ m .value ∷ m .start ∷ []) (m .end)
-  unfolding chainColumns
-  head-run ga gb gc gd ge gf gg gh gi gj gk gl gm =
-      run-more (kind.Word fixed.Chain) (Number ChainScore ∷ Name ∷ Number Size ∷ kind.Word fixed.Plus ∷ Number Coordinate ∷ Number Coordinate ∷ Name ∷ Number Size ∷ Stranded false ∷ Number Coordinate ∷ Number Coordinate ∷ Number ChainId ∷ []) s 0 (m .end) (b .value ∷ b .start ∷ c .value ∷ c .start ∷ d .value ∷ d .start ∷ e .value ∷ e .start ∷ f .value ∷ f .start ∷ g .value ∷ g .start ∷ h .value ∷ h .start ∷ i .value ∷ i .start ∷ j .value ∷ j .start ∷ k .value ∷ k .start ∷ l .value ∷ l .start ∷ m .value ∷ m .start ∷ []) a refl ta ga
-      (run-more (Number ChainScore) (Name ∷ Number Size ∷ kind.Word fixed.Plus ∷ Number Coordinate ∷ Number Coordinate ∷ Name ∷ Number Size ∷ Stranded false ∷ Number Coordinate ∷ Number Coordinate ∷ Number ChainId ∷ []) s (a .end) (m .end) (c .value ∷ c .start ∷ d .value ∷ d .start ∷ e .value ∷ e .start ∷ f .value ∷ f .start ∷ g .value ∷ g .start ∷ h .value ∷ h .start ∷ i .value ∷ i .start ∷ j .value ∷ j .start ∷ k .value ∷ k .start ∷ l .value ∷ l .start ∷ m .value ∷ m .start ∷ []) b refl tb gb
-      (run-more (Name) (Number Size ∷ kind.Word fixed.Plus ∷ Number Coordinate ∷ Number Coordinate ∷ Name ∷ Number Size ∷ Stranded false ∷ Number Coordinate ∷ Number Coordinate ∷ Number ChainId ∷ []) s (b .end) (m .end) (d .value ∷ d .start ∷ e .value ∷ e .start ∷ f .value ∷ f .start ∷ g .value ∷ g .start ∷ h .value ∷ h .start ∷ i .value ∷ i .start ∷ j .value ∷ j .start ∷ k .value ∷ k .start ∷ l .value ∷ l .start ∷ m .value ∷ m .start ∷ []) c refl tc gc
-      (run-more (Number Size) (kind.Word fixed.Plus ∷ Number Coordinate ∷ Number Coordinate ∷ Name ∷ Number Size ∷ Stranded false ∷ Number Coordinate ∷ Number Coordinate ∷ Number ChainId ∷ []) s (c .end) (m .end) (e .value ∷ e .start ∷ f .value ∷ f .start ∷ g .value ∷ g .start ∷ h .value ∷ h .start ∷ i .value ∷ i .start ∷ j .value ∷ j .start ∷ k .value ∷ k .start ∷ l .value ∷ l .start ∷ m .value ∷ m .start ∷ []) d refl td gd
-      (run-more (kind.Word fixed.Plus) (Number Coordinate ∷ Number Coordinate ∷ Name ∷ Number Size ∷ Stranded false ∷ Number Coordinate ∷ Number Coordinate ∷ Number ChainId ∷ []) s (d .end) (m .end) (f .value ∷ f .start ∷ g .value ∷ g .start ∷ h .value ∷ h .start ∷ i .value ∷ i .start ∷ j .value ∷ j .start ∷ k .value ∷ k .start ∷ l .value ∷ l .start ∷ m .value ∷ m .start ∷ []) e refl te ge
-      (run-more (Number Coordinate) (Number Coordinate ∷ Name ∷ Number Size ∷ Stranded false ∷ Number Coordinate ∷ Number Coordinate ∷ Number ChainId ∷ []) s (e .end) (m .end) (g .value ∷ g .start ∷ h .value ∷ h .start ∷ i .value ∷ i .start ∷ j .value ∷ j .start ∷ k .value ∷ k .start ∷ l .value ∷ l .start ∷ m .value ∷ m .start ∷ []) f refl tf gf
-      (run-more (Number Coordinate) (Name ∷ Number Size ∷ Stranded false ∷ Number Coordinate ∷ Number Coordinate ∷ Number ChainId ∷ []) s (f .end) (m .end) (h .value ∷ h .start ∷ i .value ∷ i .start ∷ j .value ∷ j .start ∷ k .value ∷ k .start ∷ l .value ∷ l .start ∷ m .value ∷ m .start ∷ []) g refl tg gg
-      (run-more (Name) (Number Size ∷ Stranded false ∷ Number Coordinate ∷ Number Coordinate ∷ Number ChainId ∷ []) s (g .end) (m .end) (i .value ∷ i .start ∷ j .value ∷ j .start ∷ k .value ∷ k .start ∷ l .value ∷ l .start ∷ m .value ∷ m .start ∷ []) h refl th gh
-      (run-more (Number Size) (Stranded false ∷ Number Coordinate ∷ Number Coordinate ∷ Number ChainId ∷ []) s (h .end) (m .end) (j .value ∷ j .start ∷ k .value ∷ k .start ∷ l .value ∷ l .start ∷ m .value ∷ m .start ∷ []) i refl ti gi
-      (run-more (Stranded false) (Number Coordinate ∷ Number Coordinate ∷ Number ChainId ∷ []) s (i .end) (m .end) (k .value ∷ k .start ∷ l .value ∷ l .start ∷ m .value ∷ m .start ∷ []) j refl tj gj
-      (run-more (Number Coordinate) (Number Coordinate ∷ Number ChainId ∷ []) s (j .end) (m .end) (l .value ∷ l .start ∷ m .value ∷ m .start ∷ []) k refl tk gk
-      (run-more (Number Coordinate) (Number ChainId ∷ []) s (k .end) (m .end) (m .value ∷ m .start ∷ []) l refl tl gl
-      (run-more (Number ChainId) ([]) s (l .end) (m .end) ([]) m refl tm gm
-      (run-none s (m .end))))))))))))))
+-- a header taken in one pass: its columns one after the other
+pub record HeadRun (s : List ℕ) (x : Head) : Type 0 where
+  pub word : FieldTaken (kind.Word fixed.Chain) s 0 (x .word)
+  pub score : FieldTaken (Number ChainScore) s (x .word .end) (x .score)
+  pub tName : FieldTaken Name s (x .score .end) (x .tName)
+  pub tSize : FieldTaken (Number Size) s (x .tName .end) (x .tSize)
+  pub tStrand : FieldTaken (kind.Word fixed.Plus) s (x .tSize .end) (x .tStrand)
+  pub tStart : FieldTaken (Number Coordinate) s (x .tStrand .end) (x .tStart)
+  pub tEnd : FieldTaken (Number Coordinate) s (x .tStart .end) (x .tEnd)
+  pub qName : FieldTaken Name s (x .tEnd .end) (x .qName)
+  pub qSize : FieldTaken (Number Size) s (x .qName .end) (x .qSize)
+  pub qStrand : FieldTaken (Stranded false) s (x .qSize .end) (x .qStrand)
+  pub qStart : FieldTaken (Number Coordinate) s (x .qStrand .end) (x .qStart)
+  pub qEnd : FieldTaken (Number Coordinate) s (x .qStart .end) (x .qEnd)
+  pub id : FieldTaken (Number ChainId) s (x .qEnd .end) (x .id)
 
-  pub head-taken : HeadTaken s (record { good = (a .good && (b .good && (c .good && (d .good && (e .good && (f .good && (g .good))))))) && (h .good && (i .good && (j .good && (k .good && (l .good && (m .good && (r .bare))))))); values = a .value ∷ a .start ∷ b .value ∷ b .start ∷ c .value ∷ c .start ∷ d .value ∷ d .start ∷ e .value ∷ e .start ∷ f .value ∷ f .start ∷ g .value ∷ g .start ∷ h .value ∷ h .start ∷ i .value ∷ i .start ∷ j .value ∷ j .start ∷ k .value ∷ k .start ∷ l .value ∷ l .start ∷ m .value ∷ m .start ∷ []; end = m .end })
+module _ (s : List ℕ) (x : Head) (run : HeadRun s x) where
+  head-run : x .word .good ≡ true → x .score .good ≡ true → x .tName .good ≡ true → x .tSize .good ≡ true → x .tStrand .good ≡ true → x .tStart .good ≡ true → x .tEnd .good ≡ true → x .qName .good ≡ true → x .qSize .good ≡ true → x .qStrand .good ≡ true → x .qStart .good ≡ true → x .qEnd .good ≡ true → x .id .good ≡ true → Run chainColumns s 0 (headValues x) (x .id .end)
   unfolding chainColumns
-  head-taken = record {
-    count = λ q. let x = parts q in omega (arith, walk-through chainColumns 0 s 0 (m .end) (x .0 .read) .count, count-none s (m .end) (tr .none (x .1)));
+  head-run g₀ g₁ g₂ g₃ g₄ g₅ g₆ g₇ g₈ g₉ h₀ h₁ h₂ =
+      run-more _ _ s _ _ _ (x .word) refl (run .word) g₀
+      (run-more _ _ s _ _ _ (x .score) refl (run .score) g₁
+      (run-more _ _ s _ _ _ (x .tName) refl (run .tName) g₂
+      (run-more _ _ s _ _ _ (x .tSize) refl (run .tSize) g₃
+      (run-more _ _ s _ _ _ (x .tStrand) refl (run .tStrand) g₄
+      (run-more _ _ s _ _ _ (x .tStart) refl (run .tStart) g₅
+      (run-more _ _ s _ _ _ (x .tEnd) refl (run .tEnd) g₆
+      (run-more _ _ s _ _ _ (x .qName) refl (run .qName) g₇
+      (run-more _ _ s _ _ _ (x .qSize) refl (run .qSize) g₈
+      (run-more _ _ s _ _ _ (x .qStrand) refl (run .qStrand) g₉
+      (run-more _ _ s _ _ _ (x .qStart) refl (run .qStart) h₀
+      (run-more _ _ s _ _ _ (x .qEnd) refl (run .qEnd) h₁
+      (run-more _ _ s _ _ _ (x .id) refl (run .id) h₂
+      (run-none s (x .id .end))))))))))))))
+
+  abbrev targetGood : Bool
+  targetGood = x .score .good && (x .tName .good && (x .tSize .good && (x .tStrand .good && (x .tStart .good && x .tEnd .good))))
+
+  abbrev queryGood : Bool
+  queryGood = x .qName .good && (x .qSize .good && (x .qStrand .good && (x .qStart .good && (x .qEnd .good && x .id .good))))
+
+  good-run : ((x .word .good && targetGood) && queryGood) ≡ true → Run chainColumns s 0 (headValues x) (x .id .end)
+  good-run q =
+      let p = both (x .word .good && targetGood) queryGood q in
+      let w = both (x .word .good) targetGood (p .0) in
+      let t₀ = both (x .score .good) _ (w .1) in
+      let t₁ = both (x .tName .good) _ (t₀ .1) in
+      let t₂ = both (x .tSize .good) _ (t₁ .1) in
+      let t₃ = both (x .tStrand .good) _ (t₂ .1) in
+      let t₄ = both (x .tStart .good) (x .tEnd .good) (t₃ .1) in
+      let q₀ = both (x .qName .good) _ (p .1) in
+      let q₁ = both (x .qSize .good) _ (q₀ .1) in
+      let q₂ = both (x .qStrand .good) _ (q₁ .1) in
+      let q₃ = both (x .qStart .good) _ (q₂ .1) in
+      let q₄ = both (x .qEnd .good) (x .id .good) (q₃ .1) in
+      head-run (w .0) (t₀ .0) (t₁ .0) (t₂ .0) (t₃ .0) (t₄ .0) (t₄ .1) (q₀ .0) (q₁ .0) (q₂ .0) (q₃ .0) (q₄ .0) (q₄ .1)
+
+  pub head-taken : (r : Rest) → RestSeen s (x .id .end) r → x .good ≡ ((x .word .good && targetGood) && (queryGood && r .bare)) → HeadTaken s x
+  unfolding chainColumns
+  head-taken r tr e = record {
+    count = λ q. let y = parts q in omega (arith, walk-through chainColumns 0 s 0 (x .id .end) (y .0 .read) .count, count-none s (x .id .end) (tr .none (y .1)));
     read = λ q. parts q .0 .read;
     values = λ q. parts q .0 .values;
   }
     where
-      parts : ((a .good && (b .good && (c .good && (d .good && (e .good && (f .good && (g .good))))))) && (h .good && (i .good && (j .good && (k .good && (l .good && (m .good && (r .bare)))))))) ≡ true → Run chainColumns s 0 (a .value ∷ a .start ∷ b .value ∷ b .start ∷ c .value ∷ c .start ∷ d .value ∷ d .start ∷ e .value ∷ e .start ∷ f .value ∷ f .start ∷ g .value ∷ g .start ∷ h .value ∷ h .start ∷ i .value ∷ i .start ∷ j .value ∷ j .start ∷ k .value ∷ k .start ∷ l .value ∷ l .start ∷ m .value ∷ m .start ∷ []) (m .end) × (r .bare ≡ true)
+      parts : x .good ≡ true → Run chainColumns s 0 (headValues x) (x .id .end) × (r .bare ≡ true)
       parts q =
-          let p0 = both (a .good && (b .good && (c .good && (d .good && (e .good && (f .good && (g .good))))))) (h .good && (i .good && (j .good && (k .good && (l .good && (m .good && (r .bare))))))) q in
-          let u0 = both (a .good) (b .good && (c .good && (d .good && (e .good && (f .good && (g .good)))))) (p0 .0) in
-          let u1 = both (b .good) (c .good && (d .good && (e .good && (f .good && (g .good))))) (u0 .1) in
-          let u2 = both (c .good) (d .good && (e .good && (f .good && (g .good)))) (u1 .1) in
-          let u3 = both (d .good) (e .good && (f .good && (g .good))) (u2 .1) in
-          let u4 = both (e .good) (f .good && (g .good)) (u3 .1) in
-          let u5 = both (f .good) (g .good) (u4 .1) in
-          let w0 = both (h .good) (i .good && (j .good && (k .good && (l .good && (m .good && (r .bare)))))) (p0 .1) in
-          let w1 = both (i .good) (j .good && (k .good && (l .good && (m .good && (r .bare))))) (w0 .1) in
-          let w2 = both (j .good) (k .good && (l .good && (m .good && (r .bare)))) (w1 .1) in
-          let w3 = both (k .good) (l .good && (m .good && (r .bare))) (w2 .1) in
-          let w4 = both (l .good) (m .good && (r .bare)) (w3 .1) in
-          let w5 = both (m .good) (r .bare) (w4 .1) in
-          (head-run (u0 .0) (u1 .0) (u2 .0) (u3 .0) (u4 .0) (u5 .0) (u5 .1) (w0 .0) (w1 .0) (w2 .0) (w3 .0) (w4 .0) (w5 .0), w5 .1)
+          let p = both (x .word .good && targetGood) (queryGood && r .bare) (sym e ∙ q) in
+          let b = both queryGood (r .bare) (p .1) in
+          (good-run (and-i _ _ (p .0) (b .0)), b .1)

@@ -51,7 +51,7 @@ use Rattle.chain.specs.Columns as column
 use Rattle.chain.specs.Table.{chainColumns}
 use Rattle.chain.specs.Records.{chainRecord, chainTargets, chainQueries, chainSizes}
 use Rattle.chain.specs.Read.{spanCheck, fillCheck, afterLast, afterLines, afterSpans, afterColumns, afterWords, afterText, chainStages, chainAnswer, chainCheck, onReading, onAnswer, chainRoomed, chainRead, Held, InRoom, ChainRead}
-use Rattle.chain.specs.Steps.{Walked, Headed, HeadTaken, RowsStored, BlocksRead}
+use Rattle.chain.specs.Steps.{Walked, Headed, headValues, HeadTaken, RowsStored, BlocksRead}
 use Rattle.chain.proofs.AnswerLaws.{read-apart, told-read, told-same}
 
 -- the codes of the header's table in the code
@@ -243,20 +243,20 @@ module _ (s rows b′ d d′ : List ℕ) (long : length rows ≡ 3 * blockLimit)
 
 -- the header taken in one pass
 module _ (s : List ℕ) (x : Head) (taken : HeadTaken s x) (good : x .good ≡ true) where
-  pub head-headed : (rows : List ℕ) → length rows ≡ 3 * blockLimit → Headed s (x .end) (x .values) rows
-  head-headed rows long =
+  pub head-headed : (vs rows : List ℕ) → vs ≡ headValues x → length rows ≡ 3 * blockLimit → Headed s (x .id .end) vs rows
+  head-headed vs rows ev long =
       let count = taken .count good in
       let read = taken .read good in
       record {
-        line = walk-through chainColumns 0 s 0 (x .end) read .line;
-        target = rw (← (taken .values good)) (target-low s (x .end) count read);
-        query = rw (← (taken .values good)) (query-low s (x .end) count read);
+        line = walk-through chainColumns 0 s 0 (x .id .end) read .line;
+        target = rw (ev ∙ sym (taken .values good)) (target-low s (x .id .end) count read);
+        query = rw (ev ∙ sym (taken .values good)) (query-low s (x .id .end) count read);
         long = long;
       }
 
-  pub head-on : (l : List ℕ) (a : ChainReading) → Staged Read (Held s) (afterColumns s (x .values)) l a → Staged Read (Held s) (afterText s) l a
+  pub head-on : (vs l : List ℕ) (a : ChainReading) → vs ≡ headValues x → Staged Read (Held s) (afterColumns s vs) l a → Staged Read (Held s) (afterText s) l a
   unfolding afterText afterWords
-  head-on l a h = staged-goes a (rw (count-is s 0 column.headerCount (taken .count good), taken .read good, taken .values good)) h
+  head-on vs l a ev h = staged-goes a (rw (count-is s 0 column.headerCount (taken .count good), taken .read good, taken .values good, ev)) h
 
 module _ (s : List ℕ) (c : Stage) (ec : c ≡ textCheck s) where
   pub text-faulty : (l : List ℕ) (x : Fault) → c ≡ stage.Faulty x → Staged Read (Held s) (chainStages s) l (Faulty x)

@@ -8,7 +8,7 @@ use lib.ListN.{length, getD, take}
 use lib.Seq.{length-sets}
 use lib.Dec.{leb}
 use borrow.Author.Tests.{leb-true}
-use Rattle.ledger.specs.Limits.{nameLimit, blockLimit}
+use Rattle.ledger.specs.Limits.{nameLimit}
 use Rattle.ledger.specs.declared.Refusal.{Refusal}
 use Rattle.ledger.specs.Strands.{isTold}
 use Rattle.text.specs.declared.Check.{Check}
@@ -25,11 +25,12 @@ use Rattle.writing.proofs.PutLaws.{Completes, completes-all, completes-step, pu
 use Rattle.columns.specs.Columns.{tableOf}
 use Rattle.columns.specs.Lines.{wordsFrom, lineText, fedLine}
 use Rattle.columns.proofs.JoinLaws.{line-joins}
-use Rattle.blocks.specs.Blocks.{rowsOf}
+use Rattle.blocks.specs.Blocks.{rowNumbersFit}
+use Rattle.blocks.proofs.UseLaws.{use-of}
 use Rattle.chain.specs.declared.Chain.{Chain}
 use Rattle.chain.specs.Columns as column
 use Rattle.chain.specs.Table.{chainColumns, blockColumns}
-use Rattle.chain.specs.Tests.{namesFit}
+use Rattle.chain.specs.Tests.{namesFit, fieldsFit}
 use Rattle.chain.specs.Write.{namesShow, writeCheck, headWords, fedWords, gapTo, gapWords, blockText, chainText, chainWrite, ChainWrote}
 use Rattle.chain.specs.Steps.{chainValues, textOf, Writable}
 use Rattle.chain.proofs.BlockLaws.{blockCodes, table-is}
@@ -121,21 +122,14 @@ unfolding writeCheck namesShow namesFit
 check-writable r tName qName ts qs zs e =
     let a = require-holds _ _ _ e in
     let b = require-holds _ _ _ (a .1) in
-    let count = both (leb 1 (r .blockCount)) _ (a .0) in
-    let few = both (leb (r .blockCount) blockLimit) (leb (r .blockCount) (rowsOf ts qs zs)) (count .1) in
-    let rows = leb-true (r .blockCount) (rowsOf ts qs zs) (few .1) in
+    let f = require-holds _ _ _ (b .1) in
+    let numbers = both (fieldsFit r) (rowNumbersFit (take (r .blockCount) ts) (take (r .blockCount) qs) (take (r .blockCount) zs)) (f .0) in
     let names = both (namesFit (length tName) (length qName)) _ (both (namesShow tName qName) (isTold (r .qStrand)) (b .0) .0) .0 in
     let both-names = both (lengthFits (length tName)) (lengthFits (length qName)) names in
     record {
       tShort = leb-true (length tName) nameLimit (both (leb 1 (length tName)) (leb (length tName) nameLimit) (both-names .0) .1);
       qShort = leb-true (length qName) nameLimit (both (leb 1 (length qName)) (leb (length qName) nameLimit) (both-names .1) .1);
-      rows = record {
-        some = leb-true 1 (r .blockCount) (count .0);
-        few = leb-true (r .blockCount) blockLimit (few .0);
-        targets = omega arith;
-        queries = omega arith;
-        sizes = omega arith;
-      };
+      rows = use-of (r .blockCount) ts qs zs (a .0) (numbers .1);
     }
 
 -- the writer: the checks, then the text

@@ -18,6 +18,7 @@ use Rattle.columns.specs.Columns.{columnsFrom, valuesFrom, valueOf}
 use Rattle.columns.specs.Lines.{fedLine}
 use Rattle.blocks.specs.Blocks.{rowsOf}
 use Rattle.blocks.specs.Readers.{RowsRead}
+use Rattle.blocks.specs.Rules.{RowsInUse}
 use Rattle.chain.specs.declared.Chain.{Chain}
 use Rattle.chain.specs.declared.BlockLine.{BlockLine}
 use Rattle.chain.specs.declared.BlockLine.the-variants.{Last, Gap}
@@ -139,11 +140,29 @@ pub record Headed (s : List ℕ) (end : ℕ) (vs rows : List ℕ) : Type 0 where
   pub query : valueOf vs column.qStart ≤ largestPosition
   pub long : length rows ≡ 3 * blockLimit
 
--- what taking a header in one pass promises: where it is good, its number of words is, and its columns are read
-pub record HeadTaken (s : List ℕ) (r : Head) : Type 0 where
-  pub count : r .good ≡ true → wordCount s 0 ≡ column.headerCount
-  pub read : r .good ≡ true → columnsFrom chainColumns 0 s 0 ≡ Next (r .end)
-  pub values : r .good ≡ true → valuesFrom chainColumns 0 s 0 ≡ r .values
+-- the columns' values and places of a header taken in one pass
+abbrev pub headValues : Head → List ℕ
+headValues x =
+    x .word .value ∷ x .word .start
+    ∷ x .score .value ∷ x .score .start
+    ∷ x .tName .value ∷ x .tName .start
+    ∷ x .tSize .value ∷ x .tSize .start
+    ∷ x .tStrand .value ∷ x .tStrand .start
+    ∷ x .tStart .value ∷ x .tStart .start
+    ∷ x .tEnd .value ∷ x .tEnd .start
+    ∷ x .qName .value ∷ x .qName .start
+    ∷ x .qSize .value ∷ x .qSize .start
+    ∷ x .qStrand .value ∷ x .qStrand .start
+    ∷ x .qStart .value ∷ x .qStart .start
+    ∷ x .qEnd .value ∷ x .qEnd .start
+    ∷ x .id .value ∷ x .id .start
+    ∷ []
+
+-- what taking it promises: where it is good, its number of words is, and its columns are read
+pub record HeadTaken (s : List ℕ) (x : Head) : Type 0 where
+  pub count : x .good ≡ true → wordCount s 0 ≡ column.headerCount
+  pub read : x .good ≡ true → columnsFrom chainColumns 0 s 0 ≡ Next (x .id .end)
+  pub values : x .good ≡ true → valuesFrom chainColumns 0 s 0 ≡ headValues x
 
 -- what storing the rows of a chain promises, the room first
 abbrev pub RowsStored : List ℕ → Chain → List ℕ → List ℕ → List ℕ → List ℕ → List ℕ → List ℕ → ChainReading → Type 0
@@ -164,15 +183,8 @@ chainValues r tName qName =
 unfoldable pub textOf : List ℕ → List ℕ → ℕ → List ℕ → List ℕ → List ℕ → List ℕ
 textOf names vs n ts qs zs = fedLine chainColumns 32 names vs [] ++ blockText (n - 1) 0 ts qs zs
 
--- the rows in use, and the names, of a record that passed the checks
-pub record RowsThere (n : ℕ) (ts qs zs : List ℕ) : Type 0 where
-  pub some : 1 ≤ n
-  pub few : n ≤ blockLimit
-  pub targets : n ≤ length ts
-  pub queries : n ≤ length qs
-  pub sizes : n ≤ length zs
-
+-- the names and the rows of a record that passed the checks
 pub record Writable (r : Chain) (tName qName ts qs zs : List ℕ) : Type 0 where
   pub tShort : length tName ≤ nameLimit
   pub qShort : length qName ≤ nameLimit
-  pub rows : RowsThere (r .blockCount) ts qs zs
+  pub rows : RowsInUse (r .blockCount) ts qs zs

@@ -2,7 +2,7 @@
 use Prim.Native.Nat.{ℕ}
 use mathlib.Core.Bool.{Bool, _&&_}
 use mathlib.Core.List.{List}
-use lib.ListN.{length, take}
+use lib.ListN.{take}
 use lib.Dec.{leb}
 use Rattle.ledger.specs.Strands.{isTold}
 use Rattle.ledger.specs.Limits.{largestPosition, chainScoreLimit, chainIdLimit}

@@ -10,17 +10,54 @@ ghost use Rattle.text.specs.declared.Stage.the-variants as stage;
 ghost use Rattle.writing.specs.Puts.{Put};
 ghost use Rattle.writing.specs.Answers.{Wrote};
 ghost use Rattle.columns.specs.Lines.{fedLine};
+ghost use Rattle.blocks.specs.Rules.{RowsInUse};
 ghost use Rattle.chain.specs.declared.ChainReading.the-variants as reading;
 ghost use Rattle.chain.specs.Columns as column;
 ghost use Rattle.chain.specs.Table.{blockColumns};
 ghost use Rattle.chain.specs.Records.{nameOf, chainRecord};
-ghost use Rattle.chain.specs.Read.{spanCheck, isBlockCount, limitCheck, blockIs, fillCheck, afterLast, afterLines,
-    afterSpans, afterColumns, afterText, chainStages, chainAnswer, chainCheck, Held, InRoom, ChainRead};
+ghost use Rattle.chain.specs.Read.{
+  spanCheck,
+  isBlockCount,
+  limitCheck,
+  blockIs,
+  fillCheck,
+  afterLast,
+  afterLines,
+  afterSpans,
+  afterColumns,
+  afterText,
+  chainStages,
+  chainAnswer,
+  chainCheck,
+  Held,
+  InRoom,
+  ChainRead,
+};
 ghost use Rattle.chain.specs.Tests.{namesFit, sizeFits, fieldsFit, spansFit, rowsFit, chainValid};
 ghost use Rattle.chain.specs.Write.{namesShow, writeCheck, fedWords, gapWords, blockText, chainText, ChainWrote, recordCheck};
-ghost use Rattle.chain.specs.Steps.{lineCheck, LineCounted, NumbersRead, BlockRead, WordTaken, RestSeen, GapTaken,
-    LastTaken, StepRead, Begins, Walked, Headed, HeadTaken, RowsStored, BlocksRead, chainValues, textOf, RowsThere, Writable};
+ghost use Rattle.chain.specs.Steps.{
+  lineCheck,
+  LineCounted,
+  NumbersRead,
+  BlockRead,
+  WordTaken,
+  RestSeen,
+  GapTaken,
+  LastTaken,
+  StepRead,
+  Begins,
+  Walked,
+  Headed,
+  headValues,
+  HeadTaken,
+  RowsStored,
+  BlocksRead,
+  chainValues,
+  textOf,
+  Writable,
+};
 use columns::Columns;
+use columns::Got;
 use kinds::Fixed;
 use kinds::Kind;
 use kinds::Range;
@@ -485,63 +522,94 @@ fn after_columns(text: &[u8], end: usize, values: &[u64], rows: &mut [u64]) -> C
     }
 }
 
-// A header taken in one pass: whether it is good, then its columns' values and places, and where it ends.
+// A header taken in one pass: whether it is good, and then its columns.
 pub struct Head {
     pub good: bool,
-    pub values: [u64; 2 * COLUMNS],
-    pub end: usize,
+    pub word: Got,
+    pub score: Got,
+    pub tName: Got,
+    pub tSize: Got,
+    pub tStrand: Got,
+    pub tStart: Got,
+    pub tEnd: Got,
+    pub qName: Got,
+    pub qSize: Got,
+    pub qStrand: Got,
+    pub qStart: Got,
+    pub qEnd: Got,
+    pub id: Got,
 }
 
 fn quick_head(text: &[u8]) -> Head
     ensures { λ r. ⌜ HeadTaken (now (text .entry)) r ⌝ }
 {
-    let a = columns::take_field(Kind::Word(Fixed::Chain), text, 0);
-    let b = columns::take_number(Range::ChainScore, text, a.end);
-    let c = columns::take_field(Kind::Name, text, b.end);
-    let d = columns::take_number(Range::Size, text, c.end);
-    let e = columns::take_field(Kind::Word(Fixed::Plus), text, d.end);
-    let f = columns::take_number(Range::Coordinate, text, e.end);
-    let g = columns::take_number(Range::Coordinate, text, f.end);
-    let h = columns::take_field(Kind::Name, text, g.end);
-    let i = columns::take_number(Range::Size, text, h.end);
-    let j = columns::take_field(Kind::Stranded(false), text, i.end);
-    let k = columns::take_number(Range::Coordinate, text, j.end);
-    let l = columns::take_number(Range::Coordinate, text, k.end);
-    let m = columns::take_number(Range::ChainId, text, l.end);
-    let r = rest_of(text, m.end);
+    let word = columns::take_field(Kind::Word(Fixed::Chain), text, 0);
+    let score = columns::take_number(Range::ChainScore, text, word.end);
+    let tName = columns::take_field(Kind::Name, text, score.end);
+    let tSize = columns::take_number(Range::Size, text, tName.end);
+    let tStrand = columns::take_field(Kind::Word(Fixed::Plus), text, tSize.end);
+    let tStart = columns::take_number(Range::Coordinate, text, tStrand.end);
+    let tEnd = columns::take_number(Range::Coordinate, text, tStart.end);
+    let qName = columns::take_field(Kind::Name, text, tEnd.end);
+    let qSize = columns::take_number(Range::Size, text, qName.end);
+    let qStrand = columns::take_field(Kind::Stranded(false), text, qSize.end);
+    let qStart = columns::take_number(Range::Coordinate, text, qStrand.end);
+    let qEnd = columns::take_number(Range::Coordinate, text, qStart.end);
+    let id = columns::take_number(Range::ChainId, text, qEnd.end);
+    let rest = rest_of(text, id.end);
+    let target = score.good
+        & (tName.good & (tSize.good & (tStrand.good & (tStart.good & tEnd.good))));
+    let query = qName.good & (qSize.good & (qStrand.good & (qStart.good & (qEnd.good & id.good))));
     Head {
-        good: (a.good & (b.good & (c.good & (d.good & (e.good & (f.good & g.good))))))
-            & (h.good & (i.good & (j.good & (k.good & (l.good & (m.good & r.bare)))))),
-        values: [
-            a.value,
-            a.start as u64,
-            b.value,
-            b.start as u64,
-            c.value,
-            c.start as u64,
-            d.value,
-            d.start as u64,
-            e.value,
-            e.start as u64,
-            f.value,
-            f.start as u64,
-            g.value,
-            g.start as u64,
-            h.value,
-            h.start as u64,
-            i.value,
-            i.start as u64,
-            j.value,
-            j.start as u64,
-            k.value,
-            k.start as u64,
-            l.value,
-            l.start as u64,
-            m.value,
-            m.start as u64,
-        ],
-        end: m.end,
+        good: (word.good & target) & (query & rest.bare),
+        word,
+        score,
+        tName,
+        tSize,
+        tStrand,
+        tStart,
+        tEnd,
+        qName,
+        qSize,
+        qStrand,
+        qStart,
+        qEnd,
+        id,
     }
+}
+
+// Its columns' values and places.
+fn head_values(x: Head) -> [u64; 2 * COLUMNS]
+    ensures { λ r. ⌜ r ≡ headValues x ⌝ }
+{
+    [
+        x.word.value,
+        x.word.start as u64,
+        x.score.value,
+        x.score.start as u64,
+        x.tName.value,
+        x.tName.start as u64,
+        x.tSize.value,
+        x.tSize.start as u64,
+        x.tStrand.value,
+        x.tStrand.start as u64,
+        x.tStart.value,
+        x.tStart.start as u64,
+        x.tEnd.value,
+        x.tEnd.start as u64,
+        x.qName.value,
+        x.qName.start as u64,
+        x.qSize.value,
+        x.qSize.start as u64,
+        x.qStrand.value,
+        x.qStrand.start as u64,
+        x.qStart.value,
+        x.qStart.start as u64,
+        x.qEnd.value,
+        x.qEnd.start as u64,
+        x.id.value,
+        x.id.start as u64,
+    ]
 }
 
 // The header's number of words, its columns from the left, and on.
@@ -551,8 +619,8 @@ fn after_text(text: &[u8], rows: &mut [u64]) -> ChainReading
 {
     let q = quick_head(text);
     if q.good {
-        let values = q.values;
-        return after_columns(text, q.end, &values, rows);
+        let values = head_values(q);
+        return after_columns(text, q.id.end, &values, rows);
     }
     let table = CHAIN;
     let mut values = [0u64; 2 * COLUMNS];
@@ -852,7 +920,7 @@ fn put_blocks(
     queries: &[u64],
     sizes: &[u64],
 ) -> usize
-    requires { ⌜ RowsThere count (now targets) (now queries) (now sizes) ⌝ }
+    requires { ⌜ RowsInUse count (now targets) (now queries) (now sizes) ⌝ }
     ensures { λ r. ⌜ Put (blockText (count - 1) 0 (now (targets .entry)) (now (queries .entry)) (now (sizes .entry))) at (now (buf .entry))
         (now (buf .exit)) r ⌝ }
 {
@@ -876,7 +944,7 @@ fn put_text(
     queries: &[u64],
     sizes: &[u64],
 ) -> usize
-    requires { ⌜ RowsThere count (now targets) (now queries) (now sizes) ⌝ }
+    requires { ⌜ RowsInUse count (now targets) (now queries) (now sizes) ⌝ }
     ensures { λ r. ⌜ Put (textOf (now (names .entry)) (now (values .entry)) count (now (targets .entry)) (now (queries .entry))
         (now (sizes .entry))) 0 (now (buf .entry)) (now (buf .exit)) r ⌝ }
 {
@@ -896,7 +964,7 @@ fn write_lines(
     queries: &[u64],
     sizes: &[u64],
 ) -> Writing
-    requires { ⌜ RowsThere count (now targets) (now queries) (now sizes) ⌝ }
+    requires { ⌜ RowsInUse count (now targets) (now queries) (now sizes) ⌝ }
     ensures { λ r. ⌜ Wrote (textOf (now (names .entry)) (now (values .entry)) count (now (targets .entry)) (now (queries .entry))
         (now (sizes .entry))) (now (buf .entry)) (now (buf .exit)) r ⌝ }
 {

@@ -18,7 +18,7 @@ use Rattle.text.proofs.PieceLaws.{word-bytes}
 use Rattle.kinds.specs.declared.Range.{Range}
 use Rattle.kinds.specs.declared.Range.the-variants.{Coordinate, Size, ChainScore, ChainId}
 use Rattle.kinds.specs.declared.Kind.the-variants.{Name, Number}
-use Rattle.kinds.specs.Kinds.{leastOf, mostOf, spelt, isStrand}
+use Rattle.kinds.specs.Kinds.{leastOf, mostOf, isStrand}
 use Rattle.kinds.proofs.RangeLaws.{number-spelt, name-spelt, strand-spelt}
 use Rattle.columns.proofs.Meant.{Meant, spells-meant}
 use Rattle.columns.specs.Names.{partOf}

@@ -24,10 +24,11 @@ use Rattle.bed.specs.Read.{bedRead, bedCheck}
 use Rattle.bed.specs.Rules.{BedLine, BedRules, named, placed}
 use Rattle.bed.specs.Tests.{strandFits, fieldsFit, spansFit, rowsFit, bedValid}
 use Rattle.bed.specs.Write.{namesShow, writeCheck, bedText, bedWrite, recordCheck}
-use Rattle.bed.proofs.LineLaws.{line-sizes, line-starts, line-of, line-is}
-use Rattle.bed.proofs.RuleLaws.{rules-of, rules-is}
-use Rattle.bed.proofs.StandardLaws.{valid-writes, chrom-shows, name-shows}
-use Rattle.bed.proofs.BackLaws.{back-chrom, back-name}
+use Rattle.bed_laws.proofs.ExactLaws.{line-sizes, line-starts, line-is}
+use Rattle.bed.proofs.LineLaws.{line-of}
+use Rattle.bed_laws.proofs.RuleLaws.{rules-of, rules-is}
+use Rattle.bed_laws.proofs.WritableLaws.{valid-writes, chrom-shows, name-shows}
+use Rattle.bed_laws.proofs.BackLaws.{back-chrom, back-name}
 use Rattle.demands.specs.Formats.{Names}
 use Rattle.demands.specs.Demand2.{Demand2}
 use Rattle.demands.specs.Bed.{bedNames, bedHanded, bedNameWords, BedSpells, BedValid, SameBed, bed}

@@ -17,7 +17,7 @@ use Rattle.bed.specs.Records.{bedTargets, bedQueries, bedSizes, bedRows}
 use Rattle.bed.specs.Read.{bedCheck, rowsAfter, BedRead}
 use Rattle.bed.specs.Write.{bedWrite}
 use Rattle.bed.specs.Standard.{Standard}
-use Rattle.bed.proofs.StandardLaws.{accepted-writable, chrom-handed, name-back}
+use Rattle.bed_laws.proofs.WritableLaws.{accepted-writable, chrom-handed, name-back}
 use Rattle.table_bed.proofs.RowLaws.{bed-reads}
 use Rattle.answers.specs.Answers.{Answered, recorded, noRoomAt}
 use Rattle.entries.specs.Records.{bedNumbers}

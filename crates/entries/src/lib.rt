@@ -656,12 +656,7 @@ fn keep_tally(lent: &mut [u8], t: Tally)
 
 // Many regions at once: a row of answers for each, and the tally after them. Room for the rows is asked for before the
 // text is read.
-pub fn lift_batch(
-    text: &[u8],
-    regions: &[u8],
-    tally: &mut [u8],
-    out: &mut [u8],
-) -> u64
+pub fn lift_batch(text: &[u8], regions: &[u8], tally: &mut [u8], out: &mut [u8]) -> u64
     ensures { λ r. ⌜ BatchTold (now (text .entry)) (now (regions .entry)) (now (tally .entry)) (now (tally .exit))
         (now (out .entry)) (now (out .exit)) r ⌝ }
 {

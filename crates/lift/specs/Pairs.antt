@@ -1,12 +1,12 @@
 -- The pairs of a chain (01, "Pairs, lifting, turning"), and looking up in them. The bases of each block pair off in order.
-use Prim.Native.Nat.{ℕ, zero, suc, _+_, _-_}
+use Prim.Native.Nat.{ℕ, zero, suc, _+_}
 use mathlib.Core.Path.{_≡_}
 use mathlib.Core.Bool.{Bool, true, false, _&&_}
 use mathlib.Core.List.{List, [], _∷_, _++_}
 use lib.Dec.{leb, ltb, eqb}
 use Rattle.ledger.specs.declared.Strand.{Strand}
-use Rattle.ledger.specs.declared.Strand.the-variants.{Plus, Minus, Dot}
 use Rattle.ledger.specs.declared.Row.{Row}
+use Rattle.blocks.specs.Strands.{strandStart}
 use Rattle.chain.specs.declared.Chain.{Chain}
 use Rattle.lift.specs.declared.Partner.{Partner}
 use Rattle.lift.specs.declared.Partner.the-variants.{Base, Alone}
@@ -22,9 +22,7 @@ pair p q = record { target = p; query = q }
 
 -- the forward number of a query base s that a row counts: with `-`, s on the reversed query becomes size − 1 − s
 abbrev pub forwardOn : Strand → ℕ → ℕ → ℕ
-forwardOn Plus size s = s
-forwardOn Minus size s = size - 1 - s
-forwardOn Dot size s = s
+forwardOn k size s = strandStart k size s (s + 1)
 
 abbrev pub forward : Chain → ℕ → ℕ
 forward c s = forwardOn (c .qStrand) (c .qSize) s

@@ -82,11 +82,7 @@ fn forward_base(k: Strand, size: u64, s: u64) -> u64
     requires { ⌜ s < size ⌝ }
     ensures { λ r. ⌜ r ≡ forwardOn k size s ⌝ }
 {
-    match k {
-        Strand::Plus => s,
-        Strand::Minus => size - 1 - s,
-        Strand::Dot => s,
-    }
+    blocks::strand_start(k, size, s, s + 1)
 }
 
 // Whether a base lies in a block.

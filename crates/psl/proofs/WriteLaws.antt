@@ -2,10 +2,11 @@
 use mathlib.Core.Path.{_≡_, refl, sym, _∙_}
 use mathlib.Core.Bool.{_&&_}
 use mathlib.Core.List.{List}
-use Prim.Native.Nat.{ℕ, _-_, _*_}
+use Prim.Native.Nat.{ℕ, suc, _+_, _-_, _*_, _≤_, _<_}
+use native.Mathlib.Numerals.{add-one}
 use native.Mathlib.Omega.{arith}
-use lib.ListN.{length, take, drop, length-take}
-use lib.Seq.{sets, length-sets}
+use lib.ListN.{length, getD, set, take, drop, length-take, drop-of-length-le}
+use lib.Seq.{sets, length-sets, drop-cons}
 use lib.Dec.{leb}
 use borrow.Author.Tests.{leb-true}
 use borrow.Rule.Slice.PartMut.{putMid}
@@ -33,7 +34,7 @@ use Rattle.psl.specs.declared.Psl.{Psl}
 use Rattle.psl.specs.Table.{pslColumns}
 use Rattle.psl.proofs.ColumnLaws.{pslCodes, table-is}
 use Rattle.psl.specs.Write.{wordsShow, writeCheck, pslWords, pslText, pslWrite, PslWrote}
-use Rattle.psl.specs.Steps.{pslValues, RowsThere, ListsPut, Writable}
+use Rattle.psl.specs.Steps.{valuesPut, pslValues, RowsThere, ListsPut, Writable}
 use Rattle.columns.proofs.WordLaws.{letter-byte}
 
 -- three lists stored one after the other, room for a record's blocks each
@@ -57,10 +58,22 @@ lists-put n ts qs zs l l₁ y l₂ z h e₁ ey e₂ ez =
       targets = rw f₃ (rw c at w);
     }
 
+-- a value stored leaves the rest to store
+module _ (values out out₀ : List ℕ) (k : ℕ) (inv : valuesPut out (2 * k) (drop k values) ≡ valuesPut out₀ 0 values) where
+  pub value-more : (out′ : List ℕ) → k < length values → out′ ≡ set out (2 * k) (getD values k 0) → valuesPut out′ (2 * (k + 1)) (drop (k + 1) values) ≡ valuesPut out₀ 0 values
+  unfolding valuesPut
+  value-more out′ h e =
+      let p : 2 * suc k ≡ 2 * k + 2 = omega arith in
+      rw (e, add-one k, p) (rw (drop-cons values k 0 h) at inv)
+
+  pub values-done : length values ≤ k → out ≡ valuesPut out₀ 0 values
+  unfolding valuesPut
+  values-done h = rw (drop-of-length-le values h) at inv
+
 -- the line that the line writer makes of the values is the standard text
 module _ (r : Psl) (query target ts qs zs t l : List ℕ) (names : NamesPut query target t) (lists : ListsPut (r .blockCount) ts qs zs l) where
   words-are : wordsFrom 0 0 pslColumns t (pslValues r (length query) (length target)) l ≡ pslWords r query target ts qs zs
-  unfolding wordsFrom pslColumns pslValues pslWords
+  unfolding wordsFrom pslColumns valuesPut pslValues pslWords
   words-are = rw (names .firstAt, names .secondAt, letter-byte (r .strand), lists .sizes, lists .queries, lists .targets)
 
   text-is : fedLine (tableOf pslCodes) 9 t (pslValues r (length query) (length target)) l ≡ pslText r query target ts qs zs

@@ -1,9 +1,9 @@
 -- For private contracts: what the steps of reading and writing promise each other. Not a definition of the format.
-use Prim.Native.Nat.{ℕ, _*_, _≤_}
+use Prim.Native.Nat.{ℕ, _+_, _*_, _≤_}
 use mathlib.Core.Path.{_≡_}
 use mathlib.Core.Bool.{Bool, _&&_}
 use mathlib.Core.List.{List, [], _∷_}
-use lib.ListN.{length, take, drop}
+use lib.ListN.{length, replicate, set, take, drop}
 use Rattle.ledger.specs.Limits.{nameLimit, blockLimit, largestPosition}
 use Rattle.ledger.specs.Strands.{strandLetter, isTold}
 use Rattle.columns.specs.Names.{lengthFits}
@@ -12,6 +12,7 @@ use Rattle.blocks.specs.Readers.{RowsRead}
 use Rattle.psl.specs.declared.Counts.{Counts}
 use Rattle.psl.specs.declared.Psl.{Psl}
 use Rattle.psl.specs.declared.PslReading.{PslReading}
+use Rattle.psl.specs.Columns as column
 use Rattle.psl.specs.Records.{pslSizes, pslQueries, pslTargets}
 use Rattle.psl.specs.Read.{onReading, Listed}
 use Rattle.psl.specs.Tests.{fieldsFit}
@@ -38,12 +39,21 @@ RowsStored answer s ts ts′ qs qs′ zs zs′ x = RowsRead onReading answer (λ
 unfoldable pub headFits : Psl → ℕ → Bool
 headFits r rows = countFits (r .blockCount) rows && ((lengthFits (r .query .name .length) && (lengthFits (r .target .name .length) && isTold (r .strand))) && fieldsFit r)
 
--- a record's words as values by column, for the line writer: two numbers a column, a name's length and where it stands in a text of names
+-- a record's words as values, one a column: a name's is its length, and a list's too
+abbrev pub columnValues : Psl → ℕ → ℕ → List ℕ
+columnValues r query target =
+    r .counts .matches ∷ r .counts .misMatches ∷ r .counts .repMatches ∷ r .counts .nCount ∷ r .counts .qNumInsert ∷ r .counts .qBaseInsert ∷ r .counts .tNumInsert ∷ r .counts .tBaseInsert
+    ∷ strandLetter (r .strand) ∷ query ∷ r .query .size ∷ r .query .start ∷ r .query .end ∷ target ∷ r .target .size ∷ r .target .start ∷ r .target .end
+    ∷ r .blockCount ∷ r .blockCount ∷ r .blockCount ∷ r .blockCount ∷ []
+
+-- values stored in a table of two numbers a column, from a place on
+unfoldable pub valuesPut : List ℕ → ℕ → List ℕ → List ℕ
+valuesPut d at [] = d
+valuesPut d at (v ∷ vs) = valuesPut (set d at v) (at + 2) vs
+
+-- the table that the line writer takes: a column's value, and where a name stands in a text of names
 unfoldable pub pslValues : Psl → ℕ → ℕ → List ℕ
-pslValues r query target =
-    r .counts .matches ∷ 0 ∷ r .counts .misMatches ∷ 0 ∷ r .counts .repMatches ∷ 0 ∷ r .counts .nCount ∷ 0 ∷ r .counts .qNumInsert ∷ 0 ∷ r .counts .qBaseInsert ∷ 0
-    ∷ r .counts .tNumInsert ∷ 0 ∷ r .counts .tBaseInsert ∷ 0 ∷ strandLetter (r .strand) ∷ 0 ∷ query ∷ 0 ∷ r .query .size ∷ 0 ∷ r .query .start ∷ 0 ∷ r .query .end ∷ 0
-    ∷ target ∷ nameLimit ∷ r .target .size ∷ 0 ∷ r .target .start ∷ 0 ∷ r .target .end ∷ 0 ∷ r .blockCount ∷ 0 ∷ r .blockCount ∷ 0 ∷ r .blockCount ∷ 0 ∷ r .blockCount ∷ 0 ∷ []
+pslValues r query target = set (valuesPut (replicate (2 * column.count) 0) 0 (columnValues r query target)) (2 * column.tName + 1) nameLimit
 
 -- the stages of writing a record that passed the checks: the three lists of its blocks
 pub record RowsThere (n : ℕ) (ts qs zs lists : List ℕ) : Type 0 where

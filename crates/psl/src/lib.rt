@@ -14,7 +14,7 @@ ghost use Rattle.psl.specs.Rows.{rowsFit, countsFit};
 ghost use Rattle.psl.specs.Tests.{sideFits, countNumbersFit, fieldsFit, spansFit, pslValid};
 ghost use Rattle.psl.specs.Write.{wordsShow, numbersCheck, writeCheck, pslText, PslWrote, recordCheck};
 ghost use Rattle.psl.specs.Read.{spanCheck, rowCheck, afterLine, pslStages, roomStages, pslAnswer, pslCheck, Listed, InRoom, PslRead};
-ghost use Rattle.psl.specs.Steps.{CountsRange, Ready, RowsStored, headFits, pslValues, RowsThere, ListsPut, Writable};
+ghost use Rattle.psl.specs.Steps.{CountsRange, Ready, RowsStored, headFits, valuesPut, pslValues, RowsThere, ListsPut, Writable};
 use columns::Columns;
 use ledger::Fault;
 use ledger::Part;
@@ -145,10 +145,7 @@ fn side_of(values: &[u64], k: usize) -> Side
     ensures { λ r. ⌜ r ≡ sideOf (now (values .entry)) k ⌝ }
 {
     Side {
-        name: Part::of_values(
-            columns::place_of(values, k),
-            columns::value_of(values, k),
-        ),
+        name: Part::of_values(columns::place_of(values, k), columns::value_of(values, k)),
         size: columns::value_of(values, k + 1),
         start: columns::value_of(values, k + 2),
         end: columns::value_of(values, k + 3),
@@ -336,12 +333,7 @@ fn store_rows(
 }
 
 // All checks of a text, the room last, and the rows of a good line.
-fn read_rows(
-    text: &[u8],
-    targets: &mut [u64],
-    queries: &mut [u64],
-    sizes: &mut [u64],
-) -> PslReading
+fn read_rows(text: &[u8], targets: &mut [u64], queries: &mut [u64], sizes: &mut [u64]) -> PslReading
     ensures { λ x. ⌜ RowsStored (roomStages (now (text .entry)) (rowsOf (now (targets .entry))
         (now (queries .entry)) (now (sizes .entry)))) (now (text .entry))
         (now (targets .entry)) (now (targets .exit)) (now (queries .entry)) (now (queries .exit)) (now (sizes .entry))
@@ -464,9 +456,7 @@ fn check_numbers(r: Psl, targets: &[u64], queries: &[u64], sizes: &[u64]) -> Che
     ensures { λ x. ⌜ x ≡ numbersCheck r (now (targets .entry)) (now (queries .entry)) (now (sizes .entry)) ⌝ }
 {
     if !fields_fit(r) {
-        return Check::Refused(Refusal::without_text(
-            Reason::NumberOutOfRange,
-        ));
+        return Check::Refused(Refusal::without_text(Reason::NumberOutOfRange));
     }
     let count = r.blockCount as usize;
     let counts = r.counts;
@@ -522,6 +512,18 @@ fn put_lists(count: usize, targets: &[u64], queries: &[u64], sizes: &[u64], list
     blocks::copy_numbers(targets, count, &mut lists[d..]);
 }
 
+// The columns' values, each at its column's place of two numbers.
+fn put_values(values: &[u64], out: &mut [u64])
+    requires { ⌜ length (now values) ≤ columnLimit ⌝ }
+    ensures { λ _. ⌜ now (out .exit) ≡ valuesPut (now (out .entry)) 0 (now (values .entry)) ⌝ }
+{
+    let mut k = 0;
+    while k < values.len() {
+        numbers::store(out, 2 * k, values[k]);
+        k += 1;
+    }
+}
+
 // A record's columns as the line writer takes them: the names stand one after the other in their own text.
 fn values_of(r: Psl, query: usize, target: usize) -> [u64; 2 * COLUMNS]
     ensures { λ x. ⌜ x ≡ pslValues r query target ⌝ }
@@ -530,52 +532,34 @@ fn values_of(r: Psl, query: usize, target: usize) -> [u64; 2 * COLUMNS]
     let q = r.query;
     let t = r.target;
     let strand = r.strand;
-    let letter = strand.letter() as u64;
     let n = r.blockCount;
-    [
+    let by_column = [
         c.matches,
-        0,
         c.misMatches,
-        0,
         c.repMatches,
-        0,
         c.nCount,
-        0,
         c.qNumInsert,
-        0,
         c.qBaseInsert,
-        0,
         c.tNumInsert,
-        0,
         c.tBaseInsert,
-        0,
-        letter,
-        0,
+        strand.letter() as u64,
         query as u64,
-        0,
         q.size,
-        0,
         q.start,
-        0,
         q.end,
-        0,
         target as u64,
-        ledger::NAME_LIMIT as u64,
         t.size,
-        0,
         t.start,
-        0,
         t.end,
-        0,
         n,
-        0,
         n,
-        0,
         n,
-        0,
         n,
-        0,
-    ]
+    ];
+    let mut values = [0u64; 2 * COLUMNS];
+    put_values(&by_column, &mut values);
+    values[2 * T_NAME + 1] = ledger::NAME_LIMIT as u64;
+    values
 }
 
 // Writes the standard text of a record that passed the checks.

@@ -4,7 +4,6 @@ use mathlib.Core.List.{List, [], _∷_}
 use Prim.Native.Nat.{ℕ, _≤_}
 use native.Mathlib.Omega.{arith}
 use lib.ListN.{length, take, getD}
-use borrow.Author.Tests.{le-leb}
 use Rattle.ledger.specs.Limits.{textLimit, largestPosition}
 use Rattle.text.specs.declared.Class.the-variants.{Allowed}
 use Rattle.text.specs.declared.Check.the-variants.{Holds}
@@ -22,7 +21,7 @@ use Rattle.psl.specs.Columns as column
 use Rattle.psl.specs.Table.{pslColumns}
 use Rattle.psl.specs.Records.{pslSizes, pslQueries, pslTargets}
 use Rattle.psl.specs.Read.{pslCheck, pslRead}
-use Rattle.psl.proofs.AnswerLaws.{checked-of}
+use Rattle.psl_laws.proofs.CheckedLaws.{read-roomy}
 use Rattle.psl.specs.Rules.{PslLine, placed}
 use Rattle.psl.specs.Write.{writeCheck, pslWords, pslText}
 use Rattle.psl_laws.proofs.LineLaws.{listed-sizes, listed-queries, listed-targets, line-is}
@@ -143,5 +142,5 @@ module _ (r : Psl) (qName tName ts qs zs : List ℕ) (ok : writeCheck r qName tN
 
   -- and with room for its blocks the text is read
   pub back-read : (room : ℕ) → r .blockCount ≤ room → pslRead text room ≡ Accepted (placed text r)
-  unfolding pslRead placed
-  back-read room h = rw (checked-of text (placed text r) back-check, le-leb (r .blockCount) room h)
+  unfolding placed
+  back-read room h = read-roomy text room (placed text r) back-check h

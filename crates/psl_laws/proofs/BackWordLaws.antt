@@ -28,6 +28,7 @@ use Rattle.psl.specs.Table.{pslColumns}
 use Rattle.psl.specs.Rows.{rowsFit, countsFit}
 use Rattle.psl.specs.Rules.{PslRules, named}
 use Rattle.psl.specs.Tests.{fieldsFit, spansFit, pslValid}
+use Rattle.psl.specs.Steps.{columnValues}
 use Rattle.psl.specs.Write.{wordsShow, writeCheck, pslWords}
 use Rattle.psl_laws.proofs.RuleLaws.{rules-of}
 use Rattle.columns.specs.Names.{lengthFits, allGraphic}
@@ -80,12 +81,9 @@ strand-written n Dot h = absurd (let z : _≡_ {A = ℕ} 0 1 = cc in omega arith
 coordinate-written : (n v : ℕ) → v ≤ largestPosition → Written (Number Coordinate) n v (digits v) []
 coordinate-written n v h = written (Number Coordinate) [] [] n 0 v 0 (zero-le, h)
 
--- the values of a record's twenty-one columns; a name means its length, and a list too
+-- the values of a record's columns, with its names
 abbrev pub wordValues : Psl → List ℕ → List ℕ → List ℕ
-wordValues r qName tName =
-    r .counts .matches ∷ r .counts .misMatches ∷ r .counts .repMatches ∷ r .counts .nCount ∷ r .counts .qNumInsert ∷ r .counts .qBaseInsert ∷ r .counts .tNumInsert ∷ r .counts .tBaseInsert
-    ∷ strandLetter (r .strand) ∷ length qName ∷ r .query .size ∷ r .query .start ∷ r .query .end ∷ length tName ∷ r .target .size ∷ r .target .start ∷ r .target .end
-    ∷ r .blockCount ∷ r .blockCount ∷ r .blockCount ∷ r .blockCount ∷ []
+wordValues r qName tName = columnValues r (length qName) (length tName)
 
 -- THE WORDS OF A RECORD SPELL IT
 module _ (r : Psl) (qName tName ts qs zs : List ℕ) (ok : MayWrite r qName tName ts qs zs) where

@@ -1,3 +1,4 @@
+pub mod CheckedLaws
 pub mod RuleLaws
 pub mod LineLaws
 pub mod ValidLaws

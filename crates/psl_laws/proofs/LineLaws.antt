@@ -47,8 +47,9 @@ use Rattle.psl.specs.Records.{countsOf, sideOf, pslRecord, pslSizes, pslQueries
 use Rattle.psl.specs.Rows.{rowsFit, countsFit}
 use Rattle.psl.specs.Read.{spanCheck, rowCheck, afterLine, pslStages, pslCheck}
 use Rattle.psl.specs.Rules.{SideSays, SpanIn, CountRules, PslLine}
-use Rattle.psl.proofs.AnswerLaws.{read-apart, checked-of, checked-is}
+use Rattle.psl.proofs.AnswerLaws.{read-apart}
 use Rattle.psl.proofs.ColumnLaws.{read-record}
+use Rattle.psl_laws.proofs.CheckedLaws.{checked-of, checked-is}
 use Rattle.psl_laws.proofs.RuleLaws.{span-of, span-is, counts-of, counts-is}
 use Rattle.columns.specs.Names.{partOf}
 use Rattle.columns.proofs.WordLaws.{word-length, strand-is, letter-is, and-i}

@@ -30,7 +30,7 @@ use Rattle.bed.specs.Records.{bedTargets, bedQueries, bedSizes}
 use Rattle.bed.specs.Read.{roomCheck, rowsAfter, bedCheck, bedRead, BedRead}
 use Rattle.bed.specs.Tests.{namesFit, strandFits, fieldsFit, spansFit, rowsFit, bedValid}
 use Rattle.bed.specs.Write.{namesShow, writeCheck, bedWords, bedText, bedWrite, BedWrote, recordCheck}
-use Rattle.bed.proofs.ValidLaws.{accepted-rows}
+use Rattle.bed.proofs.RowLaws.{accepted-rows}
 use Rattle.table_bed.specs.Rows.{tableAfter, RowsRead, rowsFilled, ColumnsRead}
 use Rattle.columns.specs.Lines.{thenWrite}
 

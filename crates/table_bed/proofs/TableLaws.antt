@@ -17,8 +17,8 @@ use Rattle.bed.specs.Records.{bedTargets, bedQueries, bedSizes, bedRows}
 use Rattle.bed.specs.Tests.{bedValid}
 use Rattle.bed.specs.Write.{writeCheck, bedText, recordCheck}
 use Rattle.bed.specs.Rules.{placed}
-use Rattle.bed.proofs.ValidLaws.{accepted-valid}
-use Rattle.bed.proofs.BackLaws.{back-read, back-targets, back-queries, back-sizes}
+use Rattle.bed_laws.proofs.ValidLaws.{accepted-valid}
+use Rattle.bed_laws.proofs.BackLaws.{back-read, back-targets, back-queries, back-sizes}
 use Rattle.table_bed.specs.Rows.{tableAfter, RowsRead}
 use Rattle.table_bed.proofs.RowLaws.{bed-reads, checkSeen}
 

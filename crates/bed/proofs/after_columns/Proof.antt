@@ -1,5 +1,5 @@
 -- Each check decides, and the next stage goes on. Assumes nothing.
-use Rattle.bed.proofs.ReadLaws.{listed-as, columns-refused, lines-refused, lines-on}
+use Rattle.bed.proofs.ReadLaws.{listed-as, columns-stop, lines-stop, lines-on}
 use borrow.Author.Needs.{needs}
 use Rattle.bed.proofs.after_columns.Statement.{statement}
 use Rattle.bed.proofs.after_columns.Tie as tie
@@ -16,7 +16,7 @@ after-columns-spec =
     (λ c. search needs)
     (λ c. search needs)
     (λ c κs. search listed-as)
-    (λ c. search (columns-refused, lines-refused, lines-on))
-    (λ c. search (columns-refused, lines-refused, lines-on))
+    (λ c. search (columns-stop, lines-stop, lines-on))
+    (λ c. search (columns-stop, lines-stop, lines-on))
     (λ c. search needs)
-    (λ c. search (columns-refused, lines-refused, lines-on)))
+    (λ c. search lines-on))

@@ -1,5 +1,5 @@
 -- The walk over all columns decides, or the stage for any line does. Assumes nothing.
-use Rattle.bed.proofs.ColumnLaws.{long-listed, long-line, long-on, long-refused}
+use Rattle.bed.proofs.ColumnLaws.{long-listed, long-line, long-on, long-stop}
 use borrow.Author.Needs.{needs}
 use Rattle.bed.proofs.after_long.Statement.{statement}
 use Rattle.bed.proofs.after_long.Tie as tie
@@ -20,9 +20,9 @@ after-long-spec =
     (λ c. search needs)
     (λ c κs. search needs)
     (λ c. search needs)
-    (λ c. search (long-on, long-refused))
+    (λ c. search (long-on, long-stop))
     (λ c κs. search needs)
     (λ c. search needs)
-    (λ c. search (long-on, long-refused))
+    (λ c. search long-on)
     (λ c. search needs)
     (λ c. search needs))

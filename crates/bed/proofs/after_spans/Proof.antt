@@ -1,5 +1,5 @@
 -- The working room holds the record's blocks, and the check decides. Assumes nothing.
-use Rattle.bed.proofs.ReadLaws.{block-held, spans-refused, spans-accepted}
+use Rattle.bed.proofs.ReadLaws.{block-held, spans-stop, spans-read}
 use borrow.Author.Needs.{needs}
 use Rattle.bed.proofs.after_spans.Statement.{statement}
 use Rattle.bed.proofs.after_spans.Tie as tie
@@ -13,6 +13,6 @@ after-spans-spec =
     (λ c. search needs)
     (λ c. search needs)
     (λ c. search needs)
-    (λ c. search (spans-refused, spans-accepted, block-held))
+    (λ c. search (spans-stop, block-held))
     (λ c. search needs)
-    (λ c. search (spans-refused, spans-accepted, block-held)))
+    (λ c. search (spans-read, block-held)))

@@ -1,5 +1,5 @@
 -- The number of words decides, and the next stage goes on. Assumes nothing.
-use Rattle.bed.proofs.ColumnLaws.{words-counted, text-refused, text-on}
+use Rattle.bed.proofs.ColumnLaws.{words-counted, text-stop, text-on}
 use borrow.Author.Needs.{needs}
 use Rattle.bed.proofs.after_text.Statement.{statement}
 use Rattle.bed.proofs.after_text.Tie as tie
@@ -14,6 +14,6 @@ after-text-spec =
     (λ c. search needs)
     (λ c. search needs)
     (λ c κs. search words-counted)
-    (λ c. search (text-refused, text-on))
+    (λ c. search (text-stop, text-on))
     (λ c. search needs)
-    (λ c. search (text-refused, text-on)))
+    (λ c. search text-on))

@@ -1,5 +1,5 @@
 -- The table's columns are BED's first n, and what they hold gives the record and its blocks. Assumes nothing.
-use Rattle.bed.proofs.ColumnLaws.{words-few, words-length, words-listed, words-line, words-refused, words-on}
+use Rattle.bed.proofs.ColumnLaws.{words-few, words-length, words-listed, words-line, words-stop, words-on}
 use borrow.Author.Needs.{needs}
 use Rattle.bed.proofs.after_words.Statement.{statement}
 use Rattle.bed.proofs.after_words.Tie as tie
@@ -20,6 +20,6 @@ after-words-spec =
     (λ c. search needs)
     after-columns-requires
     (λ c. search needs)
-    (λ c. search (words-refused, words-on))
+    (λ c. search (words-stop, words-on))
     (λ c. search needs)
-    (λ c. search (words-refused, words-on)))
+    (λ c. search words-on))

@@ -1,4 +1,5 @@
--- The quick answer where it is sure. Assumes nothing.
+-- The quick reading where it is sure, as its caller is told. Assumes nothing.
+use Rattle.bed.proofs.ReadLaws.{checked-told}
 use Rattle.bed.proofs.ColumnLaws.{quick-sure}
 use borrow.Author.Needs.{needs}
 use Rattle.bed.proofs.check_bed_text.Statement.{statement}
@@ -11,6 +12,8 @@ check-bed-text-spec =
     (λ c κs. search needs)
     (λ c. search needs)
     (λ c κs. search needs)
-    (λ c. search quick-sure)
     (λ c κs. search needs)
-    (λ c. search needs))
+    (λ c. search (checked-told, quick-sure))
+    (λ c κs. search needs)
+    (λ c κs. search needs)
+    (λ c. search checked-told))

@@ -11,7 +11,7 @@ returns c = rw (
   c .before .before .require .ensures,
   c .before .before .before .thick-place .ensures,
   c .before .before .before .before .thick-fits .ensures,
-  c .before .before .before .before .before .value-at .ensures,
+  c .before .before .before .before .before .place-of .ensures,
 )
 
 pub check-spans-spec : {M : Type 1} → statement M

@@ -7,17 +7,17 @@ use Rattle.bed.proofs.check_write.Tie as tie
 returns : tie.Need-returns
 unfolding writeCheck
 returns c = rw (
-  c .require5 .ensures,
+  c .demand5 .ensures,
   c .before .count-fits .ensures,
-  c .before .before .require4 .ensures,
+  c .before .before .demand4 .ensures,
   c .before .before .before .strand-fits .ensures,
   c .before .before .before .before .names-show .ensures,
-  c .before .before .before .before .before .require3 .ensures,
+  c .before .before .before .before .before .demand3 .ensures,
   c .before .before .before .before .before .before .row-numbers-fit .ensures,
   c .before .before .before .before .before .before .before .fields-fit .ensures,
-  c .before .before .before .before .before .before .before .before .require2 .ensures,
+  c .before .before .before .before .before .before .before .before .demand2 .ensures,
   c .before .before .before .before .before .before .before .before .before .spans-fit .ensures,
-  c .before .before .before .before .before .before .before .before .before .before .require .ensures,
+  c .before .before .before .before .before .before .before .before .before .before .demand .ensures,
   c .before .before .before .before .before .before .before .before .before .before .before .rows-fit .ensures,
   c .before .before .before .before .before .before .before .before .before .before .before .before .rows-of .ensures,
 )

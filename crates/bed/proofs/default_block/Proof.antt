@@ -7,4 +7,4 @@ use Rattle.bed.proofs.default_block.Tie as tie
 pub default-block-spec : {M : Type 1} → statement M
 default-block-spec =
     tie.close
-    (tie.spec (λ c. search (block-given, block-default)) (λ c κs. search needs) (λ c κs. search needs) (λ c κs. search needs) (λ c. search needs) (λ c. search (block-given, block-default)))
+    (tie.spec (λ c. search (block-given, block-default)) (λ c κs. search needs) (λ c κs. search needs) (λ c κs. search needs) (λ c. search needs) (λ c. search block-default))

@@ -1,5 +1,5 @@
 -- The answer as it is, or the rows. Assumes nothing.
-use Rattle.bed.proofs.StoreLaws.{read-refused, read-staged, read-stored}
+use Rattle.bed.proofs.StoreLaws.{hand-fault, hand-ready, hand-stored}
 use borrow.Author.Needs.{needs}
 use Rattle.bed.proofs.hand_over.Statement.{statement}
 use Rattle.bed.proofs.hand_over.Tie as tie
@@ -10,9 +10,9 @@ hand-over-spec =
     (tie.spec
     (λ c. search needs)
     (λ c. search needs)
-    (λ c κs. search read-staged)
-    (λ c. search (read-refused, read-stored))
+    (λ c κs. search hand-ready)
+    (λ c. search (hand-fault, hand-stored))
     (λ c. search needs)
     (λ c. search needs)
     (λ c. search needs)
-    (λ c. search (read-refused, read-stored)))
+    (λ c. search hand-stored))

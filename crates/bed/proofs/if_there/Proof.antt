@@ -4,4 +4,4 @@ use Rattle.bed.proofs.if_there.Statement.{statement}
 use Rattle.bed.proofs.if_there.Tie as tie
 
 pub if-there-spec : {M : Type 1} → statement M
-if-there-spec = tie.close (tie.spec (λ c. search (there-is, left-is)) (λ c. search (there-is, left-is)))
+if-there-spec = tie.close (tie.spec (λ c. search there-is) (λ c. search left-is))

@@ -5,4 +5,4 @@ use Rattle.bed.proofs.place_or.Statement.{statement}
 use Rattle.bed.proofs.place_or.Tie as tie
 
 pub place-or-spec : {M : Type 1} → statement M
-place-or-spec = tie.close (tie.spec (λ c. search needs) (λ c. search needs) (λ c κs. search needs) (λ c. search (place-there, place-left)) (λ c. search (place-there, place-left)))
+place-or-spec = tie.close (tie.spec (λ c κs. search needs) (λ c. search place-there) (λ c. search place-left))

@@ -7,10 +7,10 @@ use Rattle.bed.proofs.record_of.Tie as tie
 returns : tie.Need-returns
 returns c =
     record-is _ _ _ _ _ _ _ _ _ _ _ _ _ _ _ _ _ _
-    (c .before .before .before .before .before .before .before .before .before .before .before .before .before .before .value-at .ensures)
-    (c .before .before .before .before .before .before .before .before .before .before .before .before .before .value-at2 .ensures)
-    (c .before .before .before .before .before .before .before .before .before .before .before .before .value-at3 .ensures)
-    (c .before .before .before .before .before .before .before .before .before .before .before .value-at4 .ensures)
+    (c .before .before .before .before .before .before .before .before .before .before .before .before .before .before .value-of .ensures)
+    (c .before .before .before .before .before .before .before .before .before .before .before .before .before .value-of2 .ensures)
+    (c .before .before .before .before .before .before .before .before .before .before .before .before .place-of .ensures)
+    (c .before .before .before .before .before .before .before .before .before .before .before .value-of3 .ensures)
     (c .before .before .before .before .before .before .before .before .before .before .of-values .ensures)
     (c .before .before .before .before .before .before .before .before .before .place-or .ensures)
     (c .before .before .before .before .before .before .before .before .value-or .ensures)

@@ -5,4 +5,4 @@ use Rattle.bed.proofs.value_or.Statement.{statement}
 use Rattle.bed.proofs.value_or.Tie as tie
 
 pub value-or-spec : {M : Type 1} → statement M
-value-or-spec = tie.close (tie.spec (λ c. search needs) (λ c κs. search needs) (λ c. search (value-there, value-left)) (λ c. search (value-there, value-left)))
+value-or-spec = tie.close (tie.spec (λ c κs. search needs) (λ c. search value-there) (λ c. search value-left))

@@ -1,5 +1,5 @@
 -- The columns one after the other. Assumes nothing.
-use Rattle.bed.specs.Write.{bedValues}
+use Rattle.bed.specs.Steps.{bedValues}
 use borrow.Author.Needs.{needs}
 use Rattle.bed.proofs.values_of.Statement.{statement}
 use Rattle.bed.proofs.values_of.Tie as tie

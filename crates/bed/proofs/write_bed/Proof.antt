@@ -14,4 +14,4 @@ write-bed-spec =
     (λ c κs. search write-ready)
     (λ c. search (write-refused, write-wrote))
     (λ c. search needs)
-    (λ c. search (write-refused, write-wrote)))
+    (λ c. search write-wrote))

@@ -9,6 +9,7 @@ after-text-spec =
     tie.close
     (tie.spec
     (λ c κs. search needs)
+    (λ c κs. search needs)
     (λ c. search needs)
     (λ c κs. search head-headed)
     (λ c. search needs)

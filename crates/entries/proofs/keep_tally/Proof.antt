@@ -4,14 +4,9 @@ use borrow.Author.Needs.{needs}
 use Rattle.entries.proofs.keep_tally.Statement.{statement}
 use Rattle.entries.proofs.keep_tally.Tie as tie
 
--- src/lib.rt:624:21
--- src/lib.rt:625:9
 returns : tie.Need-returns
 returns c = search tally-none
 
--- src/lib.rt:627:5
--- src/lib.rt:621:1
--- src/lib.rt:621:1
 returns-2 : tie.Need-returns-2
 returns-2 c = search tally-some
 

@@ -3,13 +3,9 @@ use borrow.Author.Needs.{needs}
 use Rattle.lift.proofs.drift_of.Statement.{statement}
 use Rattle.lift.proofs.drift_of.Tie as tie
 
--- src/lib.rt:125:6
--- src/lib.rt:125:19
--- src/lib.rt:125:5
 sub-result : tie.Need-sub-result
 sub-result c = search drift-fits
 
--- src/lib.rt:121:1
 returns : tie.Need-returns
 returns c = search drift-is
 

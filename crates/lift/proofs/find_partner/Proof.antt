@@ -14,22 +14,12 @@ Inv-loop targets queries sizes p n k size i₀ i = Seeking (forwardOn k size) ta
 abbrev μ-loop : tie.MeasureT-loop
 μ-loop targets queries sizes p n k size i₀ i = n - i
 
--- src/lib.rt:108:5
 loop-holds : tie.Need-loop-holds Inv-loop μ-loop
 loop-holds c = record { to = search needs; same = refl }
 
--- src/lib.rt:109:17
--- src/lib.rt:109:17
--- src/lib.rt:110:17
--- src/lib.rt:110:17
--- src/lib.rt:111:12
--- src/lib.rt:112:21
--- src/lib.rt:112:21
--- src/lib.rt:112:35
 sub-s : tie.Need-sub-s Inv-loop μ-loop
 sub-s c = search told-low
 
--- src/lib.rt:112:21
 add-s : tie.Need-add-s Inv-loop μ-loop
 add-s c =
     let o = c .before .before .before .before .before .before .before .before .before .before .args in let l = c .before .before .before .before .before .before .loop in let r = c .before .before .before .before .before .before .before .before .before .before .pre in
@@ -37,7 +27,6 @@ add-s c =
     let b : l .i < o .c .blockCount = search needs in
     omega (arith, r .qBlock (l .i) b)
 
--- src/lib.rt:113:34
 forward-base-requires : tie.Need-forward-base-requires Inv-loop μ-loop
 forward-base-requires c κs =
     let o = c .before .before .before .before .before .before .before .before .before .before .args in let l = c .before .before .before .before .before .before .loop in let r = c .before .before .before .before .before .before .before .before .before .before .pre in
@@ -45,18 +34,13 @@ forward-base-requires c κs =
     let b : l .i < o .c .blockCount = search needs in
     omega (arith, r .qBlock (l .i) b)
 
--- src/lib.rt:113:13
 returns : tie.Need-returns Inv-loop μ-loop
 unfolding pairs
 returns c = search seek-found
 
--- src/lib.rt:115:9
--- src/lib.rt:108:5
--- src/lib.rt:108:5
 loop-again : tie.Need-loop-again Inv-loop μ-loop
 loop-again c = search (seek-on, c .if1 .left, c .before .in-block .ensures, c .before .before .before .before .before .loop .inv)
 
--- src/lib.rt:100:1
 returns-2 : tie.Need-returns-2 Inv-loop μ-loop
 unfolding pairs
 returns-2 c = search seek-past

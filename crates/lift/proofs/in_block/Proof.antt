@@ -2,11 +2,9 @@ use Rattle.lift.proofs.FindLaws.{outside-low, inside-is}
 use Rattle.lift.proofs.in_block.Statement.{statement}
 use Rattle.lift.proofs.in_block.Tie as tie
 
--- src/lib.rt:94:9
 returns : tie.Need-returns
 returns c = record { is = search outside-low }
 
--- src/lib.rt:90:1
 returns-2 : tie.Need-returns-2
 returns-2 c = record { is = search inside-is }
 

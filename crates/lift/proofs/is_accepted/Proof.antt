@@ -3,14 +3,9 @@ use borrow.Author.Needs.{needs}
 use Rattle.lift.proofs.is_accepted.Statement.{statement}
 use Rattle.lift.proofs.is_accepted.Tie as tie
 
--- src/lib.rt:71:11
--- src/lib.rt:72:25
--- src/lib.rt:73:30
--- src/lib.rt:68:1
 returns : tie.Need-returns
 returns c = search accepted-if
 
--- src/lib.rt:68:1
 returns-2 : tie.Need-returns-2
 returns-2 c = search not-accepted-if
 

@@ -3,13 +3,9 @@ use borrow.Author.Needs.{needs}
 use Rattle.region.proofs.answer_of.Statement.{statement}
 use Rattle.region.proofs.answer_of.Tie as tie
 
--- src/lib.rt:156:9
--- src/lib.rt:156:9
 returns : tie.Need-returns
 returns c = search answer-none
 
--- src/lib.rt:160:18
--- src/lib.rt:151:1
 returns-2 : tie.Need-returns-2
 returns-2 c = search answer-some
 

@@ -3,14 +3,9 @@ use borrow.Author.Needs.{needs}
 use Rattle.region.proofs.answer_row.Statement.{statement}
 use Rattle.region.proofs.answer_row.Tie as tie
 
--- src/lib.rt:385:30
--- src/lib.rt:386:31
--- src/lib.rt:388:14
--- src/lib.rt:381:1
 returns : tie.Need-returns
 returns c = row-lifted _ _ (c .before .answer .given .1)
 
--- src/lib.rt:381:1
 returns-2 : tie.Need-returns-2
 returns-2 c = search row-refused
 

@@ -4,7 +4,6 @@ use lib.ListN.{length-replicate, getD-replicate}
 use Rattle.region.proofs.last_positions.Statement.{statement}
 use Rattle.region.proofs.last_positions.Tie as tie
 
--- src/lib.rt:99:1
 returns : tie.Need-returns
 returns c = record {
   room = length-replicate {A = ℕ} 512 2147483647;

@@ -3,19 +3,15 @@ use borrow.Author.Tests.{ne-eqb}
 use Rattle.ledger.proofs.Strand.of_letter.Statement.{statement}
 use Rattle.ledger.proofs.Strand.of_letter.Tie as tie
 
--- src/lib.rt:126:5
 returns : tie.Need-returns
 returns c = rw (c .match .keys1)
 
--- src/lib.rt:126:5
 returns-2 : tie.Need-returns-2
 returns-2 c = rw (c .match .keys2)
 
--- src/lib.rt:126:5
 returns-3 : tie.Need-returns-3
 returns-3 c = rw (c .match .keys3)
 
--- src/lib.rt:126:5
 returns-4 : tie.Need-returns-4
 returns-4 c = rw (ne-eqb _ _ (c .match .rest .0 .0 .1), ne-eqb _ _ (c .match .rest .0 .1), ne-eqb _ _ (c .match .rest .1))
 

@@ -11,9 +11,9 @@ use Rattle.ledger.specs.declared.Strand.{Strand}
 use Rattle.ledger.specs.declared.Strand.the-variants.{Plus, Minus, Dot}
 use Rattle.ledger.specs.Limits.{largestPosition}
 use Rattle.ledger.specs.Strands.{strandLetter}
-use Rattle.text.proofs.CheckLaws.{require-holds}
 use Rattle.text.specs.declared.Class.the-variants.{Graphic}
 use Rattle.text.specs.declared.Check.the-variants.{Holds}
+use Rattle.text.proofs.StageLaws.{require-holds}
 use Rattle.text.proofs.TextLaws.{All, both}
 use Rattle.text.proofs.PieceLaws.{Worded, worded-none, worded-more}
 use Rattle.numbers.specs.Ranges.{Between, between-none, between-more}
@@ -22,17 +22,18 @@ use Rattle.kinds.specs.declared.Kind.{Kind}
 use Rattle.kinds.specs.declared.Kind.the-variants.{Number, Count, Stranded, Colour}
 use Rattle.kinds.specs.Kinds.{countAfter}
 use Rattle.kinds.proofs.BackLaws.{Written, written}
+use Rattle.columns.specs.Names.{allGraphic}
 use Rattle.columns.proofs.Meant.{Meant, meant-none, meant-more}
+use Rattle.columns.proofs.WordLaws.{all-graphic, and-i, name-written, list-written}
 use Rattle.blocks.specs.Blocks.{blocksFill, areSums, allBetween, subtracted, countFits, rowsOf, rowNumbersFit}
 use Rattle.blocks.proofs.RuleLaws.{between-of, subtracted-length}
 use Rattle.bed.specs.declared.Bed.{Bed}
+use Rattle.bed.specs.Columns as column
 use Rattle.bed.specs.Table.{bedColumns}
 use Rattle.bed.specs.Rules.{BedRules, named}
 use Rattle.bed.specs.Tests.{ifThere, namesFit, strandFits, fieldsFit, spansFit, rowsFit, bedValid}
 use Rattle.bed.specs.Write.{namesShow, writeCheck, bedWords}
-use Rattle.bed.proofs.RuleLaws.{rules-of}
-use Rattle.columns.specs.Names.{allGraphic}
-use Rattle.columns.proofs.WordLaws.{all-graphic, and-i, name-written, list-written}
+use Rattle.bed_laws.proofs.RuleLaws.{rules-of}
 
 -- what the writer's checks show of a record, its names and its rows
 pub record MayWrite (r : Bed) (chrom name ts qs zs : List ℕ) : Type 0 where
@@ -60,7 +61,7 @@ may-write r chrom name ts qs zs e =
     let fields = both (fieldsFit r) (rowNumbersFit (take n ts) (take n qs) (take n zs)) (numbers .0) in
     let starts = both (allBetween 0 largestPosition (take n ts)) (allBetween 0 largestPosition (take n qs) && allBetween 1 largestPosition (take n zs)) (fields .1) in
     let others = both (allBetween 0 largestPosition (take n qs)) (allBetween 1 largestPosition (take n zs)) (starts .1) in
-    let filled = both (ifThere (r .words) 9 true (eqb n 1)) (blocksFill (r .chromStart) (r .chromEnd) (take n ts) (take n zs) && areSums 0 (take n qs) (take n zs)) (rows .0) in
+    let filled = both (ifThere (r .words) column.blockCount true (eqb n 1)) (blocksFill (r .chromStart) (r .chromEnd) (take n ts) (take n zs) && areSums 0 (take n qs) (take n zs)) (rows .0) in
     let summed = both (blocksFill (r .chromStart) (r .chromEnd) (take n ts) (take n zs)) (areSums 0 (take n qs) (take n zs)) (filled .1) in
     let valid : bedValid (named r chrom name) ts qs zs ≡ true = and-i _ _ (count .0) (and-i _ _ (lengths .0) (and-i _ _ (names .1) (and-i _ _ (fields .0) (and-i _ _ (fields .1) (and-i _ _ (spans .0) (rows .0)))))) in
     record {
@@ -74,9 +75,9 @@ may-write r chrom name ts qs zs e =
     }
 
 strand-written : (n : ℕ) (t : Strand) → Written (Stranded true) n (strandLetter t) (strandLetter t ∷ []) []
-strand-written n Plus = written (Stranded true) [] [] n 0 43 0 refl
-strand-written n Minus = written (Stranded true) [] [] n 0 45 0 refl
-strand-written n Dot = written (Stranded true) [] [] n 0 46 0 refl
+strand-written n Plus = written (Stranded true) [] [] n 0 (strandLetter Plus) 0 refl
+strand-written n Minus = written (Stranded true) [] [] n 0 (strandLetter Minus) 0 refl
+strand-written n Dot = written (Stranded true) [] [] n 0 (strandLetter Dot) 0 refl
 
 pub subtracted-between : (a most : ℕ) (xs : List ℕ) → Between 0 most xs → Between 0 most (subtracted a xs)
 unfolding subtracted
@@ -119,8 +120,8 @@ module _ (r : Bed) (chrom name ts qs zs : List ℕ) (ok : MayWrite r chrom name 
   row =
       let k = ok .rules in
       let n = r .blockCount in
-      let sizes = length-take-le n zs (k .sizeRows) in
-      let starts = subtracted-length (r .chromStart) (take n ts) ∙ length-take-le n ts (k .targetRows) in
+      let sizes = length-take-le n zs (k .rows .sizeRows) in
+      let starts = subtracted-length (r .chromStart) (take n ts) ∙ length-take-le n ts (k .rows .targetRows) in
       row-more (λ h. name-written 0 chrom (k .chromSome) (k .chromShort) (ok .chromShows))
       (row-more (λ h. written (Number Coordinate) [] [] 0 0 (r .chromStart) 0 (zero-le, k .startRange))
       (row-more (λ h. written (Number Coordinate) [] [] 0 0 (r .chromEnd) 0 (zero-le, k .endRange))
@@ -130,9 +131,9 @@ module _ (r : Bed) (chrom name ts qs zs : List ℕ) (ok : MayWrite r chrom name 
       (row-more (λ h. written (Number Coordinate) [] [] 0 0 (r .thickStart) 0 (zero-le, k .thickStartRange h))
       (row-more (λ h. written (Number Coordinate) [] [] 0 0 (r .thickEnd) 0 (zero-le, k .thickEndRange h))
       (row-more (λ h. written Colour [] [] 0 0 (r .itemRgb) 0 (k .colourRange h))
-      (row-more (λ h. written Count [] [] 0 0 n 0 (k .someBlock, k .fewBlocks))
-      (row-more (λ h. list-written Size n (take n zs) (k .someBlock) sizes sizes-between)
-      (row-more (λ h. list-written Coordinate n (subtracted (r .chromStart) (take n ts)) (k .someBlock) starts starts-between)
+      (row-more (λ h. written Count [] [] 0 0 n 0 (k .rows .someBlock, k .rows .fewBlocks))
+      (row-more (λ h. list-written Size n (take n zs) (k .rows .someBlock) sizes sizes-between)
+      (row-more (λ h. list-written Coordinate n (subtracted (r .chromStart) (take n ts)) (k .rows .someBlock) starts starts-between)
       row-none)))))))))))
 
   pub words-spell : Meant (take (r .words) bedColumns) 0 (take (r .words) (bedWords r chrom name ts zs)) (take (r .words) (wordValues r chrom name))

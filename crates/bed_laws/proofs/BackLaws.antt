@@ -7,7 +7,7 @@ use native.Mathlib.Omega.{arith}
 use lib.ListN.{length, take, getD}
 use lib.Seq.{getD-take, length-take-le}
 use lib.Dec.{eqb}
-use borrow.Author.Tests.{lt-ltb, le-ltb, le-leb, eqb-true, eq-eqb, ne-eqb}
+use borrow.Author.Tests.{lt-ltb, le-ltb, eqb-true, eq-eqb, ne-eqb}
 use Rattle.ledger.specs.Limits.{textLimit, largestPosition}
 use Rattle.text.proofs.CheckLaws.{fed-allowed, fed-line}
 use Rattle.text.specs.declared.Class.the-variants.{Allowed}
@@ -20,21 +20,24 @@ use Rattle.text.proofs.Laws.{either}
 use Rattle.text.proofs.TextLaws.{both}
 use Rattle.text.proofs.PieceLaws.{Worded, line-joined, words-joined, word-bytes}
 use Rattle.writing.proofs.ListLaws.{list-values}
+use Rattle.columns.proofs.Meant.{Meant, listsIn, meant-spells}
+use Rattle.columns.proofs.WordLaws.{part-bytes}
 use Rattle.blocks.specs.Blocks.{orderFrom, blocksFill, sumsFrom, shifted, subtracted}
 use Rattle.blocks.specs.Rules.{Fills}
 use Rattle.blocks.proofs.RuleLaws.{fills-of, fill-low, fill-shift, back-shifted, sums-only, subtracted-length}
 use Rattle.bed.specs.declared.Bed.{Bed}
 use Rattle.bed.specs.declared.BedAnswer.the-variants.{Accepted}
+use Rattle.bed.specs.Columns as column
 use Rattle.bed.specs.Table.{bedColumns}
 use Rattle.bed.specs.Records.{bedSizes, bedStarts, bedTargets, bedQueries}
-use Rattle.bed.specs.Read.{roomCheck, bedCheck, bedRead}
+use Rattle.bed.specs.Read.{bedCheck, bedRead}
 use Rattle.bed.specs.Rules.{WordNumber, BedLine, placed}
 use Rattle.bed.specs.Write.{writeCheck, bedWords, bedText}
 use Rattle.bed.proofs.ColumnLaws.{most-words, least-words, by-number}
-use Rattle.bed.proofs.LineLaws.{listed-sizes, listed-starts, span-size, span-start, line-is}
-use Rattle.bed.proofs.BackWordLaws.{MayWrite, may-write, wordValues, sizes-between, starts-between, words-spell, words-worded}
-use Rattle.columns.proofs.Meant.{Meant, listsIn, meant-spells}
-use Rattle.columns.proofs.WordLaws.{part-bytes}
+use Rattle.bed.proofs.ReadLaws.{read-roomy}
+use Rattle.bed.proofs.LineLaws.{listed-sizes, listed-starts, span-size, span-start}
+use Rattle.bed_laws.proofs.ExactLaws.{line-is}
+use Rattle.bed_laws.proofs.BackWordLaws.{MayWrite, may-write, wordValues, sizes-between, starts-between, words-spell, words-worded}
 
 no-bytes : (xs : List ℕ) → length xs ≡ 0 → [] ≡ xs
 no-bytes [] e = refl
@@ -90,31 +93,31 @@ module _ (r : Bed) (chrom name ts qs zs : List ℕ) (ok : MayWrite r chrom name 
   text-word k h = word-bytes s 0 k ∙ ap (λ (x : List (List ℕ)). getD x k []) text-words ∙ getD-take (r .words) words k [] h
 
   -- the two lists
-  module _ (q : r .words ≡ 12) where
+  module _ (q : r .words ≡ column.all) where
     sizes-twelve : bedSizes s (placed s r) ≡ take n zs
     unfolding bedSizes placed bedWords
-    sizes-twelve = rw (eq-eqb (r .words) 12 q, text-word 10 (omega arith)) (list-values 1 largestPosition (take n zs) (omega arith) (sizes-between r chrom name ts qs zs ok))
+    sizes-twelve = rw (eq-eqb (r .words) column.all q, text-word column.blockSizes (omega arith)) (list-values 1 largestPosition (take n zs) (omega arith) (sizes-between r chrom name ts qs zs ok))
 
     starts-twelve : bedStarts s (placed s r) ≡ subtracted (r .chromStart) (take n ts)
     unfolding bedStarts placed bedWords
-    starts-twelve = rw (eq-eqb (r .words) 12 q, text-word 11 (omega arith)) (list-values 0 largestPosition (subtracted (r .chromStart) (take n ts)) (omega arith) (starts-between r chrom name ts qs zs ok))
+    starts-twelve = rw (eq-eqb (r .words) column.all q, text-word column.blockStarts (omega arith)) (list-values 0 largestPosition (subtracted (r .chromStart) (take n ts)) (omega arith) (starts-between r chrom name ts qs zs ok))
 
   targets-length : length (take n ts) ≡ n
-  targets-length = length-take-le n ts (ok .rules .targetRows)
+  targets-length = length-take-le n ts (ok .rules .rows .targetRows)
 
-  module _ (h : r .words ≤ 9) where
+  module _ (h : r .words ≤ column.blockCount) where
     one : (take n ts ≡ r .chromStart ∷ []) × (take n zs ≡ (r .chromEnd - r .chromStart) ∷ [])
     one = one-block (r .chromStart) (r .chromEnd) (take n ts) (take n zs) (targets-length ∙ ok .rules .noBlocks h) (ok .fill)
 
     sizes-one : bedSizes s (placed s r) ≡ take n zs
     unfolding bedSizes placed
-    sizes-one = rw (ne-eqb (r .words) 12 (λ q. omega arith)) (sym (one .1))
+    sizes-one = rw (ne-eqb (r .words) column.all (λ q. omega arith)) (sym (one .1))
 
     starts-one : bedStarts s (placed s r) ≡ subtracted (r .chromStart) (take n ts)
     unfolding bedStarts placed subtracted
     starts-one =
         let z : 0 ≡ r .chromStart - r .chromStart = omega arith in
-        rw (ne-eqb (r .words) 12 (λ q. omega arith), one .0) (ap (λ (x : ℕ). x ∷ []) z)
+        rw (ne-eqb (r .words) column.all (λ q. omega arith), one .0) (ap (λ (x : ℕ). x ∷ []) z)
 
   sizes-read : bedSizes s (placed s r) ≡ take n zs
   sizes-read = by-number (ok .rules .number) _ (λ a h. sizes-one h) sizes-twelve
@@ -144,19 +147,19 @@ module _ (r : Bed) (chrom name ts qs zs : List ℕ) (ok : MayWrite r chrom name 
   blocks-read : Fills 0 (r .chromEnd - r .chromStart) n (bedStarts s (placed s r)) (bedSizes s (placed s r))
   blocks-read =
       rw (starts-read, sizes-read)
-      (fills-of 0 (r .chromEnd - r .chromStart) n (subtracted (r .chromStart) (take n ts)) (take n zs) (subtracted-length (r .chromStart) (take n ts) ∙ targets-length) (length-take-le n zs (ok .rules .sizeRows)) starts-fill)
+      (fills-of 0 (r .chromEnd - r .chromStart) n (subtracted (r .chromStart) (take n ts)) (take n zs) (subtracted-length (r .chromStart) (take n ts) ∙ targets-length) (length-take-le n zs (ok .rules .rows .sizeRows)) starts-fill)
 
   -- the names
   chrom-read : partBytes s (placed s r .chrom) ≡ chrom
   unfolding placed bedWords
-  chrom-read = part-bytes s (wordAt s 0 0) ∙ text-word 0 (omega (arith, least-words (ok .rules .number)))
+  chrom-read = part-bytes s (wordAt s 0 column.chrom) ∙ text-word column.chrom (omega (arith, least-words (ok .rules .number)))
 
   name-read : partBytes s (placed s r .name) ≡ name
   unfolding placed bedWords partBytes
   name-read =
-      either (r .words) 3 _
-      (λ h. rw (le-ltb 3 (r .words) h) (no-bytes name (ok .rules .noName h)))
-      (λ h. rw (lt-ltb 3 (r .words) h) (part-bytes s (wordAt s 0 3) ∙ text-word 3 h))
+      either (r .words) column.name _
+      (λ h. rw (le-ltb column.name (r .words) h) (no-bytes name (ok .rules .noName h)))
+      (λ h. rw (lt-ltb column.name (r .words) h) (part-bytes s (wordAt s 0 column.name) ∙ text-word column.name h))
 
   -- the text is a BED line that says the record
   value-read : (k : ℕ) → k < r .words → getD (wordValues r chrom name) k 0 ≡ getD (take (r .words) (wordValues r chrom name)) k 0
@@ -179,18 +182,18 @@ module _ (r : Bed) (chrom name ts qs zs : List ℕ) (ok : MayWrite r chrom name 
         spelt = meant-spells words;
         words = w;
         chrom = refl;
-        chromStart = value-read 1 (omega arith);
-        chromEnd = value-read 2 (omega arith);
-        name = λ h. rw (lt-ltb 3 (r .words) h);
-        score = λ h. value-read 4 h;
-        strand = λ h. value-read 5 h;
-        thickStart = λ h. value-read 6 h;
-        thickEnd = λ h. value-read 7 h;
-        itemRgb = λ h. value-read 8 h;
-        blockCount = λ h. value-read 9 h;
+        chromStart = value-read column.chromStart (omega arith);
+        chromEnd = value-read column.chromEnd (omega arith);
+        name = λ h. rw (lt-ltb column.name (r .words) h);
+        score = λ h. value-read column.score h;
+        strand = λ h. value-read column.strand h;
+        thickStart = λ h. value-read column.thickStart h;
+        thickEnd = λ h. value-read column.thickEnd h;
+        itemRgb = λ h. value-read column.itemRgb h;
+        blockCount = λ h. value-read column.blockCount h;
         listedSizes = listed-sizes s (placed s r) number w;
         listedStarts = listed-starts s (placed s r) number w;
-        noName = λ h. rw (le-ltb 3 (r .words) h);
+        noName = λ h. rw (le-ltb column.name (r .words) h);
         noScore = k .noScore;
         noStrand = k .noStrand;
         noThickStart = k .noThickStart;
@@ -235,5 +238,5 @@ module _ (r : Bed) (chrom name ts qs zs : List ℕ) (ok : writeCheck r chrom nam
 
   -- and with room for its blocks the text is read
   pub back-read : (room : ℕ) → r .blockCount ≤ room → bedRead text room ≡ Accepted (placed text r)
-  unfolding bedRead roomCheck placed
-  back-read room h = rw (back-check, le-leb (r .blockCount) room h)
+  unfolding placed
+  back-read room h = read-roomy text (placed text r) room back-check h

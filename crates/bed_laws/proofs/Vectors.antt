@@ -6,6 +6,7 @@ use native.Mathlib.Omega.{arith}
 use lib.ListN.{length}
 use Rattle.ledger.specs.declared.Strand.the-variants.{Plus, Dot}
 use Rattle.ledger.specs.Limits.{textLimit}
+use Rattle.ledger.specs.Parts.{partAt}
 use Rattle.text.specs.declared.Check.the-variants.{Holds}
 use Rattle.text.specs.Scan.{run, endOf}
 use Rattle.text.specs.Parts.{partBytes}
@@ -15,20 +16,20 @@ use Rattle.numbers.specs.Lists.{lastByte}
 use Rattle.writing.specs.Digits.{digitsIn, digits, listText}
 use Rattle.kinds.specs.Words.{colourText}
 use Rattle.blocks.specs.Blocks.{orderFrom, blocksFill, areSums, allBetween, subtracted, rowNumbersFit}
 use Rattle.bed.specs.declared.Bed.{Bed}
 use Rattle.bed.specs.declared.BedAnswer.the-variants.{Accepted}
-use Rattle.ledger.specs.Parts.{partAt}
+use Rattle.bed.specs.Columns as column
 use Rattle.bed.specs.Records.{bedTargets}
 use Rattle.bed.specs.Read.{bedRead}
 use Rattle.bed.specs.Rules.{placed}
 use Rattle.bed.specs.Tests.{namesFit, strandFits, fieldsFit, spansFit, rowsFit}
 use Rattle.bed.specs.Write.{namesShow, writeCheck, bedWords, bedText}
-use Rattle.bed.proofs.BackLaws.{back-read, back-chrom, back-targets}
+use Rattle.bed_laws.proofs.BackLaws.{back-read, back-chrom, back-targets}
 
 -- the first line of the UCSC page's example
 abbrev clone : Bed
 clone = record {
-  words = 12;
+  words = column.all;
   chrom = partAt 0 5;
   chromStart = 1000;
   chromEnd = 5000;
@@ -102,7 +103,7 @@ pub clone-plain : Plain line
 unfolding joined wordsOf lineOf piecesOf nonEmpty run
 clone-plain = record { is = refl }
 
-pub clone-tidy : (length (bytesOf line (wordAt line 0 8)) ≡ 1) × (lastByte 0 (bytesOf line (wordAt line 0 10)) ≡ 44) × (lastByte 0 (bytesOf line (wordAt line 0 11)) ≡ 44)
+pub clone-tidy : (length (bytesOf line (wordAt line 0 column.itemRgb)) ≡ 1) × (lastByte 0 (bytesOf line (wordAt line 0 column.blockSizes)) ≡ 44) × (lastByte 0 (bytesOf line (wordAt line 0 column.blockStarts)) ≡ 44)
 unfolding wordAt nextWord bytesOf lastByte endOf run
 clone-tidy = (refl, refl, refl)
 

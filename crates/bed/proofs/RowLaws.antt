@@ -1,4 +1,4 @@
--- An accepted BED line is a valid record: its fields are in their ranges, and its rows obey the rules of blocks. Assumes nothing.
+-- The words of an accepted BED line are in their ranges, and its rows obey the rules of blocks. Assumes nothing.
 use mathlib.Core.Path.{_≡_, refl, sym, ap, _∙_}
 use mathlib.Core.Bool.{true}
 use mathlib.Core.List.{List, [], _∷_}
@@ -14,29 +14,28 @@ use Rattle.text.proofs.Laws.{either}
 use Rattle.numbers.specs.declared.Spelt.the-variants.{Means}
 use Rattle.numbers.specs.Lists.{valuesOf}
 use Rattle.kinds.specs.declared.Range.{Range}
-use Rattle.kinds.specs.declared.Range.the-variants.{Coordinate, BedScore}
+use Rattle.kinds.specs.declared.Range.the-variants.{Coordinate}
 use Rattle.kinds.specs.declared.Kind.the-variants.{Name, Number}
 use Rattle.kinds.specs.Kinds.{mostOf, spelt}
-use Rattle.kinds.proofs.RangeLaws.{number-spelt, count-spelt, name-spelt, colour-spelt}
+use Rattle.kinds.proofs.RangeLaws.{number-spelt, count-spelt, name-spelt}
 use Rattle.columns.specs.Spells.{firsts}
+use Rattle.columns.specs.Names.{partOf}
 use Rattle.columns.specs.Places.{kindAt, countBefore}
 use Rattle.columns.proofs.PlaceLaws.{value-first}
 use Rattle.columns.proofs.Meant.{listsIn}
+use Rattle.columns.proofs.WordLaws.{word-length}
 use Rattle.blocks.specs.Blocks.{blocksFill, sumsFrom, sumOf, areSums, allBetween}
-use Rattle.blocks.proofs.RuleLaws.{between-is, fill-low, fill-shift, shifted-length, sums-made, sums-length, total-fits, wider, fills-of, sums-of, ranged-of}
+use Rattle.blocks.proofs.RuleLaws.{between-is, fill-low, fill-shift, shifted-length, sums-made, sums-length, total-fits, wider}
 use Rattle.bed.specs.declared.Bed.{Bed}
 use Rattle.bed.specs.declared.BedAnswer.the-variants.{Accepted}
+use Rattle.bed.specs.Columns as column
 use Rattle.bed.specs.Table.{bedColumns}
 use Rattle.bed.specs.Records.{bedSizes, bedStarts, bedTargets, bedQueries}
 use Rattle.bed.specs.Read.{bedCheck}
-use Rattle.bed.specs.Rules.{BedLine, BedRules}
-use Rattle.bed.specs.Tests.{bedValid}
+use Rattle.bed.specs.Rules.{BedLine}
 use Rattle.bed.proofs.ColumnLaws.{least-words, by-number, block-sizes}
 use Rattle.bed.proofs.AcceptLaws.{lineValues, accepts-of, read-all, accepted-number, accepted-span, accepted-fills, accepted-count, accepted-starts}
 use Rattle.bed.proofs.LineLaws.{value-spelt, line-of}
-use Rattle.bed.proofs.RuleLaws.{rules-is}
-use Rattle.columns.specs.Names.{partOf}
-use Rattle.columns.proofs.WordLaws.{word-length}
 
 -- sums lie within a number that their total fits into
 sums-between : (most acc : ℕ) (zs : List ℕ) → acc + sumOf zs ≤ most → allBetween 0 most (sumsFrom acc zs) ≡ true
@@ -58,45 +57,45 @@ pub record RowsObey (r : Bed) (ts qs zs : List ℕ) : Type 0 where
   pub sizeRange : allBetween 1 largestPosition zs ≡ true
 
 module _ (s : List ℕ) (r : Bed) (ok : bedCheck s ≡ Accepted r) where
-  abbrev vs : List ℕ
+  abbrev pub vs : List ℕ
   vs = firsts (lineValues s)
 
   abbrev line : BedLine s vs (listsIn (take (wordCount s 0) bedColumns) (wordsOf (lineOf s))) r (bedStarts s r) (bedSizes s r)
   line = line-of s r ok
 
-  abbrev before : ℕ → ℕ
+  abbrev pub before : ℕ → ℕ
   before k = countBefore (take (wordCount s 0) bedColumns) 0 vs 0 k
 
-  value-says : (k : ℕ) → k < r .words → spelt (kindAt bedColumns k) (before k) (bytesOf s (wordAt s 0 k)) ≡ Means (getD vs k 0)
+  pub value-says : (k : ℕ) → k < r .words → spelt (kindAt bedColumns k) (before k) (bytesOf s (wordAt s 0 k)) ≡ Means (getD vs k 0)
   value-says k h =
       let a = accepts-of s r ok in
       let l : k < wordCount s 0 = omega (arith, line .words) in
       rw (value-first (lineValues s) k) (value-spelt s (a .end) (accepted-number s r ok) (a .read) k l)
 
-  number-at : (k : ℕ) (c : Range) → k < r .words → kindAt bedColumns k ≡ Number c → getD vs k 0 ≤ mostOf c
+  pub number-at : (k : ℕ) (c : Range) → k < r .words → kindAt bedColumns k ≡ Number c → getD vs k 0 ≤ mostOf c
   number-at k c h q = number-spelt c (before k) (bytesOf s (wordAt s 0 k)) (getD vs k 0) (rw q at (value-says k h)) .1
 
-  name-at : (k : ℕ) (p : Part) → k < r .words → kindAt bedColumns k ≡ Name → p ≡ partOf (wordAt s 0 k) → (1 ≤ p .length) × (p .length ≤ nameLimit)
+  pub name-at : (k : ℕ) (p : Part) → k < r .words → kindAt bedColumns k ≡ Name → p ≡ partOf (wordAt s 0 k) → (1 ≤ p .length) × (p .length ≤ nameLimit)
   name-at k p h q e =
       let c = name-spelt (before k) (bytesOf s (wordAt s 0 k)) (getD vs k 0) (rw q at (value-says k h)) in
       let l : p .length ≡ getD vs k 0 = ap (λ (x : Part). x .length) e ∙ sym (c .0 ∙ word-length s k) in
       (rw l (c .1), rw l (c .2))
 
-  some-words : 3 ≤ r .words
+  pub some-words : 3 ≤ r .words
   some-words = rw (line .words) (least-words (accepted-number s r ok))
 
   count-at : (1 ≤ r .blockCount) × (r .blockCount ≤ blockLimit)
   unfolding bedColumns
   count-at =
-      either (r .words) 9 _
+      either (r .words) column.blockCount _
       (λ h. let q = line .noBlocks h in (omega arith, omega arith))
       (λ h.
-      let c = count-spelt (before 9) (bytesOf s (wordAt s 0 9)) (getD vs 9 0) (value-says 9 h) in
+      let c = count-spelt (before column.blockCount) (bytesOf s (wordAt s 0 column.blockCount)) (getD vs column.blockCount 0) (value-says column.blockCount h) in
       rw (line .blockCount h) (c .0, c .1))
 
   pub accepted-end : r .chromEnd ≤ largestPosition
   unfolding bedColumns
-  accepted-end = rw (line .chromEnd) (number-at 2 Coordinate (omega (arith, some-words)) refl)
+  accepted-end = rw (line .chromEnd) (number-at column.chromEnd Coordinate (omega (arith, some-words)) refl)
 
   sizes-in : allBetween 1 largestPosition (bedSizes s r) ≡ true
   unfolding bedSizes allBetween
@@ -105,10 +104,10 @@ module _ (s : List ℕ) (r : Bed) (ok : bedCheck s ≡ Accepted r) where
       let w = line .words in
       let a = accepted-span s r ok in
       let b = accepted-end in
-      rw (ne-eqb (r .words) 12 (λ z. omega arith), le-leb 1 (r .chromEnd - r .chromStart) (omega arith), le-leb (r .chromEnd - r .chromStart) largestPosition (omega arith)))
+      rw (ne-eqb (r .words) column.all (λ z. omega arith), le-leb 1 (r .chromEnd - r .chromStart) (omega arith), le-leb (r .chromEnd - r .chromStart) largestPosition (omega arith)))
       (λ q.
       let a = accepts-of s r ok in
-      rw (eq-eqb (r .words) 12 (line .words ∙ q)) (between-is 1 largestPosition (valuesOf (bytesOf s (wordAt s 0 10))) (block-sizes s (a .end) (read-all s (a .end) (a .read) 0 q) q .1)))
+      rw (eq-eqb (r .words) column.all (line .words ∙ q)) (between-is 1 largestPosition (valuesOf (bytesOf s (wordAt s 0 column.blockSizes))) (block-sizes s (a .end) (read-all s (a .end) (a .read) 0 q) q .1)))
 
   pub accepted-rows : RowsObey r (bedTargets s r) (bedQueries s r) (bedSizes s r)
   unfolding bedTargets bedQueries
@@ -130,50 +129,3 @@ module _ (s : List ℕ) (r : Bed) (ok : bedCheck s ≡ Accepted r) where
         queryRange = sums-between largestPosition 0 (bedSizes s r) (omega (arith, accepted-end));
         sizeRange = sizes-in;
       }
-
-  -- THE RULES OF A RECORD, ONE BY ONE
-  pub accepted-rules : BedRules r (bedTargets s r) (bedQueries s r) (bedSizes s r)
-  unfolding bedColumns
-  accepted-rules =
-      let w = accepted-rows in
-      let n = r .blockCount in
-      let some = some-words in
-      let chrom = name-at 0 (r .chrom) (omega arith) refl (line .chrom) in
-      let start : r .chromStart ≤ largestPosition = rw (line .chromStart) (number-at 1 Coordinate (omega arith) refl) in
-      record {
-        someBlock = w .someBlock;
-        fewBlocks = w .fewBlocks;
-        targetRows = omega (arith, w .targets);
-        queryRows = omega (arith, w .queries);
-        sizeRows = omega (arith, w .sizes);
-        number = rw (line .words) (accepted-number s r ok);
-        chromSome = chrom .0;
-        chromShort = chrom .1;
-        nameSome = λ h. name-at 3 (r .name) h refl (line .name h) .0;
-        nameShort = λ h. name-at 3 (r .name) h refl (line .name h) .1;
-        startRange = start;
-        endRange = accepted-end;
-        scoreRange = λ h. rw (line .score h) (number-at 4 BedScore h refl);
-        thickStartRange = λ h. rw (line .thickStart h) (number-at 6 Coordinate h refl);
-        thickEndRange = λ h. rw (line .thickEnd h) (number-at 7 Coordinate h refl);
-        colourRange = λ h. rw (line .itemRgb h) (colour-spelt (before 8) (bytesOf s (wordAt s 0 8)) (getD vs 8 0) (value-says 8 h));
-        targetRange = ranged-of 0 largestPosition n (bedTargets s r) (w .targets) (w .targetRange);
-        queryRange = ranged-of 0 largestPosition n (bedQueries s r) (w .queries) (w .queryRange);
-        sizeRange = ranged-of 1 largestPosition n (bedSizes s r) (w .sizes) (w .sizeRange);
-        noName = λ h. ap (λ (p : Part). p .length) (line .noName h);
-        noScore = line .noScore;
-        noStrand = line .noStrand;
-        noThickStart = line .noThickStart;
-        noThickEnd = line .noThickEnd;
-        noItemRgb = line .noItemRgb;
-        noBlocks = line .noBlocks;
-        span = line .span;
-        thickLow = line .thickLow;
-        thickOrder = line .thickOrder;
-        thickHigh = line .thickHigh;
-        blocks = fills-of (r .chromStart) (r .chromEnd) n (bedTargets s r) (bedSizes s r) (w .targets) (w .sizes) (w .fill);
-        sums = sums-of n (bedQueries s r) (bedSizes s r) (w .queries) (w .sizes) (w .sums);
-      }
-
-  pub accepted-valid : bedValid r (bedTargets s r) (bedQueries s r) (bedSizes s r) ≡ true
-  accepted-valid = rules-is r (bedTargets s r) (bedQueries s r) (bedSizes s r) accepted-rules
