@@ -1,5 +1,5 @@
 -- The text checker's answer, its stages, and the reader's answer with room. Assumes nothing.
-use mathlib.Core.Path.{_≡_, refl, ap}
+use mathlib.Core.Path.{_≡_, refl, sym, ap, _∙_}
 use mathlib.Core.List.{List}
 use Prim.Native.Nat.{ℕ, _≤_, _<_}
 use native.Mathlib.Omega.{arith}
@@ -54,8 +54,11 @@ module _ (s : List ℕ) where
     unfolding pslRead
     read-short r e h = rw (checked-of r e, lt-leb (r .blockCount) room h)
 
-    pub read-refused : (y : Refusal) → pslCheck s ≡ Refused y → pslRead s room ≡ Refused y
+    read-fault : (x : Fault) → pslStages s ≡ Faulty x → pslRead s room ≡ Refused (refusalAt x)
     unfolding pslRead
+    read-fault x e = rw e
+
+    pub read-refused : (y : Refusal) → pslCheck s ≡ Refused y → pslRead s room ≡ Refused y
     read-refused y e =
         let f = refused-of y e in
-        rw (f .was, f .told)
+        read-fault (f .fault) (f .was) ∙ sym (ap Refused (f .told))

@@ -20,7 +20,7 @@ use Rattle.lift.specs.Positions.{notLifted, atPartner, liftPosition}
 use Rattle.region.specs.declared.RegionAnswer.{RegionAnswer}
 use Rattle.region.specs.declared.Tally.{Tally}
 use Rattle.region.specs.declared.Tallied.{Tallied}
-use Rattle.region.specs.Regions.{kept, dropped, require as (notLifted ifRegion), inside, carried, liftRegion}
+use Rattle.region.specs.Regions.{kept, dropped, notLifted as notRegion, inside, carried, liftRegion}
 use Rattle.region.specs.Tallies.{goodTally, grown, notTallied, tallyStep}
 use Rattle.region.specs.declared.Batched.{Batched}
 use Rattle.region.specs.Batches.{BatchDone}
@@ -36,7 +36,7 @@ position-cut c rows p =
 region-cut : (c : Chain) (rows : List Row) (a e : ℕ) → liftRegion c (cutRows rows) a e ≡ liftRegion c rows a e
 unfolding liftRegion pairs
 region-cut c rows a e =
-    seen-cut (λ (t : Bool) (bs : List Row). ifRegion t BlockRules (ifRegion (inside c a e) OutsideTarget (carried (c .qSize) (pairsOf (forward c) bs) a e))) (λ x y. refl) c rows
+    seen-cut (λ (t : Bool) (bs : List Row). require t (notRegion BlockRules) (require (inside c a e) (notRegion OutsideTarget) (carried (c .qSize) (pairsOf (forward c) bs) a e))) (λ x y. refl) c rows
 
 -- a tally's step, as it looks at whether the chain is accepted and at its pairs
 abbrev stepSeen : Tally → Chain → ℕ → ℕ → Bool → List Pair → Tallied
