@@ -7,6 +7,10 @@ use Rattle.ledger.specs.declared.Row.{Row}
 use Rattle.writing.specs.declared.Writing.{Writing}
 use Rattle.writing.specs.declared.Writing.the-variants.{Written, Refused}
 
+-- the rows of a lent table, more than a record's blocks
+abbrev pub tableRows : ℕ
+tableRows = 600
+
 abbrev pub markedRow : Row
 markedRow = record { target = 7; query = 7; size = 7 }
 

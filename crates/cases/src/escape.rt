@@ -3,7 +3,6 @@ ghost use mathlib.Core.Path.{_≡_};
 ghost use Prim.Native.Nat.{_≤_, max};
 ghost use lib.ListN.{length};
 use crate::byte_at;
-use crate::least;
 use text::Class;
 
 // What the front of an escaped text stands for: a byte, how many times, and how many bytes spell that.
@@ -137,5 +136,5 @@ pub fn unescape(s: &[u8], buf: &mut [u8]) -> usize
         n = put_times(buf, n, u.byte, u.times);
         i += u.width;
     }
-    least(n, buf.len())
+    ledger::least(n, buf.len())
 }

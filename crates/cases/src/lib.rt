@@ -37,12 +37,6 @@ pub use words::strand_at;
 // A table has room for so many rows, which are more than a record's blocks.
 pub const TABLE: usize = 600;
 
-pub fn least(a: usize, b: usize) -> usize
-    ensures { λ r. ⌜ r ≡ min a b ⌝ }
-{
-    if a < b { a } else { b }
-}
-
 // The byte at a place, or 0 past the end.
 pub fn byte_at(s: &[u8], i: usize) -> u8
     ensures { λ r. ⌜ r ≡ getD (now (s .entry)) i 0 ⌝ }
@@ -71,5 +65,5 @@ pub fn letter_of(line: &[u8]) -> u8
 pub fn payload_start(line: &[u8]) -> usize
     ensures { λ r. ⌜ r ≡ min 2 (length (now (line .entry))) ⌝ }
 {
-    least(2, line.len())
+    ledger::least(2, line.len())
 }

@@ -4,7 +4,6 @@ ghost use mathlib.Core.List.{[], _∷_, _++_};
 ghost use lib.ListN.{length};
 ghost use Rattle.writing.specs.Puts.{Put};
 ghost use Rattle.cases.specs.Texts.{labelled, reasonText, refusalText, checkText, keptText, partText, strandText, rowText, rowsText, spacedText, shownByte, shownText, writtenText};
-use crate::least;
 use ledger::Part;
 use ledger::Refusal;
 use ledger::Strand;
@@ -149,7 +148,7 @@ pub fn put_text(out: &mut [u8], at: usize, buf: &[u8], written: Writing) -> usiz
     match written {
         Writing::Refused(x) => put_refusal(out, at, x),
         Writing::Written(n) => {
-            let m = least(n, buf.len());
+            let m = ledger::least(n, buf.len());
             put_shown(out, at, &buf[..m])
         }
     }

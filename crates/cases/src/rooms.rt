@@ -1,17 +1,20 @@
 // Lent tables and buffers, with a mark in every place before a call, so that it shows where a call stored something.
 ghost use mathlib.Core.Path.{_≡_};
 ghost use mathlib.Core.Bool.{_&&_};
-ghost use Prim.Native.Nat.{min};
+ghost use Prim.Native.Nat.{_*_, min};
+ghost use Rattle.ledger.specs.Limits.{textLimit, blockLimit};
 ghost use lib.ListN.{length, drop};
-ghost use Rattle.cases.specs.Marks.{markedRow, allMarked, wroteLength};
+ghost use Rattle.cases.specs.Marks.{tableRows, markedRow, allMarked, wroteLength};
 use crate::TABLE;
-use crate::least;
 use ledger::Row;
 use writing::Writing;
 
 const MARK: u64 = 7;
 
 const MARK_BYTE: u8 = 7;
+
+// A record's blocks.
+const ROWS: usize = ledger::BLOCK_LIMIT as usize;
 
 // A row of a table before a call.
 pub fn row_mark() -> Row
@@ -26,36 +29,36 @@ pub fn row_mark() -> Row
 
 // How many rows of a table the numbers of a column fill.
 pub fn table_rows(column: &[u64]) -> usize
-    ensures { λ r. ⌜ r ≡ min (length (now (column .entry))) 600 ⌝ }
+    ensures { λ r. ⌜ r ≡ min (length (now (column .entry))) tableRows ⌝ }
 {
-    least(column.len(), TABLE)
+    ledger::least(column.len(), TABLE)
 }
 
 // The contracts of rooms tell only their lengths.
-pub fn marked_rows() -> [u64; 512]
-    ensures { λ r. ⌜ 512 ≡ length r ⌝ }
+pub fn marked_rows() -> [u64; ROWS]
+    ensures { λ r. ⌜ blockLimit ≡ length r ⌝ }
 {
-    [MARK; 512]
+    [MARK; ROWS]
 }
 
-pub fn marked_bytes() -> [u8; 65536]
-    ensures { λ r. ⌜ 65536 ≡ length r ⌝ }
+pub fn marked_bytes() -> [u8; ledger::TEXT_LIMIT]
+    ensures { λ r. ⌜ textLimit ≡ length r ⌝ }
 {
-    [MARK_BYTE; 65536]
+    [MARK_BYTE; ledger::TEXT_LIMIT]
 }
 
 // Room for the rows of a table, which may be more than a record's blocks.
-pub fn row_numbers() -> [u64; 1024]
-    ensures { λ r. ⌜ 1024 ≡ length r ⌝ }
+pub fn row_numbers() -> [u64; 2 * ROWS]
+    ensures { λ r. ⌜ 2 * blockLimit ≡ length r ⌝ }
 {
-    [0; 1024]
+    [0; 2 * ROWS]
 }
 
 // Room for the input, the output or a payload.
-pub fn page() -> [u8; 131072]
-    ensures { λ r. ⌜ 131072 ≡ length r ⌝ }
+pub fn page() -> [u8; 2 * ledger::TEXT_LIMIT]
+    ensures { λ r. ⌜ 2 * textLimit ≡ length r ⌝ }
 {
-    [0; 131072]
+    [0; 2 * ledger::TEXT_LIMIT]
 }
 
 // Whether the numbers of a table from a place on are as they were.

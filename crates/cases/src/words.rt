@@ -5,7 +5,6 @@ ghost use lib.ListN.{length};
 ghost use Rattle.cases.specs.Lines.{numberAt, strandAt};
 use crate::byte_at;
 use crate::escape;
-use crate::least;
 use ledger::Lettered;
 use ledger::Strand;
 use numbers::Spelt;
@@ -67,5 +66,5 @@ pub fn row_numbers_at(line: &[u8], k: usize, j: usize, out: &mut [u64]) -> usize
         n += 1;
         w = text::next_word(line, w.end);
     }
-    least(n, out.len())
+    ledger::least(n, out.len())
 }

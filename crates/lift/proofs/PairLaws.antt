@@ -89,7 +89,3 @@ found-mem p q (x ∷ xs) e = go (eqb (x .target) p) refl (found-mem p q xs)
         let u : x .query ≡ q = cc in let v : x .target ≡ p = eqb-true _ _ k in
         List·Memᴰ·head (sym (ap₂ pair v u))
     go false k rec = List·Memᴰ·tail (rec (rw k at e))
-
--- a query base of a `-` chain
-pub base-reversed : (k : Strand) (size s : ℕ) → k ≡ Minus → size - 1 - s ≡ forwardOn k size s
-base-reversed k size s e = rw e

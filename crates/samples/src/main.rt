@@ -3,57 +3,90 @@
 // texts, words, lists, numbers and columns; each format has a program of its own.
 ghost use mathlib.Core.Path.{_≡_};
 ghost use lib.ListN.{length};
+ghost use Prim.Native.Nat.{_*_};
+ghost use Rattle.ledger.specs.Limits.{blockLimit};
 use columns::Columns;
+use ledger::Fault;
 use ledger::Position;
+use ledger::Reason;
 use ledger::Refusal;
 use number_line::NumbersAnswer;
 use numbers::Spelt;
-use text::Check;
+use text::Stage;
 use writing::Writing;
 
-// The columns of a BED line, a PSL line and a chain's header, by the codes of kinds::kind_of.
-const BED: [u8; 12] = [0, 1, 1, 0, 3, 10, 1, 1, 13, 6, 7, 8];
-
-const PSL: [u8; 21] = [
-    1,
-    1,
-    1,
-    1,
-    1,
-    1,
-    1,
-    1,
-    9,
-    0,
-    2,
-    1,
-    1,
-    0,
-    2,
-    1,
-    1,
-    6,
-    7,
-    8,
-    8,
+// The columns of a BED line, a PSL line and a chain's header, by the codes of their kinds.
+const BED: [u8; 12] = [
+    kinds::NAME,
+    kinds::COORDINATE,
+    kinds::COORDINATE,
+    kinds::NAME,
+    kinds::BED_SCORE,
+    kinds::STRAND_OR_DOT,
+    kinds::COORDINATE,
+    kinds::COORDINATE,
+    kinds::COLOUR,
+    kinds::COUNT,
+    kinds::SIZES,
+    kinds::STARTS,
 ];
 
-const CHAIN: [u8; 13] = [11, 4, 0, 2, 12, 1, 1, 0, 2, 9, 1, 1, 5];
+const PSL: [u8; 21] = [
+    kinds::COORDINATE,
+    kinds::COORDINATE,
+    kinds::COORDINATE,
+    kinds::COORDINATE,
+    kinds::COORDINATE,
+    kinds::COORDINATE,
+    kinds::COORDINATE,
+    kinds::COORDINATE,
+    kinds::STRAND,
+    kinds::NAME,
+    kinds::SIZE,
+    kinds::COORDINATE,
+    kinds::COORDINATE,
+    kinds::NAME,
+    kinds::SIZE,
+    kinds::COORDINATE,
+    kinds::COORDINATE,
+    kinds::COUNT,
+    kinds::SIZES,
+    kinds::STARTS,
+    kinds::STARTS,
+];
+
+const CHAIN: [u8; 13] = [
+    kinds::WORD_CHAIN,
+    kinds::CHAIN_SCORE,
+    kinds::NAME,
+    kinds::SIZE,
+    kinds::WORD_PLUS,
+    kinds::COORDINATE,
+    kinds::COORDINATE,
+    kinds::NAME,
+    kinds::SIZE,
+    kinds::STRAND,
+    kinds::COORDINATE,
+    kinds::COORDINATE,
+    kinds::CHAIN_ID,
+];
 
 // The code of a letter whose case is not that of one word.
 const NO_CODE: u8 = 255;
 
 // Room for the values of a line's columns, two numbers each, and for three lists of blocks. The contracts tell only the lengths.
-fn value_table() -> [u64; 64]
+const VALUES: usize = 64;
+
+fn value_table() -> [u64; VALUES]
     ensures { λ r. ⌜ 64 ≡ length r ⌝ }
 {
-    [0; 64]
+    [0; VALUES]
 }
 
-fn list_table() -> [u64; 1536]
-    ensures { λ r. ⌜ 1536 ≡ length r ⌝ }
+fn list_table() -> [u64; blocks::ROOM]
+    ensures { λ r. ⌜ 3 * blockLimit ≡ length r ⌝ }
 {
-    [0; 1536]
+    [0; blocks::ROOM]
 }
 
 // What was written to the front of a buffer.
@@ -61,17 +94,22 @@ fn put_written(out: &mut [u8], at: usize, buf: &[u8], written: Writing) -> usize
     match written {
         Writing::Refused(x) => cases::put_refusal(out, at, x),
         Writing::Written(n) => {
-            let m = cases::least(n, buf.len());
+            let m = ledger::least(n, buf.len());
             writing::put_bytes(out, at, &buf[0..m])
         }
     }
 }
 
+// A fault at its place in a word.
+fn put_fault(out: &mut [u8], at: usize, reason: Reason, place: usize) -> usize {
+    cases::put_refusal(out, at, Refusal::at(Fault { reason, place }))
+}
+
 // Case `t`: the checks of a text.
 fn text_case(s: &[u8], out: &mut [u8], at: usize) -> usize {
     match text::check_text(s) {
-        Check::Holds => writing::put_bytes(out, at, b"fine"),
-        Check::Refused(x) => cases::put_refusal(out, at, x),
+        Stage::Passes => writing::put_bytes(out, at, b"fine"),
+        Stage::Faulty(x) => cases::put_refusal(out, at, Refusal::at(x)),
     }
 }
 
@@ -131,17 +169,17 @@ fn lines_case(s: &[u8], out: &mut [u8], at: usize) -> usize {
 // The kind of word that a case reads, as a code of kinds::kind_of.
 fn code_of(letter: u8) -> u8 {
     match letter {
-        b'n' => 0,
-        b'c' => 1,
-        b'z' => 2,
-        b'e' => 3,
-        b's' => 4,
-        b'i' => 5,
-        b'b' => 6,
-        b'+' => 9,
-        b'.' => 10,
-        b'k' => 11,
-        b'r' => 13,
+        b'n' => kinds::NAME,
+        b'c' => kinds::COORDINATE,
+        b'z' => kinds::SIZE,
+        b'e' => kinds::BED_SCORE,
+        b's' => kinds::CHAIN_SCORE,
+        b'i' => kinds::CHAIN_ID,
+        b'b' => kinds::COUNT,
+        b'+' => kinds::STRAND,
+        b'.' => kinds::STRAND_OR_DOT,
+        b'k' => kinds::WORD_CHAIN,
+        b'r' => kinds::COLOUR,
         _ => NO_CODE,
     }
 }
@@ -178,7 +216,7 @@ fn word_case(letter: u8, word: &[u8], out: &mut [u8], at: usize) -> usize {
     let mut none = [0u64; 0];
     match kinds::spell(kinds::kind_of(code), 0, word, 0, &mut none) {
         Spelt::Means(v) => put_meaning(out, at, letter, v),
-        Spelt::Faulty(reason, place) => cases::put_refusal(out, at, Refusal { reason, place }),
+        Spelt::Faulty(reason, place) => put_fault(out, at, reason, place),
     }
 }
 
@@ -197,7 +235,7 @@ fn items_wanted(letter: u8, word: &[u8], low: u64) -> u64 {
 fn put_items(out: &mut [u8], at: usize, vs: &[u64], n: u64) -> usize {
     let a = cases::put_labelled(out, at, b"count ", n);
     let b = writing::put_byte(out, a, b':');
-    let m = cases::least(n as usize, vs.len());
+    let m = ledger::least(n as usize, vs.len());
     cases::put_spaced(out, b, &vs[0..m])
 }
 
@@ -208,7 +246,7 @@ fn list_case(letter: u8, word: &[u8], out: &mut [u8], at: usize) -> usize {
     let mut items = list_table();
     match numbers::read_list(word, low, Position::LARGEST, true, wanted, &mut items) {
         Spelt::Means(n) => put_items(out, at, &items, n),
-        Spelt::Faulty(reason, place) => cases::put_refusal(out, at, Refusal { reason, place }),
+        Spelt::Faulty(reason, place) => put_fault(out, at, reason, place),
     }
 }
 
@@ -228,7 +266,7 @@ fn put_one_item(out: &mut [u8], at: usize, v: u64) -> usize {
 
 // Case `d`: a number of the machine, written alone and as a list of one item.
 fn digits_case(word: &[u8], out: &mut [u8], at: usize) -> usize {
-    match numbers::read_number(word, 0, 18446744073709551615) {
+    match numbers::read_number(word, 0, ledger::LARGEST_NUMBER) {
         Spelt::Faulty(_, _) => writing::put_bytes(out, at, b"no number"),
         Spelt::Means(v) => {
             let a = put_digits(out, at, v);
@@ -241,7 +279,7 @@ fn digits_case(word: &[u8], out: &mut [u8], at: usize) -> usize {
 fn number_case(word: &[u8], out: &mut [u8], at: usize) -> usize {
     match numbers::read_number(word, 0, ledger::LARGEST_NUMBER) {
         Spelt::Means(v) => cases::put_labelled(out, at, b"value ", v),
-        Spelt::Faulty(reason, place) => cases::put_refusal(out, at, Refusal { reason, place }),
+        Spelt::Faulty(reason, place) => put_fault(out, at, reason, place),
     }
 }
 
@@ -256,7 +294,7 @@ fn listed_room() -> [u8; 8 * LISTED]
 
 // The first numbers of a buffer, 8 bytes each.
 fn put_listed(out: &mut [u8], at: usize, bytes: &[u8], n: usize) -> usize {
-    let m = cases::least(n, LISTED);
+    let m = ledger::least(n, LISTED);
     let a = cases::put_labelled(out, at, b"count ", n as u64);
     let mut p = writing::put_byte(out, a, b':');
     let mut i = 0;
@@ -278,7 +316,7 @@ fn numbers_case(s: &[u8], out: &mut [u8], at: usize) -> usize {
 
 // The first line of a buffer, without its line feed.
 fn put_first_line(out: &mut [u8], at: usize, buf: &[u8], n: usize) -> usize {
-    let m = cases::least(n, buf.len());
+    let m = ledger::least(n, buf.len());
     let e = text::line_end(&buf[0..m], 0);
     cases::put_shown(out, at, &buf[0..e])
 }
@@ -305,7 +343,7 @@ fn columns_case(line: &[u8], table: &[u8], sep: u8, out: &mut [u8], at: usize) -
     let mut values = value_table();
     let mut lists = list_table();
     match columns::read_columns(line, 0, table, &mut values, &mut lists) {
-        Columns::Refused(x) => cases::put_refusal(out, at, x),
+        Columns::Faulty(x) => cases::put_refusal(out, at, Refusal::at(x)),
         Columns::Next(_) => put_standard(out, at, table, sep, line, &values, &lists),
     }
 }
@@ -361,6 +399,6 @@ fn main() {
     let mut input = cases::page();
     let n = io::read_full(0, &mut input);
     let mut out = cases::page();
-    let m = cases::least(answer_lines(&input[..n], &mut out), out.len());
+    let m = ledger::least(answer_lines(&input[..n], &mut out), out.len());
     io::write_all(1, &out[0..m]);
 }

@@ -40,7 +40,7 @@ fn write_within(
     buf: &mut [u8],
     room: usize,
 ) -> Writing {
-    let m = cases::least(room, buf.len());
+    let m = ledger::least(room, buf.len());
     cases_chain::write_chain(r, target, query, targets, queries, sizes, &mut buf[0..m])
 }
 

@@ -15,13 +15,13 @@ const MARK: u64 = 7;
 fn region_count(line: &[u8]) -> usize
     ensures { λ r. ⌜ r ≤ 16 ⌝ }
 {
-    cases::least(cases::number_at(line, 1) as usize, MOST_REGIONS)
+    ledger::least(cases::number_at(line, 1) as usize, MOST_REGIONS)
 }
 
 fn answer_room(line: &[u8]) -> usize
     ensures { λ r. ⌜ r ≤ 20 ⌝ }
 {
-    cases::least(cases::number_at(line, 0) as usize, MOST_ANSWERS)
+    ledger::least(cases::number_at(line, 0) as usize, MOST_ANSWERS)
 }
 
 // How many words the question has.
@@ -96,7 +96,7 @@ fn put_answers(out: &mut [u8], at: usize, answers: &[[u64; 5]]) -> usize {
 
 // The row of each region, or the refusal; and whether the other rows are as they were.
 fn put_batch(out: &mut [u8], at: usize, check: Check, count: usize, answers: &[[u64; 5]]) -> usize {
-    let n = answered(check, cases::least(count, answers.len()));
+    let n = answered(check, ledger::least(count, answers.len()));
     let a = cases::put_check(out, at, check);
     let b = put_answers(out, a, &answers[..n]);
     cases::put_kept(out, b, answers_kept(&answers[n..]))

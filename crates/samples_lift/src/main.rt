@@ -41,9 +41,9 @@ fn ask(
             cases::put_refusal(out, a, x)
         }
         Given::Chain(c, rows) => {
-            let t = cases::least(rows, targets.len());
-            let q = cases::least(rows, queries.len());
-            let z = cases::least(rows, sizes.len());
+            let t = ledger::least(rows, targets.len());
+            let q = ledger::least(rows, queries.len());
+            let z = ledger::least(rows, sizes.len());
             answers::answer(
                 letter,
                 line,
@@ -124,6 +124,6 @@ fn main() {
     let n = io::read_full(0, &mut input);
     let mut out = cases::page();
     let mut tally = [0u64; 3];
-    let m = cases::least(answer_lines(&input[..n], &mut tally, &mut out), out.len());
+    let m = ledger::least(answer_lines(&input[..n], &mut tally, &mut out), out.len());
     io::write_all(1, &out[0..m]);
 }

@@ -6,15 +6,16 @@ use Prim.Native.Nat.{ℕ, _≤_, min}
 use native.Mathlib.Omega.{arith}
 use lib.ListN.{length, take}
 use lib.Seq.{take-take}
-use borrow.Author.Tests.{le-leb, lt-leb}
 use borrow.Rule.Slice.PartMut.{putMid}
+use Rattle.blocks.specs.Readers.{rowsAfter}
+use Rattle.bed.proofs.ReadLaws.{read-roomy, read-short, read-refused}
 use Rattle.ledger.specs.Limits.{blockLimit}
 use Rattle.ledger.specs.declared.Row.{Row}
 use Rattle.ledger.specs.declared.Refusal.{Refusal}
 use Rattle.ledger.specs.declared.Reason.the-variants.{NumberOutOfRange, BadWord, SpanDisagrees, BlockRules, NoRoom}
 use Rattle.text.specs.declared.Check.{Check}
 use Rattle.text.specs.declared.Check.the-variants.{Holds}
-use Rattle.ledger.specs.Refusals.{require}
+use Rattle.ledger.specs.Refusals.{require, faultAt, refusalAt}
 use Rattle.text.specs.Checks.{refused}
 use Rattle.writing.specs.declared.Writing.{Writing}
 use Rattle.blocks.specs.Blocks.{rowNumbersFit}
@@ -27,7 +28,7 @@ use Rattle.bed.specs.declared.Bed.{Bed}
 use Rattle.bed.specs.declared.BedAnswer.{BedAnswer}
 use Rattle.bed.specs.declared.BedAnswer.the-variants.{Accepted, Refused}
 use Rattle.bed.specs.Records.{bedTargets, bedQueries, bedSizes}
-use Rattle.bed.specs.Read.{roomCheck, rowsAfter, bedCheck, bedRead, BedRead}
+use Rattle.bed.specs.Read.{onAnswer, bedCheck, bedRead, BedRead}
 use Rattle.bed.specs.Tests.{namesFit, strandFits, fieldsFit, spansFit, rowsFit, bedValid}
 use Rattle.bed.specs.Write.{namesShow, writeCheck, bedWords, bedText, bedWrite, BedWrote, recordCheck}
 use Rattle.bed.proofs.RowLaws.{accepted-rows}
@@ -39,16 +40,15 @@ pub by-answer : (a : BedAnswer) (P : Type 0) → ((r : Bed) → a ≡ Accepted r
 by-answer (Accepted r) P f g = f r refl
 by-answer (Refused x) P f g = g x refl
 
-pub bed-reads : (s : List ℕ) → Reads Accepted Refused (λ (r : Bed). r .blockCount) rowsFilled (bedCheck s) (bedRead s) (record { reason = NoRoom; place = length s }) (bedTargets s) (bedQueries s) (bedSizes s)
-unfolding bedRead roomCheck
+pub bed-reads : (s : List ℕ) → Reads Accepted Refused (λ (r : Bed). r .blockCount) rowsFilled (bedCheck s) (bedRead s) (refusalAt (faultAt NoRoom (length s))) (bedTargets s) (bedQueries s) (bedSizes s)
 bed-reads s = record {
   cases = by-answer;
   apart = λ r x e. absurd (let z : _≡_ {A = ℕ} 0 1 = cc in omega arith);
   filledBy = λ r. refl;
   filledNone = λ x. refl;
-  roomy = λ r room k h. rw (k, le-leb (r .blockCount) room h);
-  short = λ r room k h. rw (k, lt-leb (r .blockCount) room h);
-  refused = λ x room k. rw k;
+  roomy = λ r room k h. read-roomy s r room k h;
+  short = λ r room k h. read-short s r room k h;
+  refused = λ x room k. read-refused s x room k;
   few = λ r ok. accepted-rows s r ok .fewBlocks;
   targets = λ r ok. accepted-rows s r ok .targets;
   queries = λ r ok. accepted-rows s r ok .queries;
@@ -61,9 +61,9 @@ pub columns-read : (s ts qs zs t q z : List ℕ) (rows n : ℕ) (x : BedAnswer) 
 columns-read s ts qs zs t q z rows n x room e h = record {
   is = columns-is (bed-reads s) ts qs zs t q z rows n x room e (h .is);
   held = λ r k. columns-held (bed-reads s) ts qs zs t q z rows n x room e (h .is) r k
-      (h .targets ∙ ap (λ (y : BedAnswer). rowsAfter y (bedTargets s) (take n ts)) k)
-      (h .queries ∙ ap (λ (y : BedAnswer). rowsAfter y (bedQueries s) (take n qs)) k)
-      (h .sizes ∙ ap (λ (y : BedAnswer). rowsAfter y (bedSizes s) (take n zs)) k);
+      (h .targets ∙ ap (λ (y : BedAnswer). rowsAfter onAnswer y (bedTargets s) (take n ts)) k)
+      (h .queries ∙ ap (λ (y : BedAnswer). rowsAfter onAnswer y (bedQueries s) (take n qs)) k)
+      (h .sizes ∙ ap (λ (y : BedAnswer). rowsAfter onAnswer y (bedSizes s) (take n zs)) k);
 }
 
 -- the table after the rows of an answer were stored

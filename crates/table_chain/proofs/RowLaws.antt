@@ -8,13 +8,15 @@ use lib.ListN.{length, take, getD}
 use lib.Seq.{getD-take}
 use borrow.Author.Tests.{le-leb, lt-leb}
 use borrow.Rule.Slice.PartMut.{putMid}
+use Rattle.blocks.specs.Readers.{rowsAfter}
+use Rattle.chain.proofs.AnswerLaws.{read-checked}
 use Rattle.ledger.specs.Limits.{blockLimit}
 use Rattle.ledger.specs.declared.Row.{Row}
 use Rattle.ledger.specs.declared.Refusal.{Refusal}
 use Rattle.ledger.specs.declared.Reason.the-variants.{NumberOutOfRange, BadWord, SpanDisagrees, BlockRules, NoRoom}
 use Rattle.text.specs.declared.Check.{Check}
 use Rattle.text.specs.declared.Check.the-variants.{Holds}
-use Rattle.ledger.specs.Refusals.{require}
+use Rattle.ledger.specs.Refusals.{require, faultAt, refusalAt}
 use Rattle.text.specs.Checks.{refused}
 use Rattle.writing.specs.Digits.{digits}
 use Rattle.writing.specs.declared.Writing.{Writing}
@@ -28,7 +30,7 @@ use Rattle.chain.specs.declared.Chain.{Chain}
 use Rattle.chain.specs.declared.ChainAnswer.{ChainAnswer}
 use Rattle.chain.specs.declared.ChainAnswer.the-variants.{Accepted, Refused}
 use Rattle.chain.specs.Records.{chainTargets, chainQueries, chainSizes}
-use Rattle.chain.specs.Read.{roomCheck, rowsAfter, chainCheck, chainRead, ChainRead}
+use Rattle.chain.specs.Read.{onAnswer, chainCheck, chainRead, ChainRead}
 use Rattle.ledger.specs.Strands.{isTold}
 use Rattle.chain.specs.Tests.{namesFit, fieldsFit, spansFit, rowsFit, chainValid}
 use Rattle.chain.specs.Write.{namesShow, writeCheck, headWords, fedWords, gapTo, gapWords, blockText, chainText, chainWrite, ChainWrote, recordCheck}
@@ -42,16 +44,15 @@ pub by-answer : (a : ChainAnswer) (P : Type 0) → ((r : Chain) → a ≡ Accept
 by-answer (Accepted r) P f g = f r refl
 by-answer (Refused x) P f g = g x refl
 
-pub chain-reads : (s : List ℕ) → Reads Accepted Refused (λ (r : Chain). r .blockCount) rowsFilled (chainCheck s) (chainRead s) (record { reason = NoRoom; place = length s }) (chainTargets s) (chainQueries s) (chainSizes s)
-unfolding chainRead roomCheck
+pub chain-reads : (s : List ℕ) → Reads Accepted Refused (λ (r : Chain). r .blockCount) rowsFilled (chainCheck s) (chainRead s) (refusalAt (faultAt NoRoom (length s))) (chainTargets s) (chainQueries s) (chainSizes s)
 chain-reads s = record {
   cases = by-answer;
   apart = λ r x e. absurd (let z : _≡_ {A = ℕ} 0 1 = cc in omega arith);
   filledBy = λ r. refl;
   filledNone = λ x. refl;
-  roomy = λ r room k h. rw (k, le-leb (r .blockCount) room h);
-  short = λ r room k h. rw (k, lt-leb (r .blockCount) room h);
-  refused = λ x room k. rw k;
+  roomy = λ r room k h. read-checked s room ∙ rw (k, le-leb (r .blockCount) room h);
+  short = λ r room k h. read-checked s room ∙ rw (k, lt-leb (r .blockCount) room h);
+  refused = λ x room k. read-checked s room ∙ rw k;
   few = λ r ok. text-of s r ok .few;
   targets = λ r ok. lines-target-count (text-of s r ok .blocks) ∙ text-of s r ok .count;
   queries = λ r ok. lines-query-count (text-of s r ok .blocks) ∙ text-of s r ok .count;
@@ -64,9 +65,9 @@ pub columns-read : (s ts qs zs t q z : List ℕ) (rows n : ℕ) (x : ChainAnswer
 columns-read s ts qs zs t q z rows n x room e h = record {
   is = columns-is (chain-reads s) ts qs zs t q z rows n x room e (h .is);
   held = λ r k. columns-held (chain-reads s) ts qs zs t q z rows n x room e (h .is) r k
-      (h .targets ∙ ap (λ (y : ChainAnswer). rowsAfter y (chainTargets s) (take n ts)) k)
-      (h .queries ∙ ap (λ (y : ChainAnswer). rowsAfter y (chainQueries s) (take n qs)) k)
-      (h .sizes ∙ ap (λ (y : ChainAnswer). rowsAfter y (chainSizes s) (take n zs)) k);
+      (h .targets ∙ ap (λ (y : ChainAnswer). rowsAfter onAnswer y (chainTargets s) (take n ts)) k)
+      (h .queries ∙ ap (λ (y : ChainAnswer). rowsAfter onAnswer y (chainQueries s) (take n qs)) k)
+      (h .sizes ∙ ap (λ (y : ChainAnswer). rowsAfter onAnswer y (chainSizes s) (take n zs)) k);
 }
 
 -- the table after the rows of an answer were stored

@@ -6,15 +6,16 @@ use Prim.Native.Nat.{ℕ, _≤_, min}
 use native.Mathlib.Omega.{arith}
 use lib.ListN.{length, take}
 use lib.Seq.{take-take}
-use borrow.Author.Tests.{le-leb, lt-leb}
 use borrow.Rule.Slice.PartMut.{putMid}
+use Rattle.blocks.specs.Readers.{rowsAfter}
+use Rattle.psl_laws.proofs.CheckedLaws.{read-roomy, read-short, read-refused}
 use Rattle.ledger.specs.Limits.{blockLimit}
 use Rattle.ledger.specs.declared.Row.{Row}
 use Rattle.ledger.specs.declared.Refusal.{Refusal}
 use Rattle.ledger.specs.declared.Reason.the-variants.{NumberOutOfRange, BadWord, SpanDisagrees, BlockRules, CountsDisagree, NoRoom}
 use Rattle.text.specs.declared.Check.{Check}
 use Rattle.text.specs.declared.Check.the-variants.{Holds}
-use Rattle.ledger.specs.Refusals.{require}
+use Rattle.ledger.specs.Refusals.{require, faultAt, refusalAt}
 use Rattle.text.specs.Checks.{refused}
 use Rattle.writing.specs.declared.Writing.{Writing}
 use Rattle.blocks.specs.Blocks.{rowNumbersFit}
@@ -27,7 +28,7 @@ use Rattle.psl.specs.declared.Psl.{Psl}
 use Rattle.psl.specs.declared.PslAnswer.{PslAnswer}
 use Rattle.psl.specs.declared.PslAnswer.the-variants.{Accepted, Refused}
 use Rattle.psl.specs.Records.{pslTargets, pslQueries, pslSizes}
-use Rattle.psl.specs.Read.{roomCheck, rowsAfter, pslCheck, pslRead, PslRead}
+use Rattle.psl.specs.Read.{onAnswer, pslCheck, pslRead, PslRead}
 use Rattle.ledger.specs.Strands.{isTold}
 use Rattle.psl.specs.Tests.{fieldsFit, spansFit, pslValid}
 use Rattle.psl.specs.Write.{wordsShow, writeCheck, pslWords, pslText, pslWrite, PslWrote, recordCheck}
@@ -43,17 +44,16 @@ pub by-answer : (a : PslAnswer) (P : Type 0) → ((r : Psl) → a ≡ Accepted r
 by-answer (Accepted r) P f g = f r refl
 by-answer (Refused x) P f g = g x refl
 
-pub psl-reads : (s : List ℕ) → Reads Accepted Refused (λ (r : Psl). r .blockCount) rowsFilled (pslCheck s) (pslRead s) (record { reason = NoRoom; place = length s }) (λ r. pslTargets s) (λ r. pslQueries s) (λ r. pslSizes s)
-unfolding pslRead roomCheck
+pub psl-reads : (s : List ℕ) → Reads Accepted Refused (λ (r : Psl). r .blockCount) rowsFilled (pslCheck s) (pslRead s) (refusalAt (faultAt NoRoom (length s))) (λ r. pslTargets s) (λ r. pslQueries s) (λ r. pslSizes s)
 psl-reads s = record {
   cases = by-answer;
   apart = λ r x e. absurd (let z : _≡_ {A = ℕ} 0 1 = cc in omega arith);
   filledBy = λ r. refl;
   filledNone = λ x. refl;
-  roomy = λ r room k h. rw (k, le-leb (r .blockCount) room h);
-  short = λ r room k h. rw (k, lt-leb (r .blockCount) room h);
-  refused = λ x room k. rw k;
-  few = λ r ok. accepted-rules s r ok .fewBlocks;
+  roomy = λ r room k h. read-roomy s room r k h;
+  short = λ r room k h. read-short s room r k h;
+  refused = λ x room k. read-refused s room x k;
+  few = λ r ok. accepted-rules s r ok .rows .fewBlocks;
   targets = λ r ok. accepted-targets s r ok;
   queries = λ r ok. accepted-queries s r ok;
   sizes = λ r ok. accepted-sizes s r ok;
@@ -65,9 +65,9 @@ pub columns-read : (s ts qs zs t q z : List ℕ) (rows n : ℕ) (x : PslAnswer) 
 columns-read s ts qs zs t q z rows n x room e h = record {
   is = columns-is (psl-reads s) ts qs zs t q z rows n x room e (h .is);
   held = λ r k. columns-held (psl-reads s) ts qs zs t q z rows n x room e (h .is) r k
-      (h .targets ∙ ap (λ (y : PslAnswer). rowsAfter y (pslTargets s) (take n ts)) k)
-      (h .queries ∙ ap (λ (y : PslAnswer). rowsAfter y (pslQueries s) (take n qs)) k)
-      (h .sizes ∙ ap (λ (y : PslAnswer). rowsAfter y (pslSizes s) (take n zs)) k);
+      (h .targets ∙ ap (λ (y : PslAnswer). rowsAfter onAnswer y (λ (r : Psl). pslTargets s) (take n ts)) k)
+      (h .queries ∙ ap (λ (y : PslAnswer). rowsAfter onAnswer y (λ (r : Psl). pslQueries s) (take n qs)) k)
+      (h .sizes ∙ ap (λ (y : PslAnswer). rowsAfter onAnswer y (λ (r : Psl). pslSizes s) (take n zs)) k);
 }
 
 -- the table after the rows of an answer were stored
