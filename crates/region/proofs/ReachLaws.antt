@@ -6,7 +6,6 @@ use Prim.Native.Nat.{ℕ, zero, suc, _+_, _-_, _≤_, _<_, max}
 use native.Mathlib.Omega.{arith}
 use lib.Dec.{leb, ltb}
 use borrow.Author.Tests.{lt-leb, le-leb, lt-ltb, le-ltb}
-use Rattle.blocks.specs.Strands.{strandStart, strandEnd}
 use Rattle.ledger.specs.declared.Strand.{Strand}
 use Rattle.ledger.specs.declared.Strand.the-variants.{Plus, Minus, Dot}
 use Rattle.ledger.specs.declared.Reason.the-variants.{NoPair}
@@ -18,19 +17,7 @@ use Rattle.region.specs.declared.RegionAnswer.the-variants.{Lifted}
 use Rattle.region.specs.Regions.{kept, dropped, consIf, partnersIn, notLifted}
 use Rattle.region.specs.Reaches.{lap, answerOf}
 
--- ---- the leaves
-pub high-plus : (k : Strand) (size q n : ℕ) → k ≡ Plus → q + n ≡ strandEnd k size q (q + n)
-high-plus k size q n e = rw e
-
-pub high-minus : (k : Strand) (size q n : ℕ) → k ≡ Minus → size - q ≡ strandEnd k size q (q + n)
-high-minus k size q n e = rw e
-
-pub high-dot : (k : Strand) (size q n : ℕ) → k ≡ Dot → q + n ≡ strandEnd k size q (q + n)
-high-dot k size q n e = rw e
-
-pub low-minus : (k : Strand) (size q n : ℕ) → k ≡ Minus → size - (q + n) ≡ strandStart k size q (q + n)
-low-minus k size q n e = rw e
-
+-- ---- the answer
 pub answer-none : (r : Reach) (len : ℕ) (g : RegionAnswer) → r .kept ≡ 0 → g ≡ notLifted NoPair → g ≡ answerOf r len
 answer-none r len g h e = rw (lt-leb 1 (r .kept) (omega arith)) e
 

@@ -446,8 +446,8 @@ module _ (c : Chain) (t q z : List ℕ) (ok : Ready c t q z) where
 
       -- THE REACH from the first kept base to the last
       pub reached-across : (n : ℕ) → SizesFrom z i j n → (low high : ℕ)
-          → low ≡ strandStart (c .qStrand) (c .qSize) (getD q i 0 + (from - getD t i 0)) ((getD q i 0 + (from - getD t i 0)) + (getD q j 0 + to - (getD q i 0 + (from - getD t i 0))))
-          → high ≡ strandEnd (c .qStrand) (c .qSize) (getD q i 0 + (from - getD t i 0)) ((getD q i 0 + (from - getD t i 0)) + (getD q j 0 + to - (getD q i 0 + (from - getD t i 0))))
+          → low ≡ strandStart (c .qStrand) (c .qSize) (getD q i 0 + (from - getD t i 0)) (getD q j 0 + to)
+          → high ≡ strandEnd (c .qStrand) (c .qSize) (getD q i 0 + (from - getD t i 0)) (getD q j 0 + to)
           → Reached (c .qSize) a e (pairs c (tableOf t q z)) (record { kept = n + to - (from - getD t i 0); low = low; high = high })
       reached-across n sum low high el eh =
           let first : ℕ = getD q i 0 + (from - getD t i 0) in
@@ -464,8 +464,8 @@ module _ (c : Chain) (t q z : List ℕ) (ok : Ready c t q z) where
           let lp : List·Memᴰ (forward c (first + span - 1)) (partnersIn a e (pairs c (tableOf t q z))) = rw h₃ last-partner in
           record {
             isKept = ki;
-            isLow = el ∙ least-is (c .qStrand) (c .qSize) first span h₁ h₂ (partnersIn a e (pairs c (tableOf t q z))) first-partner lp all-in;
-            isHigh = eh ∙ bound-is (c .qStrand) (c .qSize) first span h₁ h₂ (partnersIn a e (pairs c (tableOf t q z))) first-partner lp all-in;
+            isLow = el ∙ ap (λ (n : ℕ). strandStart (c .qStrand) (c .qSize) first n) (sym (sn .1)) ∙ least-is (c .qStrand) (c .qSize) first span h₁ h₂ (partnersIn a e (pairs c (tableOf t q z))) first-partner lp all-in;
+            isHigh = eh ∙ ap (λ (n : ℕ). strandEnd (c .qStrand) (c .qSize) first n) (sym (sn .1)) ∙ bound-is (c .qStrand) (c .qSize) first span h₁ h₂ (partnersIn a e (pairs c (tableOf t q z))) first-partner lp all-in;
             isDropped = sp .0;
             fits = sp .1;
           }

@@ -541,10 +541,7 @@ fn refuse_all(count: usize, answers: &mut [[u64; 5]])
 fn no_room(tally: Tally) -> Batched
     ensures { λ r. ⌜ r ≡ noRoom tally ⌝ }
 {
-    let check = Check::Refused(Refusal {
-        reason: Reason::NoRoom,
-        place: 0,
-    });
+    let check = Check::Refused(Refusal::without_text(Reason::NoRoom));
     Batched { tally, check }
 }
 

@@ -1,4 +1,4 @@
--- `cases_chain::lift_batch` meets its contract: a walk of its MIR.
+-- `cases_chain::lift_batch` meets its contract: a walk of its MIR, made by tools/walks/make from tools/walks/cases.py. Do not edit.
 -- Assumes nothing.
 use mathlib.Core.Path.{_≡_, refl, sym, _∙_}
 use Prim.Native.Nat.{ℕ, min}
@@ -41,26 +41,25 @@ use denote.Triple.Spec.{Meets, tripleOf}
 use denote.Triple.Table.{entered, cited}
 use denote.Triple.Walked.{says, Stays, stay-none, stay-none-slice, gave-slice, walkOf, AllGo, goes-none, goes-none-slice, goes-gave-slice, Walks, ends-at, walked, walk-meets}
 use denote.Exit.{yes}
-use Rattle.cases.specs.Marks.{markedRow}
 use Rattle.rows.specs.Staging.{storedRows}
+use Rattle.cases.specs.Marks.{markedRow}
 use Rattle.table_lift.specs.Lifts.{BatchLifted}
-use Rattle.rows.proofs.Arrays.{row, filled, room-of, stage, unstage, lend-mut, back-mut, lend-shr, back-shr, front, mend}
-use Rattle.cases_chain.proofs.Lending.{lend-tally, back-tally}
-use Rattle.rows.proofs.Walk.{Datum, unit, uint, struct, enum, is-at, no-need, enters, answered, known, anew}
+use Rattle.cases_chain.specs.Tables.{tableLimit}
 use Rattle.cases_chain.proofs.LiftLaws.{batch-counted}
+use Rattle.cases_chain.proofs.Lending.{lend-tally, back-tally}
+use Rattle.rows.proofs.Arrays.{row, room-of, filled, stage, unstage, lend-mut, back-mut, lend-shr, back-shr, mend, front}
+use Rattle.rows.proofs.Walk.{Datum, unit, uint, struct, enum, is-at, no-need, enters, answered, known, anew}
 use Rattle.ledger.specs.declared.Row.{Row}
 use Rattle.ledger.proofs.Row as Row-t
 use Rattle.ledger.proofs.Row.Laws as Row-l
+use Rattle.text.proofs.Check as Check-t
+use Rattle.text.proofs.Check.Laws as Check-l
 use Rattle.chain.specs.declared.Chain.{Chain}
 use Rattle.chain.proofs.Chain as Chain-t
 use Rattle.chain.proofs.Chain.Laws as Chain-l
 use Rattle.region.specs.declared.Tally.{Tally}
 use Rattle.region.proofs.Tally as Tally-t
 use Rattle.region.proofs.Tally.Laws as Tally-l
-use Rattle.text.specs.declared.Check.{Check}
-use Rattle.text.proofs.Check as Check-t
-use Rattle.text.proofs.Check.Laws as Check-l
-use Rattle.cases_chain.specs.declared.BatchAnswer.{BatchAnswer}
 use Rattle.cases_chain.proofs.BatchAnswer as BatchAnswer-t
 use Rattle.cases_chain.proofs.BatchAnswer.Laws as BatchAnswer-l
 use Rattle.cases.proofs.row_mark as row-mark-f
@@ -94,14 +93,14 @@ rcol m = sliceTy (tyRef erased m (pointee (Row-t.the-row .written)))
 abbrev D-Row : Datum
 D-Row = struct Row-t.the-type Row-l.the-laws Row-l.the-plain
 
+abbrev D-Check : Datum
+D-Check = enum Check-t.the-type Check-l.the-laws Check-l.the-plain tt
+
 abbrev D-Chain : Datum
 D-Chain = struct Chain-t.the-type Chain-l.the-laws Chain-l.the-plain
 
 abbrev D-Tally : Datum
 D-Tally = struct Tally-t.the-type Tally-l.the-laws Tally-l.the-plain
-
-abbrev D-Check : Datum
-D-Check = enum Check-t.the-type Check-l.the-laws Check-l.the-plain tt
 
 abbrev D-BatchAnswer : Datum
 D-BatchAnswer = struct BatchAnswer-t.the-type BatchAnswer-l.the-laws BatchAnswer-l.the-plain
@@ -152,15 +151,15 @@ module _ {M : Type 1} (𝓤 : URA M) (H : Heap 𝓤) (A : Atoms 𝓤) (W : Given
         use1 W (‵ (ShrSlice (named 0) κ-ts u64 .own (record { ptr = (b-ts, o-ts); name = γ-ts; now = ts }) (sliceVal (b-ts, o-ts) (length ts) ∷ [])) ⊛ ‵ (ShrSlice (named 0) κ-ts u64 .own (record { ptr = (b-ts, o-ts); name = γ-ts; now = ts }) (sliceVal (b-ts, o-ts) (length ts) ∷ []))) (shr-slice-copy 𝓤 H A W (named 0) κ-ts u64 .twice (record { ptr = (b-ts, o-ts); name = γ-ts; now = ts }) (sliceVal (b-ts, o-ts) (length ts) ∷ [])) $ split ! $
         nothing ! $ move ! (1 ∷ 0 ∷ []) $ fjoin ! $ nothing ! $ move ! (7 ∷ 0 ∷ []) $ join ! $
         enters ! table-rows-f.ended (table-rows-f.clauses 𝓤 H A mem run) ((κ-ts, tt), (q-ts, tt), tt, (record { ptr = (b-ts, o-ts); name = γ-ts; now = ts }, tt), (sliceVal (b-ts, o-ts) (length ts) ∷ [], tt)) tt (no-need 𝓤) $
-        calls-at ! fm (Of-table-rows 𝓤 H A mem run) known-table-rows (((κ-ts, tt), (q-ts, tt), tt, (record { ptr = (b-ts, o-ts); name = γ-ts; now = ts }, tt), (sliceVal (b-ts, o-ts) (length ts) ∷ [], tt)), tt) (and-then ! (load ! (from ! (stop !)) (look ! 46 refl)) (no-more !)) (λ v₂. answered ! tt table-rows-f.ended (table-rows-f.clauses 𝓤 H A mem run) ((κ-ts, tt), (q-ts, tt), tt, (record { ptr = (b-ts, o-ts); name = γ-ts; now = ts }, tt), (sliceVal (b-ts, o-ts) (length ts) ∷ [], tt)) tt v₂ (λ r₂ ws₂. heard ! (r₂ ≡ min (length ts) 600) (λ e₂. known ! (uint w64) r₂ v₂ (λ is₂ same₂.
+        calls-at ! fm (Of-table-rows 𝓤 H A mem run) known-table-rows (((κ-ts, tt), (q-ts, tt), tt, (record { ptr = (b-ts, o-ts); name = γ-ts; now = ts }, tt), (sliceVal (b-ts, o-ts) (length ts) ∷ [], tt)), tt) (and-then ! (load ! (from ! (stop !)) (look ! 46 refl)) (no-more !)) (λ v₂. answered ! tt table-rows-f.ended (table-rows-f.clauses 𝓤 H A mem run) ((κ-ts, tt), (q-ts, tt), tt, (record { ptr = (b-ts, o-ts); name = γ-ts; now = ts }, tt), (sliceVal (b-ts, o-ts) (length ts) ∷ [], tt)) tt v₂ (λ r₂ ws₂. heard ! (r₂ ≡ min (length ts) tableLimit) (λ e₂. known ! (uint w64) r₂ v₂ (λ is₂ same₂.
         land ! (from ! (stop !)) (init ! 35 refl ((uint w64) .lawful 𝓤 H A W .typed r₂ _ is₂ .0)) $ move ! (1 ∷ []) $ split ! $ move ! (1 ∷ []) $ drop ! $
         rewrite ! 35 (λ (u : Val). ‵ (fat fullShare (tyInt w64) l₉ 0 u)) (same₂) refl $ move ! (1 ∷ []) $ fsplit ! $ drop ! $ drop ! $
-        assigns ! (rep ! 600 (load ! (from ! (stop !)) (look ! 36 refl))) (from ! (stop !)) (init ! 32 refl (filled 𝓤 H A W row 600 r₁ (is-at D-Row r₁ v₁ is₁ same₁))) $
-        move ! (32 ∷ []) $ stage ! row 600 l₁₀ r₁ (is-at D-Row r₁ v₁ is₁ same₁) (λ ys₁₀ len₁₀.
+        assigns ! (rep ! tableLimit (load ! (from ! (stop !)) (look ! 36 refl))) (from ! (stop !)) (init ! 32 refl (filled 𝓤 H A W row tableLimit r₁ (is-at D-Row r₁ v₁ is₁ same₁))) $
+        move ! (32 ∷ []) $ stage ! row tableLimit l₁₀ r₁ (is-at D-Row r₁ v₁ is₁ same₁) (λ ys₁₀ len₁₀.
         assigns ! (addr ! (from ! (stop !))) (from ! (stop !)) (init ! 25 refl (tt, tt)) $
         assigns ! (agg ! (and-then ! (load ! (from ! (stop !)) (look ! 25 refl)) (and-then ! (lit ! tt) (no-more !)))) (from ! (stop !)) (init ! 23 refl (tt, (tt, (record { fits = lit< tt }, tt)))) $
         rewrite ! 23 (λ (m : ℕ). ‵ (fat fullShare (rcol mut) l₁₅ 0 (sliceVal (l₁₀, 0) m))) (sym (len₁₀)) refl $ lft-new ! tt (λ α₃a. move ! (1 ∷ []) $
-        lend-mut ! tt row (named 0) (α₃a ∷ []) ys₁₀ l₁₀ (room-of row 600 ys₁₀ (len₁₀) tt tt) (λ γ₃a.
+        lend-mut ! tt row (named 0) (α₃a ∷ []) ys₁₀ l₁₀ (room-of row tableLimit ys₁₀ (len₁₀) tt tt) (λ γ₃a.
         anew ! (uint w64) r₂ (vint w64 r₂) (is-at (uint w64) r₂ v₂ is₂ same₂) $ move ! (5 ∷ []) $
         use1 W (‵ (ShrSlice (named 0) κ-ts u64 .own (record { ptr = (b-ts, o-ts); name = γ-ts; now = ts }) (sliceVal (b-ts, o-ts) (length ts) ∷ [])) ⊛ ‵ (ShrSlice (named 0) κ-ts u64 .own (record { ptr = (b-ts, o-ts); name = γ-ts; now = ts }) (sliceVal (b-ts, o-ts) (length ts) ∷ []))) (shr-slice-copy 𝓤 H A W (named 0) κ-ts u64 .twice (record { ptr = (b-ts, o-ts); name = γ-ts; now = ts }) (sliceVal (b-ts, o-ts) (length ts) ∷ [])) $ split ! $
         move ! (14 ∷ []) $
@@ -171,7 +170,7 @@ module _ {M : Type 1} (𝓤 : URA M) (H : Heap 𝓤) (A : Atoms 𝓤) (W : Given
         move ! (4 ∷ 0 ∷ []) $ fjoin ! $ nothing ! $ move ! (10 ∷ 0 ∷ []) $ join ! $ move ! (10 ∷ 0 ∷ []) $ join ! $ move ! (7 ∷ 0 ∷ []) $ join ! $
         move ! (6 ∷ 0 ∷ []) $ join ! $
         enters ! store-rows-f.ended (store-rows-f.clauses 𝓤 H A mem run) ((α₃a ∷ [], (κ-ts, (κ-qs, (κ-zs, tt)))), (fullShare, (q-ts, (q-qs, (q-zs, tt)))), tt, (record { ptr = (l₁₀, 0); name = γ₃a; now = ys₁₀ }, (r₂, (record { ptr = (b-ts, o-ts); name = γ-ts; now = ts }, (record { ptr = (b-qs, o-qs); name = γ-qs; now = qs }, (record { ptr = (b-zs, o-zs); name = γ-zs; now = zs }, tt))))), (sliceVal (l₁₀, 0) (length ys₁₀) ∷ [], (vint w64 r₂ ∷ [], (sliceVal (b-ts, o-ts) (length ts) ∷ [], (sliceVal (b-qs, o-qs) (length qs) ∷ [], (sliceVal (b-zs, o-zs) (length zs) ∷ [], tt)))))) tt (no-need 𝓤) $
-        calls-at ! fm (Of-store-rows 𝓤 H A mem run) known-store-rows (((α₃a ∷ [], (κ-ts, (κ-qs, (κ-zs, tt)))), (fullShare, (q-ts, (q-qs, (q-zs, tt)))), tt, (record { ptr = (l₁₀, 0); name = γ₃a; now = ys₁₀ }, (r₂, (record { ptr = (b-ts, o-ts); name = γ-ts; now = ts }, (record { ptr = (b-qs, o-qs); name = γ-qs; now = qs }, (record { ptr = (b-zs, o-zs); name = γ-zs; now = zs }, tt))))), (sliceVal (l₁₀, 0) (length ys₁₀) ∷ [], (vint w64 r₂ ∷ [], (sliceVal (b-ts, o-ts) (length ts) ∷ [], (sliceVal (b-qs, o-qs) (length qs) ∷ [], (sliceVal (b-zs, o-zs) (length zs) ∷ [], tt)))))), tt) (and-then ! (load ! (from ! (stop !)) (look ! 21 refl)) (and-then ! (load ! (from ! (stop !)) (look ! 32 refl)) (and-then ! (load ! (from ! (stop !)) (look ! 44 refl)) (and-then ! (load ! (from ! (stop !)) (look ! 42 refl)) (and-then ! (load ! (from ! (stop !)) (look ! 40 refl)) (no-more !)))))) (λ v₃. answered ! tt store-rows-f.ended (store-rows-f.clauses 𝓤 H A mem run) ((α₃a ∷ [], (κ-ts, (κ-qs, (κ-zs, tt)))), (fullShare, (q-ts, (q-qs, (q-zs, tt)))), tt, (record { ptr = (l₁₀, 0); name = γ₃a; now = ys₁₀ }, (r₂, (record { ptr = (b-ts, o-ts); name = γ-ts; now = ts }, (record { ptr = (b-qs, o-qs); name = γ-qs; now = qs }, (record { ptr = (b-zs, o-zs); name = γ-zs; now = zs }, tt))))), (sliceVal (l₁₀, 0) (length ys₁₀) ∷ [], (vint w64 r₂ ∷ [], (sliceVal (b-ts, o-ts) (length ts) ∷ [], (sliceVal (b-qs, o-qs) (length qs) ∷ [], (sliceVal (b-zs, o-zs) (length zs) ∷ [], tt)))))) tt v₃ (λ r₃ ws₃. heard ! (ws₃ .0 ≡ storedRows r₂ ts qs zs ys₁₀) (λ e₃. known ! unit r₃ v₃ (λ is₃ same₃.
+        calls-at ! fm (Of-store-rows 𝓤 H A mem run) known-store-rows (((α₃a ∷ [], (κ-ts, (κ-qs, (κ-zs, tt)))), (fullShare, (q-ts, (q-qs, (q-zs, tt)))), tt, (record { ptr = (l₁₀, 0); name = γ₃a; now = ys₁₀ }, (r₂, (record { ptr = (b-ts, o-ts); name = γ-ts; now = ts }, (record { ptr = (b-qs, o-qs); name = γ-qs; now = qs }, (record { ptr = (b-zs, o-zs); name = γ-zs; now = zs }, tt))))), (sliceVal (l₁₀, 0) (length ys₁₀) ∷ [], (vint w64 r₂ ∷ [], (sliceVal (b-ts, o-ts) (length ts) ∷ [], (sliceVal (b-qs, o-qs) (length qs) ∷ [], (sliceVal (b-zs, o-zs) (length zs) ∷ [], tt)))))), tt) (and-then ! (load ! (from ! (stop !)) (look ! 21 refl)) (and-then ! (load ! (from ! (stop !)) (look ! 32 refl)) (and-then ! (load ! (from ! (stop !)) (look ! 44 refl)) (and-then ! (load ! (from ! (stop !)) (look ! 42 refl)) (and-then ! (load ! (from ! (stop !)) (look ! 40 refl)) (no-more !)))))) (λ v₃. answered ! tt store-rows-f.ended (store-rows-f.clauses 𝓤 H A mem run) ((α₃a ∷ [], (κ-ts, (κ-qs, (κ-zs, tt)))), (fullShare, (q-ts, (q-qs, (q-zs, tt)))), tt, (record { ptr = (l₁₀, 0); name = γ₃a; now = ys₁₀ }, (r₂, (record { ptr = (b-ts, o-ts); name = γ-ts; now = ts }, (record { ptr = (b-qs, o-qs); name = γ-qs; now = qs }, (record { ptr = (b-zs, o-zs); name = γ-zs; now = zs }, tt))))), (sliceVal (l₁₀, 0) (length ys₁₀) ∷ [], (vint w64 r₂ ∷ [], (sliceVal (b-ts, o-ts) (length ts) ∷ [], (sliceVal (b-qs, o-qs) (length qs) ∷ [], (sliceVal (b-zs, o-zs) (length zs) ∷ [], tt)))))) tt v₃ (λ r₃ ws₃. heard ! ((ws₃ .0) ≡ storedRows r₂ ts qs zs ys₁₀) (λ e₃. known ! unit r₃ v₃ (λ is₃ same₃.
         land ! (from ! (stop !)) (init ! 26 refl (unit .lawful 𝓤 H A W .typed r₃ _ is₃ .0)) $ move ! (1 ∷ []) $ split ! $ move ! (1 ∷ []) $ split ! $
         move ! (1 ∷ []) $ split ! $ move ! (1 ∷ []) $ split ! $ move ! (1 ∷ []) $ drop ! $
         rewrite ! 29 (λ (u : Val). ‵ (fat fullShare tyUnit l₁₃ 0 u)) (same₃) refl $ move ! (4 ∷ []) $ fsplit ! $ fsplit ! $ move ! (1 ∷ []) $ drop ! $
@@ -186,7 +185,7 @@ module _ {M : Type 1} (𝓤 : URA M) (H : Heap 𝓤) (A : Atoms 𝓤) (W : Given
         assigns ! (agg ! (and-then ! (load ! (from ! (stop !)) (look ! 15 refl)) (and-then ! (load ! (from ! (fld ! refl (stop !))) (look-in ! 38 (sub ! 1 refl (whole !)))) (no-more !)))) (from ! (stop !)) (init ! 13 refl (tt, (tt, (record { fits = g-an .0 }, tt)))) $
         lft-new ! tt (λ α₄a. move ! (32 ∷ []) $ lend-tally ! tt (named 0) (α₄a ∷ []) tl l₁₁ g-tl (λ γ₄a. anew ! D-Chain rec (D-Chain .val rec) g-rec $
         lft-new ! tt (λ α₄c. move ! (5 ∷ []) $ front ! row r₂ (ws₃ .0) l₁₀ $
-        lend-shr ! tt row (named 1) (α₄c ∷ []) (take r₂ (ws₃ .0)) l₁₀ (room-take Row-t.the-row 600 r₂ (ws₃ .0) (back₃a ∙ len₁₀) (lit< tt, lit< tt)) (λ γ₄c.
+        lend-shr ! tt row (named 1) (α₄c ∷ []) (take r₂ (ws₃ .0)) l₁₀ (room-take Row-t.the-row tableLimit r₂ (ws₃ .0) (back₃a ∙ len₁₀) (lit< tt, lit< tt)) (λ γ₄c.
         move ! (17 ∷ []) $
         use1 W (‵ (ShrSlice (named 0) κ-rg (Array u64 2) .own (record { ptr = (b-rg, o-rg); name = γ-rg; now = rg }) (sliceVal (b-rg, o-rg) (length rg) ∷ [])) ⊛ ‵ (ShrSlice (named 0) κ-rg (Array u64 2) .own (record { ptr = (b-rg, o-rg); name = γ-rg; now = rg }) (sliceVal (b-rg, o-rg) (length rg) ∷ []))) (shr-slice-copy 𝓤 H A W (named 0) κ-rg (Array u64 2) .twice (record { ptr = (b-rg, o-rg); name = γ-rg; now = rg }) (sliceVal (b-rg, o-rg) (length rg) ∷ [])) $ split ! $
         nothing ! $ move ! (19 ∷ 0 ∷ []) $ fjoin ! $ move ! (1 ∷ 0 ∷ []) $ fjoin ! $ move ! (2 ∷ 0 ∷ []) $ fjoin ! $ move ! (5 ∷ 0 ∷ []) $ fjoin ! $
@@ -205,10 +204,10 @@ module _ {M : Type 1} (𝓤 : URA M) (H : Heap 𝓤) (A : Atoms 𝓤) (W : Given
         anew ! D-Tally (ws₄ .0) (D-Tally .val (ws₄ .0)) back₄a $ anew ! D-Check r₄ (D-Check .val r₄) (is-at D-Check r₄ v₄ is₄ same₄) $ nothing ! $
         move ! (1 ∷ 0 ∷ []) $ fjoin ! $ move ! (1 ∷ 0 ∷ []) $ fjoin ! $ nothing ! $
         enters ! batched-f.ended (batched-f.clauses 𝓤 H A mem run) (tt, tt, tt, (ws₄ .0, (r₄, tt)), (D-Tally .val (ws₄ .0) ∷ [], (D-Check .val r₄ ∷ [], tt))) tt (no-need 𝓤) $
-        calls-at ! fm (Of-batched 𝓤 H A mem run) known-batched ((tt, tt, tt, (ws₄ .0, (r₄, tt)), (D-Tally .val (ws₄ .0) ∷ [], (D-Check .val r₄ ∷ [], tt))), tt) (and-then ! (load ! (from ! (stop !)) (look ! 13 refl)) (and-then ! (load ! (from ! (stop !)) (look ! 31 refl)) (no-more !))) (λ v₅. answered ! tt batched-f.ended (batched-f.clauses 𝓤 H A mem run) (tt, tt, tt, (ws₄ .0, (r₄, tt)), (D-Tally .val (ws₄ .0) ∷ [], (D-Check .val r₄ ∷ [], tt))) tt v₅ (λ r₅ ws₅. heard ! ((r₅ .tally ≡ ws₄ .0) × (r₅ .check ≡ r₄)) (λ e₅. known ! D-BatchAnswer r₅ v₅ (λ is₅ same₅.
+        calls-at ! fm (Of-batched 𝓤 H A mem run) known-batched ((tt, tt, tt, (ws₄ .0, (r₄, tt)), (D-Tally .val (ws₄ .0) ∷ [], (D-Check .val r₄ ∷ [], tt))), tt) (and-then ! (load ! (from ! (stop !)) (look ! 13 refl)) (and-then ! (load ! (from ! (stop !)) (look ! 31 refl)) (no-more !))) (λ v₅. answered ! tt batched-f.ended (batched-f.clauses 𝓤 H A mem run) (tt, tt, tt, (ws₄ .0, (r₄, tt)), (D-Tally .val (ws₄ .0) ∷ [], (D-Check .val r₄ ∷ [], tt))) tt v₅ (λ r₅ ws₅. heard ! ((r₅ .tally ≡ (ws₄ .0)) × (r₅ .check ≡ r₄)) (λ e₅. known ! D-BatchAnswer r₅ v₅ (λ is₅ same₅.
         land ! (from ! (stop !)) (init ! 54 refl (D-BatchAnswer .lawful 𝓤 H A W .typed r₅ _ is₅ .0)) $ move ! (1 ∷ []) $ drop ! $
         rewrite ! 53 (λ (u : Val). ‵ (fat fullShare BatchAnswer-l.mir l₀ 0 u)) (same₅) refl $ fsplit ! $ drop ! $ fsplit ! $ drop ! $ drop ! $
-        unstage ! row 600 l₁₀ (ws₃ .0) (back₃a ∙ len₁₀) $ returns ! (look ! 52 refl) $ forget ! 52 refl $ forget ! 50 refl $ forget ! 48 refl $
+        unstage ! row tableLimit l₁₀ (ws₃ .0) (back₃a ∙ len₁₀) $ returns ! (look ! 52 refl) $ forget ! 52 refl $ forget ! 50 refl $ forget ! 48 refl $
         forget ! 46 refl $ forget ! 44 refl $ forget ! 42 refl $ forget ! 40 refl $ forget ! 38 refl $ forget ! 36 refl $ forget ! 34 refl $ forget ! 1 refl $
         forget ! 30 refl $ forget ! 28 refl $ forget ! 26 refl $ forget ! 24 refl $ forget ! 22 refl $ forget ! 20 refl $ forget ! 18 refl $ forget ! 16 refl $
         forget ! 14 refl $ forget ! 12 refl $ move ! (52 ∷ 53 ∷ []) $ free1 ! $ move ! (50 ∷ 51 ∷ []) $ free1 ! $ move ! (48 ∷ 49 ∷ []) $ free1 ! $

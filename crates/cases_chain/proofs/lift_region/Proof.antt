@@ -1,7 +1,7 @@
--- `cases_chain::lift_region` meets its contract: a walk of its MIR.
+-- `cases_chain::lift_region` meets its contract: a walk of its MIR, made by tools/walks/make from tools/walks/cases.py. Do not edit.
 -- Assumes nothing.
 use mathlib.Core.Path.{_≡_, refl, sym, _∙_}
-use Prim.Native.Nat.{ℕ, _<_, _^_}
+use Prim.Native.Nat.{ℕ, _<_, _^_, min}
 use native.Mathlib.Omega.{arith}
 use mathlib.Core.List.{List, [], _∷_}
 use lib.Dec.{lit<}
@@ -41,14 +41,14 @@ use denote.Triple.Spec.{Meets, tripleOf}
 use denote.Triple.Table.{entered, cited}
 use denote.Triple.Walked.{says, Stays, stay-none, stay-none-slice, walkOf, AllGo, goes-none, goes-none-slice, Walks, ends-at, walked, walk-meets}
 use denote.Exit.{yes}
-use Prim.Native.Nat.{min}
-use Rattle.cases.specs.Marks.{markedRow}
 use Rattle.rows.specs.Staging.{storedRows}
+use Rattle.cases.specs.Marks.{markedRow}
 use Rattle.region.specs.Regions.{liftRegion}
-use Rattle.rows.proofs.Arrays.{row, filled, room-of, stage, unstage, lend-mut, back-mut, lend-shr, back-shr, front, mend}
+use Rattle.cases_chain.specs.Tables.{tableLimit}
+use Rattle.cases_chain.proofs.LiftLaws.{region-lifted}
+use Rattle.rows.proofs.Arrays.{row, room-of, filled, stage, unstage, lend-mut, back-mut, lend-shr, back-shr, mend, front}
 use Rattle.rows.proofs.Walk.{Datum, unit, uint, struct, enum, is-at, no-need, enters, answered, known, anew}
 use Rattle.ledger.specs.declared.Row.{Row}
-use Rattle.cases_chain.proofs.LiftLaws.{region-lifted}
 use Rattle.ledger.proofs.Row as Row-t
 use Rattle.ledger.proofs.Row.Laws as Row-l
 use Rattle.chain.specs.declared.Chain.{Chain}
@@ -131,15 +131,15 @@ module _ {M : Type 1} (𝓤 : URA M) (H : Heap 𝓤) (A : Atoms 𝓤) (W : Given
         use1 W (‵ (ShrSlice (named 0) κ-ts u64 .own (record { ptr = (b-ts, o-ts); name = γ-ts; now = ts }) (sliceVal (b-ts, o-ts) (length ts) ∷ [])) ⊛ ‵ (ShrSlice (named 0) κ-ts u64 .own (record { ptr = (b-ts, o-ts); name = γ-ts; now = ts }) (sliceVal (b-ts, o-ts) (length ts) ∷ []))) (shr-slice-copy 𝓤 H A W (named 0) κ-ts u64 .twice (record { ptr = (b-ts, o-ts); name = γ-ts; now = ts }) (sliceVal (b-ts, o-ts) (length ts) ∷ [])) $ split ! $
         nothing ! $ move ! (1 ∷ 0 ∷ []) $ fjoin ! $ nothing ! $ move ! (5 ∷ 0 ∷ []) $ join ! $
         enters ! table-rows-f.ended (table-rows-f.clauses 𝓤 H A mem run) ((κ-ts, tt), (q-ts, tt), tt, (record { ptr = (b-ts, o-ts); name = γ-ts; now = ts }, tt), (sliceVal (b-ts, o-ts) (length ts) ∷ [], tt)) tt (no-need 𝓤) $
-        calls-at ! fm (Of-table-rows 𝓤 H A mem run) known-table-rows (((κ-ts, tt), (q-ts, tt), tt, (record { ptr = (b-ts, o-ts); name = γ-ts; now = ts }, tt), (sliceVal (b-ts, o-ts) (length ts) ∷ [], tt)), tt) (and-then ! (load ! (from ! (stop !)) (look ! 30 refl)) (no-more !)) (λ v₂. answered ! tt table-rows-f.ended (table-rows-f.clauses 𝓤 H A mem run) ((κ-ts, tt), (q-ts, tt), tt, (record { ptr = (b-ts, o-ts); name = γ-ts; now = ts }, tt), (sliceVal (b-ts, o-ts) (length ts) ∷ [], tt)) tt v₂ (λ r₂ ws₂. heard ! (r₂ ≡ min (length ts) 600) (λ e₂. known ! (uint w64) r₂ v₂ (λ is₂ same₂.
+        calls-at ! fm (Of-table-rows 𝓤 H A mem run) known-table-rows (((κ-ts, tt), (q-ts, tt), tt, (record { ptr = (b-ts, o-ts); name = γ-ts; now = ts }, tt), (sliceVal (b-ts, o-ts) (length ts) ∷ [], tt)), tt) (and-then ! (load ! (from ! (stop !)) (look ! 30 refl)) (no-more !)) (λ v₂. answered ! tt table-rows-f.ended (table-rows-f.clauses 𝓤 H A mem run) ((κ-ts, tt), (q-ts, tt), tt, (record { ptr = (b-ts, o-ts); name = γ-ts; now = ts }, tt), (sliceVal (b-ts, o-ts) (length ts) ∷ [], tt)) tt v₂ (λ r₂ ws₂. heard ! (r₂ ≡ min (length ts) tableLimit) (λ e₂. known ! (uint w64) r₂ v₂ (λ is₂ same₂.
         land ! (from ! (stop !)) (init ! 19 refl ((uint w64) .lawful 𝓤 H A W .typed r₂ _ is₂ .0)) $ move ! (1 ∷ []) $ split ! $ move ! (1 ∷ []) $ drop ! $
         rewrite ! 19 (λ (u : Val). ‵ (fat fullShare (tyInt w64) l₈ 0 u)) (same₂) refl $ move ! (1 ∷ []) $ fsplit ! $ drop ! $ drop ! $
-        assigns ! (rep ! 600 (load ! (from ! (stop !)) (look ! 20 refl))) (from ! (stop !)) (init ! 16 refl (filled 𝓤 H A W row 600 r₁ (is-at D-Row r₁ v₁ is₁ same₁))) $
-        move ! (16 ∷ []) $ stage ! row 600 l₉ r₁ (is-at D-Row r₁ v₁ is₁ same₁) (λ ys₉ len₉.
+        assigns ! (rep ! tableLimit (load ! (from ! (stop !)) (look ! 20 refl))) (from ! (stop !)) (init ! 16 refl (filled 𝓤 H A W row tableLimit r₁ (is-at D-Row r₁ v₁ is₁ same₁))) $
+        move ! (16 ∷ []) $ stage ! row tableLimit l₉ r₁ (is-at D-Row r₁ v₁ is₁ same₁) (λ ys₉ len₉.
         assigns ! (addr ! (from ! (stop !))) (from ! (stop !)) (init ! 13 refl (tt, tt)) $
         assigns ! (agg ! (and-then ! (load ! (from ! (stop !)) (look ! 13 refl)) (and-then ! (lit ! tt) (no-more !)))) (from ! (stop !)) (init ! 11 refl (tt, (tt, (record { fits = lit< tt }, tt)))) $
         rewrite ! 11 (λ (m : ℕ). ‵ (fat fullShare (rcol mut) l₁₂ 0 (sliceVal (l₉, 0) m))) (sym (len₉)) refl $ lft-new ! tt (λ α₃a. move ! (1 ∷ []) $
-        lend-mut ! tt row (named 0) (α₃a ∷ []) ys₉ l₉ (room-of row 600 ys₉ (len₉) tt tt) (λ γ₃a.
+        lend-mut ! tt row (named 0) (α₃a ∷ []) ys₉ l₉ (room-of row tableLimit ys₉ (len₉) tt tt) (λ γ₃a.
         anew ! (uint w64) r₂ (vint w64 r₂) (is-at (uint w64) r₂ v₂ is₂ same₂) $ move ! (5 ∷ []) $
         use1 W (‵ (ShrSlice (named 0) κ-ts u64 .own (record { ptr = (b-ts, o-ts); name = γ-ts; now = ts }) (sliceVal (b-ts, o-ts) (length ts) ∷ [])) ⊛ ‵ (ShrSlice (named 0) κ-ts u64 .own (record { ptr = (b-ts, o-ts); name = γ-ts; now = ts }) (sliceVal (b-ts, o-ts) (length ts) ∷ []))) (shr-slice-copy 𝓤 H A W (named 0) κ-ts u64 .twice (record { ptr = (b-ts, o-ts); name = γ-ts; now = ts }) (sliceVal (b-ts, o-ts) (length ts) ∷ [])) $ split ! $
         move ! (10 ∷ []) $
@@ -159,7 +159,7 @@ module _ {M : Type 1} (𝓤 : URA M) (H : Heap 𝓤) (A : Atoms 𝓤) (W : Given
         assigns ! (agg ! (and-then ! (load ! (from ! (stop !)) (look ! 9 refl)) (and-then ! (load ! (from ! (stop !)) (look ! 18 refl)) (no-more !)))) (from ! (stop !)) (init ! 7 refl (tt, (tt, (record { fits = (is-at (uint w64) r₂ v₂ is₂ same₂) .1 }, tt)))) $
         rewrite ! 7 (λ (m : ℕ). ‵ (fat fullShare (rcol imm) l₁₄ 0 (sliceVal (l₉, 0) m))) (sym (length-take-le r₂ (ws₃ .0) (omega (arith, e₂, back₃a ∙ len₉)))) refl $
         anew ! D-Chain rec (D-Chain .val rec) g-rec $ lft-new ! tt (λ α₄b. move ! (2 ∷ []) $ front ! row r₂ (ws₃ .0) l₉ $
-        lend-shr ! tt row (named 0) (α₄b ∷ []) (take r₂ (ws₃ .0)) l₉ (room-take Row-t.the-row 600 r₂ (ws₃ .0) (back₃a ∙ len₉) (lit< tt, lit< tt)) (λ γ₄b.
+        lend-shr ! tt row (named 0) (α₄b ∷ []) (take r₂ (ws₃ .0)) l₉ (room-take Row-t.the-row tableLimit r₂ (ws₃ .0) (back₃a ∙ len₉) (lit< tt, lit< tt)) (λ γ₄b.
         anew ! (uint w64) sa (vint w64 sa) ((refl, g-sa)) $ anew ! (uint w64) ea (vint w64 ea) ((refl, g-ea)) $ nothing ! $ move ! (1 ∷ 0 ∷ []) $ fjoin ! $
         move ! (1 ∷ 0 ∷ []) $ fjoin ! $ move ! (1 ∷ 0 ∷ []) $ fjoin ! $ move ! (4 ∷ 0 ∷ []) $ fjoin ! $ nothing ! $ move ! (4 ∷ 0 ∷ []) $ join ! $
         enters ! lift-region-f.ended (lift-region-f.clauses 𝓤 H A mem run) ((α₄b ∷ [], tt), (fullShare, tt), tt, (rec, (record { ptr = (l₉, 0); name = γ₄b; now = take r₂ (ws₃ .0) }, (sa, (ea, tt)))), (D-Chain .val rec ∷ [], (sliceVal (l₉, 0) (length (take r₂ (ws₃ .0))) ∷ [], (vint w64 sa ∷ [], (vint w64 ea ∷ [], tt))))) tt (no-need 𝓤) $
@@ -169,7 +169,7 @@ module _ {M : Type 1} (𝓤 : URA M) (H : Heap 𝓤) (A : Atoms 𝓤) (W : Given
         fsplit ! $ drop ! $ fsplit ! $ drop ! $ drop ! $ back-shr ! tt row (take r₂ (ws₃ .0)) l₉ $
         mend ! row (length (take r₂ (ws₃ .0))) (take r₂ (ws₃ .0)) (dropL r₂ (ws₃ .0)) l₉ refl $
         rewrite ! 0 (λ (zs : List Row). ‵ (cells (memory Row-t.the-row) zs l₉ 0)) (take-append-drop r₂ (ws₃ .0)) refl $
-        unstage ! row 600 l₉ (ws₃ .0) (back₃a ∙ len₉) $ returns ! (look ! 34 refl) $ forget ! 34 refl $ forget ! 32 refl $ forget ! 30 refl $
+        unstage ! row tableLimit l₉ (ws₃ .0) (back₃a ∙ len₉) $ returns ! (look ! 34 refl) $ forget ! 34 refl $ forget ! 32 refl $ forget ! 30 refl $
         forget ! 28 refl $ forget ! 26 refl $ forget ! 24 refl $ forget ! 22 refl $ forget ! 20 refl $ forget ! 18 refl $ forget ! 15 refl $ forget ! 13 refl $
         forget ! 11 refl $ forget ! 9 refl $ forget ! 7 refl $ move ! (34 ∷ 35 ∷ []) $ free1 ! $ move ! (32 ∷ 33 ∷ []) $ free1 ! $ move ! (30 ∷ 31 ∷ []) $
         free1 ! $ move ! (28 ∷ 29 ∷ []) $ free1 ! $ move ! (26 ∷ 27 ∷ []) $ free1 ! $ move ! (24 ∷ 25 ∷ []) $ free1 ! $ move ! (22 ∷ 23 ∷ []) $ free1 ! $

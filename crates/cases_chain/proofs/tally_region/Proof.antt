@@ -1,7 +1,7 @@
--- `cases_chain::tally_region` meets its contract: a walk of its MIR.
+-- `cases_chain::tally_region` meets its contract: a walk of its MIR, made by tools/walks/make from tools/walks/cases.py. Do not edit.
 -- Assumes nothing.
 use mathlib.Core.Path.{_≡_, refl, sym, _∙_}
-use Prim.Native.Nat.{ℕ, _<_, _^_}
+use Prim.Native.Nat.{ℕ, _<_, _^_, min}
 use native.Mathlib.Omega.{arith}
 use mathlib.Core.List.{List, [], _∷_}
 use lib.Dec.{lit<}
@@ -41,15 +41,15 @@ use denote.Triple.Spec.{Meets, tripleOf}
 use denote.Triple.Table.{entered, cited}
 use denote.Triple.Walked.{says, Stays, stay-none, stay-none-slice, walkOf, AllGo, goes-none, goes-none-slice, Walks, ends-at, walked, walk-meets}
 use denote.Exit.{yes}
-use Prim.Native.Nat.{min}
-use Rattle.cases.specs.Marks.{markedRow}
 use Rattle.rows.specs.Staging.{storedRows}
+use Rattle.cases.specs.Marks.{markedRow}
 use Rattle.table_lift.specs.Lifts.{RegionTallied}
-use Rattle.rows.proofs.Arrays.{row, filled, room-of, stage, unstage, lend-mut, back-mut, lend-shr, back-shr, front, mend}
+use Rattle.cases_chain.specs.Tables.{tableLimit}
+use Rattle.cases_chain.proofs.LiftLaws.{region-counted}
 use Rattle.cases_chain.proofs.Lending.{lend-tally, back-tally}
+use Rattle.rows.proofs.Arrays.{row, room-of, filled, stage, unstage, lend-mut, back-mut, lend-shr, back-shr, mend, front}
 use Rattle.rows.proofs.Walk.{Datum, unit, uint, struct, enum, is-at, no-need, enters, answered, known, anew}
 use Rattle.ledger.specs.declared.Row.{Row}
-use Rattle.cases_chain.proofs.LiftLaws.{region-counted}
 use Rattle.ledger.proofs.Row as Row-t
 use Rattle.ledger.proofs.Row.Laws as Row-l
 use Rattle.chain.specs.declared.Chain.{Chain}
@@ -150,15 +150,15 @@ module _ {M : Type 1} (𝓤 : URA M) (H : Heap 𝓤) (A : Atoms 𝓤) (W : Given
         use1 W (‵ (ShrSlice (named 0) κ-ts u64 .own (record { ptr = (b-ts, o-ts); name = γ-ts; now = ts }) (sliceVal (b-ts, o-ts) (length ts) ∷ [])) ⊛ ‵ (ShrSlice (named 0) κ-ts u64 .own (record { ptr = (b-ts, o-ts); name = γ-ts; now = ts }) (sliceVal (b-ts, o-ts) (length ts) ∷ []))) (shr-slice-copy 𝓤 H A W (named 0) κ-ts u64 .twice (record { ptr = (b-ts, o-ts); name = γ-ts; now = ts }) (sliceVal (b-ts, o-ts) (length ts) ∷ [])) $ split ! $
         nothing ! $ move ! (1 ∷ 0 ∷ []) $ fjoin ! $ nothing ! $ move ! (5 ∷ 0 ∷ []) $ join ! $
         enters ! table-rows-f.ended (table-rows-f.clauses 𝓤 H A mem run) ((κ-ts, tt), (q-ts, tt), tt, (record { ptr = (b-ts, o-ts); name = γ-ts; now = ts }, tt), (sliceVal (b-ts, o-ts) (length ts) ∷ [], tt)) tt (no-need 𝓤) $
-        calls-at ! fm (Of-table-rows 𝓤 H A mem run) known-table-rows (((κ-ts, tt), (q-ts, tt), tt, (record { ptr = (b-ts, o-ts); name = γ-ts; now = ts }, tt), (sliceVal (b-ts, o-ts) (length ts) ∷ [], tt)), tt) (and-then ! (load ! (from ! (stop !)) (look ! 38 refl)) (no-more !)) (λ v₂. answered ! tt table-rows-f.ended (table-rows-f.clauses 𝓤 H A mem run) ((κ-ts, tt), (q-ts, tt), tt, (record { ptr = (b-ts, o-ts); name = γ-ts; now = ts }, tt), (sliceVal (b-ts, o-ts) (length ts) ∷ [], tt)) tt v₂ (λ r₂ ws₂. heard ! (r₂ ≡ min (length ts) 600) (λ e₂. known ! (uint w64) r₂ v₂ (λ is₂ same₂.
+        calls-at ! fm (Of-table-rows 𝓤 H A mem run) known-table-rows (((κ-ts, tt), (q-ts, tt), tt, (record { ptr = (b-ts, o-ts); name = γ-ts; now = ts }, tt), (sliceVal (b-ts, o-ts) (length ts) ∷ [], tt)), tt) (and-then ! (load ! (from ! (stop !)) (look ! 38 refl)) (no-more !)) (λ v₂. answered ! tt table-rows-f.ended (table-rows-f.clauses 𝓤 H A mem run) ((κ-ts, tt), (q-ts, tt), tt, (record { ptr = (b-ts, o-ts); name = γ-ts; now = ts }, tt), (sliceVal (b-ts, o-ts) (length ts) ∷ [], tt)) tt v₂ (λ r₂ ws₂. heard ! (r₂ ≡ min (length ts) tableLimit) (λ e₂. known ! (uint w64) r₂ v₂ (λ is₂ same₂.
         land ! (from ! (stop !)) (init ! 27 refl ((uint w64) .lawful 𝓤 H A W .typed r₂ _ is₂ .0)) $ move ! (1 ∷ []) $ split ! $ move ! (1 ∷ []) $ drop ! $
         rewrite ! 27 (λ (u : Val). ‵ (fat fullShare (tyInt w64) l₉ 0 u)) (same₂) refl $ move ! (1 ∷ []) $ fsplit ! $ drop ! $ drop ! $
-        assigns ! (rep ! 600 (load ! (from ! (stop !)) (look ! 28 refl))) (from ! (stop !)) (init ! 24 refl (filled 𝓤 H A W row 600 r₁ (is-at D-Row r₁ v₁ is₁ same₁))) $
-        move ! (24 ∷ []) $ stage ! row 600 l₁₀ r₁ (is-at D-Row r₁ v₁ is₁ same₁) (λ ys₁₀ len₁₀.
+        assigns ! (rep ! tableLimit (load ! (from ! (stop !)) (look ! 28 refl))) (from ! (stop !)) (init ! 24 refl (filled 𝓤 H A W row tableLimit r₁ (is-at D-Row r₁ v₁ is₁ same₁))) $
+        move ! (24 ∷ []) $ stage ! row tableLimit l₁₀ r₁ (is-at D-Row r₁ v₁ is₁ same₁) (λ ys₁₀ len₁₀.
         assigns ! (addr ! (from ! (stop !))) (from ! (stop !)) (init ! 17 refl (tt, tt)) $
         assigns ! (agg ! (and-then ! (load ! (from ! (stop !)) (look ! 17 refl)) (and-then ! (lit ! tt) (no-more !)))) (from ! (stop !)) (init ! 15 refl (tt, (tt, (record { fits = lit< tt }, tt)))) $
         rewrite ! 15 (λ (m : ℕ). ‵ (fat fullShare (rcol mut) l₁₅ 0 (sliceVal (l₁₀, 0) m))) (sym (len₁₀)) refl $ lft-new ! tt (λ α₃a. move ! (1 ∷ []) $
-        lend-mut ! tt row (named 0) (α₃a ∷ []) ys₁₀ l₁₀ (room-of row 600 ys₁₀ (len₁₀) tt tt) (λ γ₃a.
+        lend-mut ! tt row (named 0) (α₃a ∷ []) ys₁₀ l₁₀ (room-of row tableLimit ys₁₀ (len₁₀) tt tt) (λ γ₃a.
         anew ! (uint w64) r₂ (vint w64 r₂) (is-at (uint w64) r₂ v₂ is₂ same₂) $ move ! (5 ∷ []) $
         use1 W (‵ (ShrSlice (named 0) κ-ts u64 .own (record { ptr = (b-ts, o-ts); name = γ-ts; now = ts }) (sliceVal (b-ts, o-ts) (length ts) ∷ [])) ⊛ ‵ (ShrSlice (named 0) κ-ts u64 .own (record { ptr = (b-ts, o-ts); name = γ-ts; now = ts }) (sliceVal (b-ts, o-ts) (length ts) ∷ []))) (shr-slice-copy 𝓤 H A W (named 0) κ-ts u64 .twice (record { ptr = (b-ts, o-ts); name = γ-ts; now = ts }) (sliceVal (b-ts, o-ts) (length ts) ∷ [])) $ split ! $
         move ! (10 ∷ []) $
@@ -182,7 +182,7 @@ module _ {M : Type 1} (𝓤 : URA M) (H : Heap 𝓤) (A : Atoms 𝓤) (W : Given
         rewrite ! 9 (λ (m : ℕ). ‵ (fat fullShare (rcol imm) l₁₈ 0 (sliceVal (l₁₀, 0) m))) (sym (length-take-le r₂ (ws₃ .0) (omega (arith, e₂, back₃a ∙ len₁₀)))) refl $
         lft-new ! tt (λ α₄a. move ! (24 ∷ []) $ lend-tally ! tt (named 0) (α₄a ∷ []) tl l₁₁ g-tl (λ γ₄a. anew ! D-Chain rec (D-Chain .val rec) g-rec $
         lft-new ! tt (λ α₄c. move ! (5 ∷ []) $ front ! row r₂ (ws₃ .0) l₁₀ $
-        lend-shr ! tt row (named 1) (α₄c ∷ []) (take r₂ (ws₃ .0)) l₁₀ (room-take Row-t.the-row 600 r₂ (ws₃ .0) (back₃a ∙ len₁₀) (lit< tt, lit< tt)) (λ γ₄c.
+        lend-shr ! tt row (named 1) (α₄c ∷ []) (take r₂ (ws₃ .0)) l₁₀ (room-take Row-t.the-row tableLimit r₂ (ws₃ .0) (back₃a ∙ len₁₀) (lit< tt, lit< tt)) (λ γ₄c.
         anew ! (uint w64) sa (vint w64 sa) ((refl, g-sa)) $ anew ! (uint w64) ea (vint w64 ea) ((refl, g-ea)) $ nothing ! $ move ! (1 ∷ 0 ∷ []) $ fjoin ! $
         move ! (1 ∷ 0 ∷ []) $ fjoin ! $ move ! (1 ∷ 0 ∷ []) $ fjoin ! $ move ! (4 ∷ 0 ∷ []) $ fjoin ! $ move ! (4 ∷ 0 ∷ []) $ fjoin ! $ nothing ! $
         move ! (4 ∷ 0 ∷ []) $ join ! $ move ! (5 ∷ 0 ∷ []) $ join ! $
@@ -198,10 +198,10 @@ module _ {M : Type 1} (𝓤 : URA M) (H : Heap 𝓤) (A : Atoms 𝓤) (W : Given
         anew ! D-Tally (ws₄ .0) (D-Tally .val (ws₄ .0)) back₄a $ anew ! D-RegionAnswer r₄ (D-RegionAnswer .val r₄) (is-at D-RegionAnswer r₄ v₄ is₄ same₄) $
         nothing ! $ move ! (1 ∷ 0 ∷ []) $ fjoin ! $ move ! (1 ∷ 0 ∷ []) $ fjoin ! $ nothing ! $
         enters ! tallied-f.ended (tallied-f.clauses 𝓤 H A mem run) (tt, tt, tt, (ws₄ .0, (r₄, tt)), (D-Tally .val (ws₄ .0) ∷ [], (D-RegionAnswer .val r₄ ∷ [], tt))) tt (no-need 𝓤) $
-        calls-at ! fm (Of-tallied 𝓤 H A mem run) known-tallied ((tt, tt, tt, (ws₄ .0, (r₄, tt)), (D-Tally .val (ws₄ .0) ∷ [], (D-RegionAnswer .val r₄ ∷ [], tt))), tt) (and-then ! (load ! (from ! (stop !)) (look ! 9 refl)) (and-then ! (load ! (from ! (stop !)) (look ! 23 refl)) (no-more !))) (λ v₅. answered ! tt tallied-f.ended (tallied-f.clauses 𝓤 H A mem run) (tt, tt, tt, (ws₄ .0, (r₄, tt)), (D-Tally .val (ws₄ .0) ∷ [], (D-RegionAnswer .val r₄ ∷ [], tt))) tt v₅ (λ r₅ ws₅. heard ! ((r₅ .tally ≡ ws₄ .0) × (r₅ .answer ≡ r₄)) (λ e₅. known ! D-Tallied r₅ v₅ (λ is₅ same₅.
+        calls-at ! fm (Of-tallied 𝓤 H A mem run) known-tallied ((tt, tt, tt, (ws₄ .0, (r₄, tt)), (D-Tally .val (ws₄ .0) ∷ [], (D-RegionAnswer .val r₄ ∷ [], tt))), tt) (and-then ! (load ! (from ! (stop !)) (look ! 9 refl)) (and-then ! (load ! (from ! (stop !)) (look ! 23 refl)) (no-more !))) (λ v₅. answered ! tt tallied-f.ended (tallied-f.clauses 𝓤 H A mem run) (tt, tt, tt, (ws₄ .0, (r₄, tt)), (D-Tally .val (ws₄ .0) ∷ [], (D-RegionAnswer .val r₄ ∷ [], tt))) tt v₅ (λ r₅ ws₅. heard ! ((r₅ .tally ≡ (ws₄ .0)) × (r₅ .answer ≡ r₄)) (λ e₅. known ! D-Tallied r₅ v₅ (λ is₅ same₅.
         land ! (from ! (stop !)) (init ! 46 refl (D-Tallied .lawful 𝓤 H A W .typed r₅ _ is₅ .0)) $ move ! (1 ∷ []) $ drop ! $
         rewrite ! 45 (λ (u : Val). ‵ (fat fullShare Tallied-l.mir l₀ 0 u)) (same₅) refl $ fsplit ! $ drop ! $ fsplit ! $ drop ! $ drop ! $
-        unstage ! row 600 l₁₀ (ws₃ .0) (back₃a ∙ len₁₀) $ returns ! (look ! 44 refl) $ forget ! 44 refl $ forget ! 42 refl $ forget ! 40 refl $
+        unstage ! row tableLimit l₁₀ (ws₃ .0) (back₃a ∙ len₁₀) $ returns ! (look ! 44 refl) $ forget ! 44 refl $ forget ! 42 refl $ forget ! 40 refl $
         forget ! 38 refl $ forget ! 36 refl $ forget ! 34 refl $ forget ! 32 refl $ forget ! 30 refl $ forget ! 28 refl $ forget ! 26 refl $ forget ! 1 refl $
         forget ! 22 refl $ forget ! 20 refl $ forget ! 18 refl $ forget ! 16 refl $ forget ! 14 refl $ forget ! 12 refl $ forget ! 10 refl $ forget ! 8 refl $
         move ! (44 ∷ 45 ∷ []) $ free1 ! $ move ! (42 ∷ 43 ∷ []) $ free1 ! $ move ! (40 ∷ 41 ∷ []) $ free1 ! $ move ! (38 ∷ 39 ∷ []) $ free1 ! $

@@ -1,7 +1,7 @@
--- `cases_chain::turn_chain` meets its contract: a walk of its MIR.
+-- `cases_chain::turn_chain` meets its contract: a walk of its MIR, made by tools/walks/make from tools/walks/cases.py. Do not edit.
 -- Assumes nothing.
 use mathlib.Core.Path.{_≡_, refl, sym, _∙_}
-use Prim.Native.Nat.{ℕ, _+_, _<_, _^_}
+use Prim.Native.Nat.{ℕ, _<_, _^_, min}
 use native.Mathlib.Omega.{arith}
 use mathlib.Core.List.{List, [], _∷_, _++_}
 use lib.Dec.{lit<}
@@ -41,16 +41,15 @@ use denote.Triple.Spec.{Meets, tripleOf}
 use denote.Triple.Table.{entered, cited}
 use denote.Triple.Walked.{says, Stays, stay-none, stay-none-slice, gave-slice, walkOf, AllGo, goes-none, goes-none-slice, goes-gave-slice, Walks, ends-at, walked, walk-meets}
 use denote.Exit.{yes}
-use Prim.Native.Nat.{min}
-use Rattle.cases.specs.Marks.{markedRow}
-use Rattle.rows.specs.Staging.{storedRows}
 use Rattle.ledger.specs.Limits.{blockLimit}
-use Rattle.rows.specs.Staging.{allReach, Loaded}
+use Rattle.rows.specs.Staging.{allReach, Loaded, storedRows}
+use Rattle.cases.specs.Marks.{markedRow}
 use Rattle.table_turn.specs.Turns.{RowsTurned}
-use Rattle.rows.proofs.Arrays.{row, filled, room-of, stage, unstage, lend-mut, back-mut, lend-shr, back-shr, front, mend}
+use Rattle.cases_chain.specs.Tables.{tableLimit}
+use Rattle.cases_chain.proofs.LiftLaws.{table-turned}
+use Rattle.rows.proofs.Arrays.{row, room-of, filled, stage, unstage, lend-mut, back-mut, lend-shr, back-shr, mend, front}
 use Rattle.rows.proofs.Walk.{Datum, unit, uint, struct, enum, is-at, no-need, enters, answered, known, anew}
 use Rattle.ledger.specs.declared.Row.{Row}
-use Rattle.cases_chain.proofs.LiftLaws.{table-turned}
 use Rattle.ledger.proofs.Row as Row-t
 use Rattle.ledger.proofs.Row.Laws as Row-l
 use Rattle.chain.specs.declared.Chain.{Chain}
@@ -148,7 +147,7 @@ module _ {M : Type 1} (𝓤 : URA M) (H : Heap 𝓤) (A : Atoms 𝓤) (W : Given
         use1 W (‵ (ShrSlice (named 0) κ-ts u64 .own (record { ptr = (b-ts, o-ts); name = γ-ts; now = ts }) (sliceVal (b-ts, o-ts) (length ts) ∷ [])) ⊛ ‵ (ShrSlice (named 0) κ-ts u64 .own (record { ptr = (b-ts, o-ts); name = γ-ts; now = ts }) (sliceVal (b-ts, o-ts) (length ts) ∷ []))) (shr-slice-copy 𝓤 H A W (named 0) κ-ts u64 .twice (record { ptr = (b-ts, o-ts); name = γ-ts; now = ts }) (sliceVal (b-ts, o-ts) (length ts) ∷ [])) $ split ! $
         nothing ! $ move ! (1 ∷ 0 ∷ []) $ fjoin ! $ nothing ! $ move ! (8 ∷ 0 ∷ []) $ join ! $
         enters ! table-rows-f.ended (table-rows-f.clauses 𝓤 H A mem run) ((κ-ts, tt), (q-ts, tt), tt, (record { ptr = (b-ts, o-ts); name = γ-ts; now = ts }, tt), (sliceVal (b-ts, o-ts) (length ts) ∷ [], tt)) tt (no-need 𝓤) $
-        calls-at ! fm (Of-table-rows 𝓤 H A mem run) known-table-rows (((κ-ts, tt), (q-ts, tt), tt, (record { ptr = (b-ts, o-ts); name = γ-ts; now = ts }, tt), (sliceVal (b-ts, o-ts) (length ts) ∷ [], tt)), tt) (and-then ! (load ! (from ! (stop !)) (look ! 66 refl)) (no-more !)) (λ v₂. answered ! tt table-rows-f.ended (table-rows-f.clauses 𝓤 H A mem run) ((κ-ts, tt), (q-ts, tt), tt, (record { ptr = (b-ts, o-ts); name = γ-ts; now = ts }, tt), (sliceVal (b-ts, o-ts) (length ts) ∷ [], tt)) tt v₂ (λ r₂ ws₂. heard ! (r₂ ≡ min (length ts) 600) (λ e₂. known ! (uint w64) r₂ v₂ (λ is₂ same₂.
+        calls-at ! fm (Of-table-rows 𝓤 H A mem run) known-table-rows (((κ-ts, tt), (q-ts, tt), tt, (record { ptr = (b-ts, o-ts); name = γ-ts; now = ts }, tt), (sliceVal (b-ts, o-ts) (length ts) ∷ [], tt)), tt) (and-then ! (load ! (from ! (stop !)) (look ! 66 refl)) (no-more !)) (λ v₂. answered ! tt table-rows-f.ended (table-rows-f.clauses 𝓤 H A mem run) ((κ-ts, tt), (q-ts, tt), tt, (record { ptr = (b-ts, o-ts); name = γ-ts; now = ts }, tt), (sliceVal (b-ts, o-ts) (length ts) ∷ [], tt)) tt v₂ (λ r₂ ws₂. heard ! (r₂ ≡ min (length ts) tableLimit) (λ e₂. known ! (uint w64) r₂ v₂ (λ is₂ same₂.
         land ! (from ! (stop !)) (init ! 51 refl ((uint w64) .lawful 𝓤 H A W .typed r₂ _ is₂ .0)) $ move ! (1 ∷ []) $ split ! $ move ! (1 ∷ []) $ drop ! $
         rewrite ! 51 (λ (u : Val). ‵ (fat fullShare (tyInt w64) l₁₀ 0 u)) (same₂) refl $ move ! (1 ∷ []) $ fsplit ! $ drop ! $ drop ! $
         anew ! (uint w64) room (vint w64 room) ((refl, g-room)) $ nothing ! $ move ! (1 ∷ 0 ∷ []) $ fjoin ! $ nothing ! $
@@ -156,14 +155,14 @@ module _ {M : Type 1} (𝓤 : URA M) (H : Heap 𝓤) (A : Atoms 𝓤) (W : Given
         calls-at ! fm (Of-staged-rows 𝓤 H A mem run) known-staged-rows ((tt, tt, tt, (room, tt), (vint w64 room ∷ [], tt)), tt) (and-then ! (load ! (from ! (stop !)) (look ! 61 refl)) (no-more !)) (λ v₃. answered ! tt staged-rows-f.ended (staged-rows-f.clauses 𝓤 H A mem run) (tt, tt, tt, (room, tt), (vint w64 room ∷ [], tt)) tt v₃ (λ r₃ ws₃. heard ! (r₃ ≡ min room blockLimit) (λ e₃. known ! (uint w64) r₃ v₃ (λ is₃ same₃.
         land ! (from ! (stop !)) (init ! 50 refl ((uint w64) .lawful 𝓤 H A W .typed r₃ _ is₃ .0)) $ move ! (1 ∷ []) $ drop ! $
         rewrite ! 49 (λ (u : Val). ‵ (fat fullShare (tyInt w64) l₁₁ 0 u)) (same₃) refl $ fsplit ! $ drop ! $ drop ! $
-        assigns ! (rep ! 600 (load ! (from ! (stop !)) (look ! 52 refl))) (from ! (stop !)) (init ! 46 refl (filled 𝓤 H A W row 600 r₁ (is-at D-Row r₁ v₁ is₁ same₁))) $
-        move ! (46 ∷ []) $ stage ! row 600 l₁₂ r₁ (is-at D-Row r₁ v₁ is₁ same₁) (λ ys₁₂ len₁₂.
-        assigns ! (rep ! 512 (load ! (from ! (stop !)) (look ! 52 refl))) (from ! (stop !)) (init ! 45 refl (filled 𝓤 H A W row 512 r₁ (is-at D-Row r₁ v₁ is₁ same₁))) $
-        move ! (45 ∷ []) $ stage ! row 512 l₁₃ r₁ (is-at D-Row r₁ v₁ is₁ same₁) (λ ys₁₃ len₁₃.
+        assigns ! (rep ! tableLimit (load ! (from ! (stop !)) (look ! 52 refl))) (from ! (stop !)) (init ! 46 refl (filled 𝓤 H A W row tableLimit r₁ (is-at D-Row r₁ v₁ is₁ same₁))) $
+        move ! (46 ∷ []) $ stage ! row tableLimit l₁₂ r₁ (is-at D-Row r₁ v₁ is₁ same₁) (λ ys₁₂ len₁₂.
+        assigns ! (rep ! blockLimit (load ! (from ! (stop !)) (look ! 52 refl))) (from ! (stop !)) (init ! 45 refl (filled 𝓤 H A W row blockLimit r₁ (is-at D-Row r₁ v₁ is₁ same₁))) $
+        move ! (45 ∷ []) $ stage ! row blockLimit l₁₃ r₁ (is-at D-Row r₁ v₁ is₁ same₁) (λ ys₁₃ len₁₃.
         assigns ! (addr ! (from ! (stop !))) (from ! (stop !)) (init ! 40 refl (tt, tt)) $
         assigns ! (agg ! (and-then ! (load ! (from ! (stop !)) (look ! 40 refl)) (and-then ! (lit ! tt) (no-more !)))) (from ! (stop !)) (init ! 38 refl (tt, (tt, (record { fits = lit< tt }, tt)))) $
         rewrite ! 38 (λ (m : ℕ). ‵ (fat fullShare (rcol mut) l₁₇ 0 (sliceVal (l₁₂, 0) m))) (sym (len₁₂)) refl $ lft-new ! tt (λ α₄a. move ! (2 ∷ []) $
-        lend-mut ! tt row (named 0) (α₄a ∷ []) ys₁₂ l₁₂ (room-of row 600 ys₁₂ (len₁₂) tt tt) (λ γ₄a.
+        lend-mut ! tt row (named 0) (α₄a ∷ []) ys₁₂ l₁₂ (room-of row tableLimit ys₁₂ (len₁₂) tt tt) (λ γ₄a.
         anew ! (uint w64) r₂ (vint w64 r₂) (is-at (uint w64) r₂ v₂ is₂ same₂) $ move ! (6 ∷ []) $
         use1 W (‵ (ShrSlice (named 0) κ-ts u64 .own (record { ptr = (b-ts, o-ts); name = γ-ts; now = ts }) (sliceVal (b-ts, o-ts) (length ts) ∷ [])) ⊛ ‵ (ShrSlice (named 0) κ-ts u64 .own (record { ptr = (b-ts, o-ts); name = γ-ts; now = ts }) (sliceVal (b-ts, o-ts) (length ts) ∷ []))) (shr-slice-copy 𝓤 H A W (named 0) κ-ts u64 .twice (record { ptr = (b-ts, o-ts); name = γ-ts; now = ts }) (sliceVal (b-ts, o-ts) (length ts) ∷ [])) $ split ! $
         move ! (17 ∷ []) $
@@ -186,9 +185,9 @@ module _ {M : Type 1} (𝓤 : URA M) (H : Heap 𝓤) (A : Atoms 𝓤) (W : Given
         assigns ! (agg ! (and-then ! (load ! (from ! (stop !)) (look ! 32 refl)) (and-then ! (load ! (from ! (stop !)) (look ! 48 refl)) (no-more !)))) (from ! (stop !)) (init ! 30 refl (tt, (tt, (record { fits = (is-at (uint w64) r₃ v₃ is₃ same₃) .1 }, tt)))) $
         rewrite ! 30 (λ (m : ℕ). ‵ (fat fullShare (rcol mut) l₂₁ 0 (sliceVal (l₁₃, 0) m))) (sym (length-take-le r₃ ys₁₃ (omega (arith, e₃, len₁₃)))) refl $
         anew ! D-Chain rec (D-Chain .val rec) g-rec $ lft-new ! tt (λ α₅b. move ! (2 ∷ []) $ front ! row r₂ (ws₄ .0) l₁₂ $
-        lend-shr ! tt row (named 0) (α₅b ∷ []) (take r₂ (ws₄ .0)) l₁₂ (room-take Row-t.the-row 600 r₂ (ws₄ .0) (back₄a ∙ len₁₂) (lit< tt, lit< tt)) (λ γ₅b.
+        lend-shr ! tt row (named 0) (α₅b ∷ []) (take r₂ (ws₄ .0)) l₁₂ (room-take Row-t.the-row tableLimit r₂ (ws₄ .0) (back₄a ∙ len₁₂) (lit< tt, lit< tt)) (λ γ₅b.
         lft-new ! tt (λ α₅c. move ! (12 ∷ []) $ front ! row r₃ ys₁₃ l₁₃ $
-        lend-mut ! tt row (named 1) (α₅c ∷ []) (take r₃ ys₁₃) l₁₃ (room-take Row-t.the-row 512 r₃ ys₁₃ (len₁₃) (lit< tt, lit< tt)) (λ γ₅c. nothing ! $
+        lend-mut ! tt row (named 1) (α₅c ∷ []) (take r₃ ys₁₃) l₁₃ (room-take Row-t.the-row blockLimit r₃ ys₁₃ (len₁₃) (lit< tt, lit< tt)) (λ γ₅c. nothing ! $
         move ! (1 ∷ 0 ∷ []) $ fjoin ! $ move ! (4 ∷ 0 ∷ []) $ fjoin ! $ move ! (7 ∷ 0 ∷ []) $ fjoin ! $ nothing ! $ move ! (4 ∷ 0 ∷ []) $ join ! $
         move ! (6 ∷ 0 ∷ []) $ join ! $
         enters ! turn-chain-f.ended (turn-chain-f.clauses 𝓤 H A mem run) ((α₅b ∷ [], (α₅c ∷ [], tt)), (fullShare, (fullShare, tt)), tt, (rec, (record { ptr = (l₁₂, 0); name = γ₅b; now = take r₂ (ws₄ .0) }, (record { ptr = (l₁₃, 0); name = γ₅c; now = take r₃ ys₁₃ }, tt))), (D-Chain .val rec ∷ [], (sliceVal (l₁₂, 0) (length (take r₂ (ws₄ .0))) ∷ [], (sliceVal (l₁₃, 0) (length (take r₃ ys₁₃)) ∷ [], tt)))) tt (no-need 𝓤) $
@@ -211,7 +210,7 @@ module _ {M : Type 1} (𝓤 : URA M) (H : Heap 𝓤) (A : Atoms 𝓤) (W : Given
         assigns ! (addr ! (from ! (fld ! refl (hop ! (look-in ! 54 (sub ! 0 refl (whole !))) (stop !))))) (from ! (stop !)) (init ! 16 refl (tt, tt)) $
         assigns ! (agg ! (and-then ! (load ! (from ! (stop !)) (look ! 16 refl)) (and-then ! (load ! (from ! (fld ! refl (stop !))) (look-in ! 54 (sub ! 1 refl (whole !)))) (no-more !)))) (from ! (stop !)) (init ! 14 refl (tt, (tt, (record { fits = g-nz .0 }, tt)))) $
         lft-new ! tt (λ α₆a. move ! (1 ∷ []) $
-        lend-shr ! tt row (named 0) (α₆a ∷ []) (ws₅ .1 .1 .0 ++ dropL r₃ ys₁₃) l₁₃ (room-of row 512 (ws₅ .1 .1 .0 ++ dropL r₃ ys₁₃) (same-len r₃ ys₁₃ (ws₅ .1 .1 .0) back₅c ∙ len₁₃) tt tt) (λ γ₆a.
+        lend-shr ! tt row (named 0) (α₆a ∷ []) (ws₅ .1 .1 .0 ++ dropL r₃ ys₁₃) l₁₃ (room-of row blockLimit (ws₅ .1 .1 .0 ++ dropL r₃ ys₁₃) (same-len r₃ ys₁₃ (ws₅ .1 .1 .0) back₅c ∙ len₁₃) tt tt) (λ γ₆a.
         nothing ! $ move ! (14 ∷ 0 ∷ []) $ fjoin ! $ move ! (14 ∷ 0 ∷ []) $ fjoin ! $ move ! (14 ∷ 0 ∷ []) $ fjoin ! $ move ! (1 ∷ 0 ∷ []) $ fjoin ! $
         nothing ! $ move ! (11 ∷ 0 ∷ []) $ join ! $ move ! (11 ∷ 0 ∷ []) $ join ! $ move ! (11 ∷ 0 ∷ []) $ join ! $ move ! (3 ∷ 0 ∷ []) $ join ! $
         enters ! load-rows-f.ended (load-rows-f.clauses 𝓤 H A mem run) ((α₆a ∷ [], (κ-nt, (κ-nq, (κ-nz, tt)))), (fullShare, (q-nt, (q-nq, (q-nz, tt)))), tt, (record { ptr = (l₁₃, 0); name = γ₆a; now = ws₅ .1 .1 .0 ++ dropL r₃ ys₁₃ }, (record { ptr = (b-nt, o-nt); name = γ-nt; now = nt }, (record { ptr = (b-nq, o-nq); name = γ-nq; now = nq }, (record { ptr = (b-nz, o-nz); name = γ-nz; now = nz }, tt)))), (sliceVal (l₁₃, 0) (length (ws₅ .1 .1 .0 ++ dropL r₃ ys₁₃)) ∷ [], (sliceVal (b-nt, o-nt) (length nt) ∷ [], (sliceVal (b-nq, o-nq) (length nq) ∷ [], (sliceVal (b-nz, o-nz) (length nz) ∷ [], tt))))) tt (no-need 𝓤) $
@@ -222,8 +221,8 @@ module _ {M : Type 1} (𝓤 : URA M) (H : Heap 𝓤) (A : Atoms 𝓤) (W : Given
         move ! (1 ∷ []) $ feqL ! (λ len-nt. move ! (1 ∷ []) $ fsplit ! $ fsplit ! $ move ! (1 ∷ []) $ feqL ! (λ len-nq. move ! (1 ∷ []) $ fsplit ! $ fsplit ! $
         move ! (1 ∷ []) $ feqL ! (λ len-nz. move ! (1 ∷ []) $ drop ! $ move ! (6 ∷ 7 ∷ []) $ back-shr ! tt row (ws₅ .1 .1 .0 ++ dropL r₃ ys₁₃) l₁₃ $
         assigns ! (of-opd ! (load ! (from ! (stop !)) (look ! 44 refl))) (from ! (stop !)) (init ! 70 refl (D-TurnAnswer .lawful 𝓤 H A W .typed r₅ _ (is-at D-TurnAnswer r₅ v₅ is₅ same₅) .0)) $
-        move ! (7 ∷ []) $ unstage ! row 600 l₁₂ (ws₄ .0) (back₄a ∙ len₁₂) $ move ! (1 ∷ []) $
-        unstage ! row 512 l₁₃ (ws₅ .1 .1 .0 ++ dropL r₃ ys₁₃) (same-len r₃ ys₁₃ (ws₅ .1 .1 .0) back₅c ∙ len₁₃) $ returns ! (look ! 70 refl) $
+        move ! (7 ∷ []) $ unstage ! row tableLimit l₁₂ (ws₄ .0) (back₄a ∙ len₁₂) $ move ! (1 ∷ []) $
+        unstage ! row blockLimit l₁₃ (ws₅ .1 .1 .0 ++ dropL r₃ ys₁₃) (same-len r₃ ys₁₃ (ws₅ .1 .1 .0) back₅c ∙ len₁₃) $ returns ! (look ! 70 refl) $
         forget ! 70 refl $ forget ! 68 refl $ forget ! 66 refl $ forget ! 64 refl $ forget ! 62 refl $ forget ! 60 refl $ forget ! 58 refl $ forget ! 56 refl $
         forget ! 54 refl $ forget ! 52 refl $ forget ! 50 refl $ forget ! 48 refl $ forget ! 44 refl $ forget ! 42 refl $ forget ! 40 refl $ forget ! 38 refl $
         forget ! 36 refl $ forget ! 34 refl $ forget ! 32 refl $ forget ! 30 refl $ forget ! 28 refl $ forget ! 26 refl $ forget ! 24 refl $ forget ! 22 refl $

@@ -1,7 +1,7 @@
--- `cases_chain::write_chain` meets its contract: a walk of its MIR.
+-- `cases_chain::write_chain` meets its contract: a walk of its MIR, made by tools/walks/make from tools/walks/cases.py. Do not edit.
 -- Assumes nothing.
 use mathlib.Core.Path.{_≡_, refl, sym, _∙_}
-use Prim.Native.Nat.{ℕ, _<_}
+use Prim.Native.Nat.{ℕ, min}
 use native.Mathlib.Omega.{arith}
 use mathlib.Core.List.{List, [], _∷_}
 use lib.Dec.{lit<}
@@ -29,7 +29,7 @@ use types.Tokens.{lft-new}
 use sound.WpLaws.{FmC, fmOf, WpFn-mono}
 use denote.RattleType.{owns}
 use denote.Laws.{Is}
-use denote.Builtin.{u64, u8}
+use denote.Builtin.{u8, u64}
 use denote.Slice.{sliceTy, MutSlice, ShrSlice, sliceVal, Room, slice-vals, mut-slice-tells, shr-slice-tells, shr-slice-copy}
 use denote.Signature.{plain}
 use denote.Steps.{nothing, heard}
@@ -40,15 +40,15 @@ use denote.Triple.Spec.{Meets, tripleOf}
 use denote.Triple.Table.{entered, cited}
 use denote.Triple.Walked.{says, Stays, stay-none, stay-none-slice, gave-slice, walkOf, AllGo, goes-none, goes-none-slice, goes-gave-slice, Walks, ends-at, walked, walk-meets}
 use denote.Exit.{yes}
-use Prim.Native.Nat.{min}
-use Rattle.cases.specs.Marks.{markedRow}
 use Rattle.rows.specs.Staging.{storedRows}
+use Rattle.cases.specs.Marks.{markedRow}
 use Rattle.blocks.specs.Rows.{targetsOf, queriesOf, sizesOf}
 use Rattle.chain.specs.Write.{ChainWrote}
-use Rattle.rows.proofs.Arrays.{row, filled, room-of, stage, unstage, lend-mut, back-mut, lend-shr, back-shr, front, mend}
+use Rattle.cases_chain.specs.Tables.{tableLimit}
+use Rattle.cases_chain.proofs.TableLaws.{table-wrote}
+use Rattle.rows.proofs.Arrays.{row, room-of, filled, stage, unstage, lend-mut, back-mut, lend-shr, back-shr, mend, front}
 use Rattle.rows.proofs.Walk.{Datum, unit, uint, struct, enum, is-at, no-need, enters, answered, known, anew}
 use Rattle.ledger.specs.declared.Row.{Row}
-use Rattle.cases_chain.proofs.TableLaws.{table-wrote}
 use Rattle.ledger.proofs.Row as Row-t
 use Rattle.ledger.proofs.Row.Laws as Row-l
 use Rattle.chain.specs.declared.Chain.{Chain}
@@ -132,15 +132,15 @@ module _ {M : Type 1} (𝓤 : URA M) (H : Heap 𝓤) (A : Atoms 𝓤) (W : Given
         use1 W (‵ (ShrSlice (named 0) κ-ts u64 .own (record { ptr = (b-ts, o-ts); name = γ-ts; now = ts }) (sliceVal (b-ts, o-ts) (length ts) ∷ [])) ⊛ ‵ (ShrSlice (named 0) κ-ts u64 .own (record { ptr = (b-ts, o-ts); name = γ-ts; now = ts }) (sliceVal (b-ts, o-ts) (length ts) ∷ []))) (shr-slice-copy 𝓤 H A W (named 0) κ-ts u64 .twice (record { ptr = (b-ts, o-ts); name = γ-ts; now = ts }) (sliceVal (b-ts, o-ts) (length ts) ∷ [])) $ split ! $
         nothing ! $ move ! (1 ∷ 0 ∷ []) $ fjoin ! $ nothing ! $ move ! (6 ∷ 0 ∷ []) $ join ! $
         enters ! table-rows-f.ended (table-rows-f.clauses 𝓤 H A mem run) ((κ-ts, tt), (q-ts, tt), tt, (record { ptr = (b-ts, o-ts); name = γ-ts; now = ts }, tt), (sliceVal (b-ts, o-ts) (length ts) ∷ [], tt)) tt (no-need 𝓤) $
-        calls-at ! fm (Of-table-rows 𝓤 H A mem run) known-table-rows (((κ-ts, tt), (q-ts, tt), tt, (record { ptr = (b-ts, o-ts); name = γ-ts; now = ts }, tt), (sliceVal (b-ts, o-ts) (length ts) ∷ [], tt)), tt) (and-then ! (load ! (from ! (stop !)) (look ! 38 refl)) (no-more !)) (λ v₂. answered ! tt table-rows-f.ended (table-rows-f.clauses 𝓤 H A mem run) ((κ-ts, tt), (q-ts, tt), tt, (record { ptr = (b-ts, o-ts); name = γ-ts; now = ts }, tt), (sliceVal (b-ts, o-ts) (length ts) ∷ [], tt)) tt v₂ (λ r₂ ws₂. heard ! (r₂ ≡ min (length ts) 600) (λ e₂. known ! (uint w64) r₂ v₂ (λ is₂ same₂.
+        calls-at ! fm (Of-table-rows 𝓤 H A mem run) known-table-rows (((κ-ts, tt), (q-ts, tt), tt, (record { ptr = (b-ts, o-ts); name = γ-ts; now = ts }, tt), (sliceVal (b-ts, o-ts) (length ts) ∷ [], tt)), tt) (and-then ! (load ! (from ! (stop !)) (look ! 38 refl)) (no-more !)) (λ v₂. answered ! tt table-rows-f.ended (table-rows-f.clauses 𝓤 H A mem run) ((κ-ts, tt), (q-ts, tt), tt, (record { ptr = (b-ts, o-ts); name = γ-ts; now = ts }, tt), (sliceVal (b-ts, o-ts) (length ts) ∷ [], tt)) tt v₂ (λ r₂ ws₂. heard ! (r₂ ≡ min (length ts) tableLimit) (λ e₂. known ! (uint w64) r₂ v₂ (λ is₂ same₂.
         land ! (from ! (stop !)) (init ! 29 refl ((uint w64) .lawful 𝓤 H A W .typed r₂ _ is₂ .0)) $ move ! (1 ∷ []) $ split ! $ move ! (1 ∷ []) $ drop ! $
         rewrite ! 29 (λ (u : Val). ‵ (fat fullShare (tyInt w64) l₉ 0 u)) (same₂) refl $ move ! (1 ∷ []) $ fsplit ! $ drop ! $ drop ! $
-        assigns ! (rep ! 600 (load ! (from ! (stop !)) (look ! 30 refl))) (from ! (stop !)) (init ! 26 refl (filled 𝓤 H A W row 600 r₁ (is-at D-Row r₁ v₁ is₁ same₁))) $
-        move ! (26 ∷ []) $ stage ! row 600 l₁₀ r₁ (is-at D-Row r₁ v₁ is₁ same₁) (λ ys₁₀ len₁₀.
+        assigns ! (rep ! tableLimit (load ! (from ! (stop !)) (look ! 30 refl))) (from ! (stop !)) (init ! 26 refl (filled 𝓤 H A W row tableLimit r₁ (is-at D-Row r₁ v₁ is₁ same₁))) $
+        move ! (26 ∷ []) $ stage ! row tableLimit l₁₀ r₁ (is-at D-Row r₁ v₁ is₁ same₁) (λ ys₁₀ len₁₀.
         assigns ! (addr ! (from ! (stop !))) (from ! (stop !)) (init ! 23 refl (tt, tt)) $
         assigns ! (agg ! (and-then ! (load ! (from ! (stop !)) (look ! 23 refl)) (and-then ! (lit ! tt) (no-more !)))) (from ! (stop !)) (init ! 21 refl (tt, (tt, (record { fits = lit< tt }, tt)))) $
         rewrite ! 21 (λ (m : ℕ). ‵ (fat fullShare (rcol mut) l₁₃ 0 (sliceVal (l₁₀, 0) m))) (sym (len₁₀)) refl $ lft-new ! tt (λ α₃a. move ! (1 ∷ []) $
-        lend-mut ! tt row (named 0) (α₃a ∷ []) ys₁₀ l₁₀ (room-of row 600 ys₁₀ (len₁₀) tt tt) (λ γ₃a.
+        lend-mut ! tt row (named 0) (α₃a ∷ []) ys₁₀ l₁₀ (room-of row tableLimit ys₁₀ (len₁₀) tt tt) (λ γ₃a.
         anew ! (uint w64) r₂ (vint w64 r₂) (is-at (uint w64) r₂ v₂ is₂ same₂) $ move ! (5 ∷ []) $
         use1 W (‵ (ShrSlice (named 0) κ-ts u64 .own (record { ptr = (b-ts, o-ts); name = γ-ts; now = ts }) (sliceVal (b-ts, o-ts) (length ts) ∷ [])) ⊛ ‵ (ShrSlice (named 0) κ-ts u64 .own (record { ptr = (b-ts, o-ts); name = γ-ts; now = ts }) (sliceVal (b-ts, o-ts) (length ts) ∷ []))) (shr-slice-copy 𝓤 H A W (named 0) κ-ts u64 .twice (record { ptr = (b-ts, o-ts); name = γ-ts; now = ts }) (sliceVal (b-ts, o-ts) (length ts) ∷ [])) $ split ! $
         move ! (14 ∷ []) $
@@ -166,7 +166,7 @@ module _ {M : Type 1} (𝓤 : URA M) (H : Heap 𝓤) (A : Atoms 𝓤) (W : Given
         move ! (14 ∷ []) $
         use1 W (‵ (ShrSlice (named 0) κ-nb u8 .own (record { ptr = (b-nb, o-nb); name = γ-nb; now = nb }) (sliceVal (b-nb, o-nb) (length nb) ∷ [])) ⊛ ‵ (ShrSlice (named 0) κ-nb u8 .own (record { ptr = (b-nb, o-nb); name = γ-nb; now = nb }) (sliceVal (b-nb, o-nb) (length nb) ∷ []))) (shr-slice-copy 𝓤 H A W (named 0) κ-nb u8 .twice (record { ptr = (b-nb, o-nb); name = γ-nb; now = nb }) (sliceVal (b-nb, o-nb) (length nb) ∷ [])) $ split ! $
         lft-new ! tt (λ α₄d. move ! (6 ∷ []) $ front ! row r₂ (ws₃ .0) l₁₀ $
-        lend-shr ! tt row (named 2) (α₄d ∷ []) (take r₂ (ws₃ .0)) l₁₀ (room-take Row-t.the-row 600 r₂ (ws₃ .0) (back₃a ∙ len₁₀) (lit< tt, lit< tt)) (λ γ₄d.
+        lend-shr ! tt row (named 2) (α₄d ∷ []) (take r₂ (ws₃ .0)) l₁₀ (room-take Row-t.the-row tableLimit r₂ (ws₃ .0) (back₃a ∙ len₁₀) (lit< tt, lit< tt)) (λ γ₄d.
         nothing ! $ move ! (19 ∷ 0 ∷ []) $ fjoin ! $ move ! (1 ∷ 0 ∷ []) $ fjoin ! $ move ! (4 ∷ 0 ∷ []) $ fjoin ! $ move ! (5 ∷ 0 ∷ []) $ fjoin ! $
         move ! (6 ∷ 0 ∷ []) $ fjoin ! $ nothing ! $ move ! (13 ∷ 0 ∷ []) $ join ! $ move ! (4 ∷ 0 ∷ []) $ join ! $ move ! (12 ∷ 0 ∷ []) $ join ! $
         move ! (12 ∷ 0 ∷ []) $ join ! $
@@ -179,7 +179,7 @@ module _ {M : Type 1} (𝓤 : URA M) (H : Heap 𝓤) (A : Atoms 𝓤) (W : Given
         back-shr ! tt row (take r₂ (ws₃ .0)) l₁₀ $ move ! (0 ∷ 5 ∷ []) $
         mend ! row (length (take r₂ (ws₃ .0))) (take r₂ (ws₃ .0)) (dropL r₂ (ws₃ .0)) l₁₀ refl $
         rewrite ! 0 (λ (zs : List Row). ‵ (cells (memory Row-t.the-row) zs l₁₀ 0)) (take-append-drop r₂ (ws₃ .0)) refl $
-        unstage ! row 600 l₁₀ (ws₃ .0) (back₃a ∙ len₁₀) $ returns ! (look ! 46 refl) $ forget ! 46 refl $ forget ! 44 refl $ forget ! 42 refl $
+        unstage ! row tableLimit l₁₀ (ws₃ .0) (back₃a ∙ len₁₀) $ returns ! (look ! 46 refl) $ forget ! 46 refl $ forget ! 44 refl $ forget ! 42 refl $
         forget ! 40 refl $ forget ! 38 refl $ forget ! 36 refl $ forget ! 34 refl $ forget ! 32 refl $ forget ! 30 refl $ forget ! 28 refl $ forget ! 25 refl $
         forget ! 23 refl $ forget ! 21 refl $ forget ! 19 refl $ forget ! 17 refl $ forget ! 15 refl $ forget ! 13 refl $ move ! (46 ∷ 47 ∷ []) $ free1 ! $
         move ! (44 ∷ 45 ∷ []) $ free1 ! $ move ! (42 ∷ 43 ∷ []) $ free1 ! $ move ! (40 ∷ 41 ∷ []) $ free1 ! $ move ! (38 ∷ 39 ∷ []) $ free1 ! $

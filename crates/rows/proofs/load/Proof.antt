@@ -1,4 +1,5 @@
--- `rows::load` meets its contract: a walk of its MIR. In a turn of the loop one row is copied out of the shared slice, and each of its fields is stored in a slice of its own.
+-- `rows::load` meets its contract: a walk of its MIR, made by tools/walks/make from tools/walks/rows.py. Do not edit.
+-- In a turn of the loop one row is copied out of the shared slice, and each of its fields is stored in a slice of its own.
 -- Each borrow is opened for one access and closed after it, so that the loop's state is what the three slices hold: `stored` after i turns.
 -- Assumes nothing.
 use mathlib.Core.Path.{_≡_, refl, sym, _∙_, ap, subst}
@@ -32,7 +33,7 @@ use denote.Lend.{Held}
 use denote.Memory.{pointee, shares}
 use denote.Plain.{uint-vals, uint-tells}
 use denote.Builtin.{u64, usize}
-use denote.Ref.{RefT, now}
+use denote.Ref.{RefT}
 use denote.Shadow.{pureI}
 use denote.Slice.{sliceTy, ShrSlice, MutSlice, sliceVal, Room, heres, codedHoleys, at-slice, slice-vals, shr-slice-tells, mut-slice-tells}
 use denote.Index.{place-is, elem-out, elem-back, elem-put, looks-slice, shuts-slice, opens-slice, closes-slice}
@@ -119,7 +120,7 @@ module _ {M : Type 1} (𝓤 : URA M) (H : Heap 𝓤) (A : Atoms 𝓤) (W : Given
   }
 
   abbrev Had : List (Item 𝓤)
-  Had = ‵ (fobs γt (codedHoleys u64 .code (heres u64 (now-t n)))) ∷ ‵ (fbor κt (Held u64 (length (now-t n)) bt ot γt)) ∷ ‵ (flft κt qt) ∷ ‵ (fobs γq (codedHoleys u64 .code (heres u64 (now-q n)))) ∷ ‵ (fbor κq (Held u64 (length (now-q n)) bq oq γq)) ∷ ‵ (flft κq qq) ∷ ‵ (fobs γs (codedHoleys u64 .code (heres u64 (now-s n)))) ∷ ‵ (fbor κs (Held u64 (length (now-s n)) bs os γs)) ∷ ‵ (flft κs qs′) ∷ ‵ (fres γr (codedHoleys R .code (heres R rs))) ∷ ‵ (fshr-bor κr (λ s. arr-parts (shares R) (length rs) .part s rs br or)) ∷ ‵ (flft κr qr) ∷ []
+  Had = ‵ (fobs γt (codedHoleys u64 .code (heres u64 (now-t n)))) ∷ ‵ (fbor κt (Held u64 (length (now-t n)) bt ot γt)) ∷ ‵ (flft κt qt) ∷ ‵ (fobs γq (codedHoleys u64 .code (heres u64 (now-q n)))) ∷ ‵ (fbor κq (Held u64 (length (now-q n)) bq oq γq)) ∷ ‵ (flft κq qq) ∷ ‵ (fobs γs (codedHoleys u64 .code (heres u64 (now-s n)))) ∷ ‵ (fbor κs (Held u64 (length (now-s n)) bs os γs)) ∷ ‵ (flft κs qs′) ∷ ‵ (fres γr (codedHoleys R .code (heres R rs))) ∷ ‵ (fshr-bor κr (λ z. arr-parts (shares R) (length rs) .part z rs br or)) ∷ ‵ (flft κr qr) ∷ []
 
   exits : ent 𝓤 (⋆ 𝓤 H A Had) (Post vunit)
   exits =
@@ -151,7 +152,7 @@ module _ {M : Type 1} (𝓤 : URA M) (H : Heap 𝓤) (A : Atoms 𝓤) (W : Given
         ∷ ‵ (fobs γs (codedHoleys u64 .code (heres u64 (now-s i))))
         ∷ ‵ (fbor κs (Held u64 (length (now-s i)) bs os γs))
         ∷ ‵ (flft κs qs′)
-        ∷ ‵ (fshr-bor κr (λ s. arr-parts (shares R) (length rs) .part s rs br or))
+        ∷ ‵ (fshr-bor κr (λ z. arr-parts (shares R) (length rs) .part z rs br or))
         ∷ ‵ (flft κr qr)
         ∷ ‵ (fat fullShare word l₆ 0 (vint w64 i))
         ∷ ‵ (froom T′.mir l₇ 0)

@@ -1,4 +1,5 @@
--- `rows::store` meets its contract: a walk of its MIR. In a turn of the loop one number is read from each of three shared slices, and the row of them is stored.
+-- `rows::store` meets its contract: a walk of its MIR, made by tools/walks/make from tools/walks/rows.py. Do not edit.
+-- In a turn of the loop one number is read from each of three shared slices, and the row of them is stored.
 -- Each borrow is opened for one access and closed after it, so that the loop's state is what the slice of rows holds: `stored` after i turns.
 -- Assumes nothing.
 use mathlib.Core.Path.{_≡_, refl, sym, _∙_, ap, subst}
@@ -32,7 +33,7 @@ use denote.Lend.{Held}
 use denote.Memory.{pointee, shares}
 use denote.Plain.{uint-vals, uint-tells, uint-copy}
 use denote.Builtin.{u64, usize}
-use denote.Ref.{RefT, now}
+use denote.Ref.{RefT}
 use denote.Shadow.{pureI}
 use denote.Slice.{sliceTy, ShrSlice, MutSlice, sliceVal, Room, heres, codedHoleys, at-slice, slice-vals, shr-slice-tells, mut-slice-tells}
 use denote.Index.{place-is, elem-out, elem-back, elem-put, looks-slice, shuts-slice, opens-slice, closes-slice}

@@ -1,7 +1,7 @@
--- `table_bed::read_bed` meets its contract: a walk of its MIR.
+-- `table_bed::read_bed` meets its contract: a walk of its MIR, made by tools/walks/make from tools/walks/tables.py. Do not edit.
 -- Assumes nothing.
 use mathlib.Core.Path.{_≡_, refl, sym, _∙_}
-use Prim.Native.Nat.{ℕ, _<_}
+use Prim.Native.Nat.{ℕ}
 use mathlib.Core.List.{List, [], _∷_}
 use lib.Dec.{lit<}
 use lib.ListN.{length}
@@ -39,11 +39,10 @@ use Rattle.rows.specs.Staging.{storedRows}
 use Rattle.rows.proofs.StagingLaws.{columns-of}
 use Rattle.table_bed.specs.Rows.{rowsFilled, ColumnsRead}
 use Rattle.table_bed.proofs.RowLaws.{rows-read}
-use Rattle.rows.proofs.Staged.{zeros, has-room, stage, unstage, lend-mut, back-mut, lend-shr, back-shr}
-use Rattle.rows.proofs.Walk.{Datum, unit, uint, struct, enum, is-at, no-need, need, enters, answered, known, anew}
+use Rattle.rows.proofs.Staged.{has-room, zeros, stage, unstage, lend-mut, back-mut, lend-shr, back-shr}
+use Rattle.rows.proofs.Walk.{Datum, unit, uint, enum, is-at, no-need, need, enters, answered, known, anew}
 use Rattle.ledger.specs.declared.Row.{Row}
 use Rattle.ledger.proofs.Row as Row-t
-use Rattle.ledger.proofs.Row.Laws as Row-l
 use Rattle.bed.proofs.BedAnswer as BedAnswer-t
 use Rattle.bed.proofs.BedAnswer.Laws as BedAnswer-l
 use Rattle.table_bed.proofs.read_columns as read-columns-f
@@ -65,9 +64,6 @@ use Rattle.table_bed.proofs.read_bed.Code as code
 
 abbrev col : Mutability → Ty
 col m = sliceTy (tyRef erased m (tyInt w64))
-
-abbrev D-Row : Datum
-D-Row = struct Row-t.the-type Row-l.the-laws Row-l.the-plain
 
 abbrev D-BedAnswer : Datum
 D-BedAnswer = enum BedAnswer-t.the-type BedAnswer-l.the-laws BedAnswer-l.the-plain tt

@@ -1,4 +1,4 @@
--- `table_lift::tally_region` meets its contract: a walk of its MIR.
+-- `table_lift::tally_region` meets its contract: a walk of its MIR, made by tools/walks/make from tools/walks/tables.py. Do not edit.
 -- Assumes nothing.
 use mathlib.Core.Path.{_≡_, refl, sym, _∙_}
 use Prim.Native.Nat.{ℕ, _<_, _^_}
@@ -40,25 +40,24 @@ use denote.Triple.Table.{entered, cited}
 use denote.Triple.Walked.{says, Stays, stay-none, stay-ref, stay-none-slice, walkOf, AllGo, goes-none, goes-ref, goes-none-slice, Walks, ends-at, walked, walk-meets}
 use denote.Exit.{yes}
 use Rattle.ledger.specs.Limits.{blockLimit}
-use Rattle.rows.specs.Staging.{stagedRows, allReach, Loaded}
+use Rattle.rows.specs.Staging.{allReach, Loaded, stagedRows}
 use Rattle.rows.proofs.StagingLaws.{columns-of}
 use Rattle.region.specs.Tallies.{tallyStep}
 use Rattle.table_lift.proofs.LiftLaws.{region-tallied}
-use Rattle.rows.proofs.Staged.{zeros, has-room, stage, unstage, lend-mut, back-mut, lend-shr, back-shr}
+use Rattle.rows.proofs.Staged.{has-room, zeros, stage, unstage, lend-mut, back-mut, lend-shr, back-shr}
 use Rattle.rows.proofs.Walk.{Datum, unit, uint, struct, enum, is-at, no-need, need, enters, answered, known, anew}
 use Rattle.ledger.specs.declared.Row.{Row}
 use Rattle.ledger.proofs.Row as Row-t
-use Rattle.ledger.proofs.Row.Laws as Row-l
 use Rattle.chain.specs.declared.Chain.{Chain}
 use Rattle.chain.proofs.Chain as Chain-t
 use Rattle.chain.proofs.Chain.Laws as Chain-l
 use Rattle.region.specs.declared.Tally.{Tally}
 use Rattle.region.proofs.Tally as Tally-t
 use Rattle.region.proofs.Tally.Laws as Tally-l
-use Rattle.region.proofs.RegionAnswer as RegionAnswer-t
-use Rattle.region.proofs.RegionAnswer.Laws as RegionAnswer-l
 use Rattle.region.proofs.Tallied as Tallied-t
 use Rattle.region.proofs.Tallied.Laws as Tallied-l
+use Rattle.region.proofs.RegionAnswer as RegionAnswer-t
+use Rattle.region.proofs.RegionAnswer.Laws as RegionAnswer-l
 use Rattle.rows.proofs.load_rows as load-rows-f
 use Rattle.rows.proofs.load_rows.Symbol as load-rows-def
 use Rattle.rows.proofs.load_rows.Symbol.{name as #load-rows}
@@ -75,20 +74,17 @@ use Rattle.table_lift.proofs.tally_region.Code as code
 abbrev col : Mutability → Ty
 col m = sliceTy (tyRef erased m (tyInt w64))
 
-abbrev D-Row : Datum
-D-Row = struct Row-t.the-type Row-l.the-laws Row-l.the-plain
-
 abbrev D-Chain : Datum
 D-Chain = struct Chain-t.the-type Chain-l.the-laws Chain-l.the-plain
 
 abbrev D-Tally : Datum
 D-Tally = struct Tally-t.the-type Tally-l.the-laws Tally-l.the-plain
 
-abbrev D-RegionAnswer : Datum
-D-RegionAnswer = enum RegionAnswer-t.the-type RegionAnswer-l.the-laws RegionAnswer-l.the-plain tt
-
 abbrev D-Tallied : Datum
 D-Tallied = struct Tallied-t.the-type Tallied-l.the-laws Tallied-l.the-plain
+
+abbrev D-RegionAnswer : Datum
+D-RegionAnswer = enum RegionAnswer-t.the-type RegionAnswer-l.the-laws RegionAnswer-l.the-plain tt
 
 abbrev stayed : Stays (f.ended .signature .params) (f.ended .kept)
 stayed = (stay-ref (0 ∷ []) tt (plain (λ _. Tally-t.the-row)), (stay-none (λ _. Chain-t.the-row) yes, (stay-none-slice (1 ∷ []) tt (plain (λ _. Row-t.the-row)) yes, (stay-none (λ _. u64) yes, (stay-none (λ _. u64) yes, tt)))))
