@@ -1,4 +1,4 @@
-"""The sample programs' calls over lent tables of rows: samples_bed, samples_psl and cases_chain. Each makes a table
+"""The sample programs' calls over lent tables of rows, cases_chain. Each makes a table
 with a mark in every row; its rows are filled from three columns ts, qs, zs before a call, or copied out after it."""
 import rows
 from generator.description import Callee, Walk
@@ -10,15 +10,15 @@ FILLED = "r₂ ts qs zs {table₀} {table} e₂ {table₀.length} e₃"
 NUMBERS = "(targetsOf {rs}) (queriesOf {rs}) (sizesOf {rs})"
 
 
-def walk(path, params, callees, uses, says=None, locals='table', limit='tableLimit'):
-    """A call over a table. limit: how many rows it has where it is filled, for which only cases_chain has a name."""
+def walk(path, params, callees, uses, says=None, locals='table'):
+    """A call over a table."""
     marks = {
         'row_mark': Callee('', "{r} ≡ markedRow"),
-        'table_rows': Callee('column', "{r} ≡ min (length {column}) " + limit),
+        'table_rows': Callee('column', "{r} ≡ min (length {column}) tableLimit"),
     }
     return Walk(path, params, rows.PUBLIC | marks | callees,
                 [*rows.USES, 'cases.specs.Marks', 'blocks.specs.Rows', *uses], says, locals,
-                sizes=rows.SIZES | {600: limit})
+                sizes=rows.SIZES | {600: 'tableLimit'})
 
 
 # ---- the formats
@@ -39,8 +39,6 @@ def entries(place, name, Record, uses=(), says=(None, None, None), **more):
 
 
 formats = [
-    *entries('samples_bed::tables', 'bed', 'Bed', limit='600'),
-    *entries('samples_psl::tables', 'psl', 'Psl', limit='600'),
     *entries('cases_chain', 'chain', 'Chain', ['cases_chain.specs.Tables', 'cases_chain.proofs.TableLaws'], [
         "table-read tx room r₂ {table₀} {table.front} ts {ts′} qs {qs′} zs {zs′} r₃ e₂ {table₀.length} e₃ "
         "({table.length}) e₄ len-ts len-qs len-zs",

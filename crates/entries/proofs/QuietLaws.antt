@@ -67,13 +67,13 @@ quiet-pick : (t : Bool) (a b : Outcome) → Quiet a → Quiet b → Quiet (cond 
 quiet-pick true a b p q = p
 quiet-pick false a b p q = q
 
-quiet-roomed : (end room count : ℕ) (bytes : List ℕ) → Quiet (roomed end room count bytes)
+quiet-roomed : (short : Refusal) (room count : ℕ) (bytes : List ℕ) → Quiet (roomed short room count bytes)
 unfolding roomed
-quiet-roomed end room count bytes = quiet-pick (leb (length bytes) room) (gives count bytes) (refusesBy NoRoom end) (quiet-gives count bytes) (quiet-refuses (noRoomAt end))
+quiet-roomed short room count bytes = quiet-pick (leb (length bytes) room) (gives count bytes) (refuses short) (quiet-gives count bytes) (quiet-refuses short)
 
-quiet-numbered : (end room : ℕ) (vs : List ℕ) → Quiet (numbered (noRoomAt end) room vs)
+quiet-numbered : (short : Refusal) (room : ℕ) (vs : List ℕ) → Quiet (numbered short room vs)
 unfolding numbered
-quiet-numbered (noRoomAt end) room vs = quiet-roomed end room (length vs) _
+quiet-numbered short room vs = quiet-roomed short room (length vs) _
 
 -- texts of the three formats, and what is asked of their records
 quiet-bed : (a : BedAnswer) (rest : Bed → Outcome) → ((r : Bed) → Quiet (rest r)) → Quiet (ofBed a rest)

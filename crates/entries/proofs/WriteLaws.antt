@@ -26,12 +26,12 @@ use Rattle.psl.specs.declared.Psl.{Psl}
 use Rattle.psl.specs.Write as psl-write
 use Rattle.chain.specs.declared.Chain.{Chain}
 use Rattle.chain.specs.Write as chain-write
-use Rattle.answers.specs.Answers.{told, refusalCode, Answered}
+use Rattle.answers.specs.Answers.{told, refusalCode, noRoomAt, Answered}
 use Rattle.entries.specs.Entries.{atEnd, written, copied, nameBytes, bedWritten, pslWritten, chainWritten}
 
 -- the place of a writer's refusal
 module _ (end : ℕ) (x : Refusal) (r m n : ℕ) (is : m ≡ reasonNumber (x .reason)) (room : n ≡ reasonNumber NoRoom) where
-  pub moved : m ≡ n → r ≡ refusalCode (record { reason = x .reason; place = end }) → r ≡ refusalCode (atEnd end x)
+  pub moved : m ≡ n → r ≡ refusalCode (noRoomAt end) → r ≡ refusalCode (atEnd end x)
   moved e q = rw (eq-eqb (reasonNumber (x .reason)) (reasonNumber NoRoom) (sym is ∙ e ∙ room)) q
 
   pub not-moved : (m ≡ n → ⊥) → r ≡ refusalCode x → r ≡ refusalCode (atEnd end x)

@@ -125,7 +125,7 @@ convertedNumbers start end size room = ofSpan (converted start end size) (λ x. 
 
 -- FORMAT: a writer's answer and its text; its want of room (11) stands at the text's end, its other refusals at place 0
 abbrev pub atEnd : ℕ → Refusal → Refusal
-atEnd end x = record { reason = x .reason; place = cond (eqb (reasonNumber (x .reason)) (reasonNumber NoRoom)) end (x .place) }
+atEnd end x = cond (eqb (reasonNumber (x .reason)) (reasonNumber NoRoom)) (noRoomAt end) x
 
 abbrev pub written : ℕ → Writing → List ℕ → Outcome
 written end (writing.Written n) bytes = gives n bytes

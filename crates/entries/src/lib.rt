@@ -335,7 +335,7 @@ fn refused_at_end(end: usize, x: Refusal) -> u64
     let reason = x.reason;
     let room = Reason::NoRoom;
     if reason.number() == room.number() {
-        return answers::refused_by(reason, end);
+        return answers::refused_at(Reason::NoRoom, end);
     }
     answers::refusal_code(x)
 }

@@ -1,5 +1,4 @@
 // A text read as a BED line.
-use crate::tables;
 use bed::Bed;
 use bed::BedAnswer;
 
@@ -42,7 +41,7 @@ fn put_standard(
     let chrom = text::name_in(s, r.chrom);
     let name = text::name_in(s, r.name);
     let mut buf = cases::marked_bytes();
-    let written = tables::write_bed(r, chrom, name, targets, queries, sizes, &mut buf);
+    let written = bed::write_bed(r, chrom, name, targets, queries, sizes, &mut buf);
     let a = writing::put_bytes(out, at, b" text ");
     cases::put_text(out, a, &buf, written)
 }
@@ -57,7 +56,7 @@ fn put_record_check(
     sizes: &[u64],
 ) -> usize {
     let a = writing::put_bytes(out, at, b" check ");
-    cases::put_check(out, a, tables::check_bed(r, targets, queries, sizes))
+    cases::put_check(out, a, bed::check_bed(r, targets, queries, sizes))
 }
 
 // A record's columns, and its rows; whether the rows past them were kept.
@@ -110,18 +109,22 @@ fn put_read(
     }
 }
 
-// A text read into a table of so many rows.
+// A record's blocks.
+const ROWS: usize = ledger::BLOCK_LIMIT as usize;
+
+// A text read into slices of so many numbers.
 fn read_case(s: &[u8], room: usize, out: &mut [u8], at: usize) -> usize {
     let mut targets = cases::marked_rows();
     let mut queries = cases::marked_rows();
     let mut sizes = cases::marked_rows();
-    let answer = tables::read_bed(s, room, &mut targets, &mut queries, &mut sizes);
+    let n = ledger::least(room, ROWS);
+    let answer = bed::read_bed(s, &mut targets[..n], &mut queries[..n], &mut sizes[..n]);
     put_read(out, at, s, answer, &targets, &queries, &sizes)
 }
 
 // A text read with room for 512 blocks; then the text checker.
 pub(crate) fn line_case(s: &[u8], out: &mut [u8], at: usize) -> usize {
-    let a = read_case(s, rows::ROOM, out, at);
+    let a = read_case(s, ROWS, out, at);
     put_text_check(out, a, s)
 }
 

@@ -1,7 +1,6 @@
 // A record handed to the record checker and the writer. The line's words are the word count, chromStart, chromEnd, score, strand,
 // thickStart, thickEnd, itemRgb as one number, blockCount, the room of the buffer, `=` and a name twice (chrom, name), and the rows of
 // the table, three numbers each. Only the names are escaped.
-use crate::tables;
 use bed::Bed;
 use ledger::Part;
 use writing::Writing;
@@ -41,7 +40,7 @@ fn write_within(
     room: usize,
 ) -> Writing {
     let m = ledger::least(room, buf.len());
-    tables::write_bed(r, chrom, name, targets, queries, sizes, &mut buf[0..m])
+    bed::write_bed(r, chrom, name, targets, queries, sizes, &mut buf[0..m])
 }
 
 // What the writer answers.
@@ -76,7 +75,7 @@ fn put_answers(
 ) -> usize {
     let r = record_at(line, chrom.len(), name.len());
     let a = writing::put_bytes(out, at, b"check ");
-    let b = cases::put_check(out, a, tables::check_bed(r, targets, queries, sizes));
+    let b = cases::put_check(out, a, bed::check_bed(r, targets, queries, sizes));
     let room = cases::number_at(line, 9) as usize;
     put_writing(out, b, r, chrom, name, targets, queries, sizes, room)
 }

@@ -2,7 +2,6 @@
 // Case `F` is a text, read with room for 512 blocks; `G` a text, read with room for two; `X` a record with its names and rows.
 mod lines;
 mod records;
-mod tables;
 
 // The answer of a case by its letter, from its payload as it stands and unescaped.
 fn answer(letter: u8, escaped: &[u8], payload: &[u8], out: &mut [u8], at: usize) -> usize {

@@ -1,7 +1,6 @@
 // A record handed to the record checker and the writer. The line's words are the eight counts, the strand, qSize, qStart, qEnd, tSize,
 // tStart, tEnd, blockCount, the room of the buffer, `=` and a name twice (the query's, the target's), and the rows of the table, three
 // numbers each. Only the names are escaped.
-use crate::tables;
 use ledger::Part;
 use psl::Counts;
 use psl::Psl;
@@ -58,7 +57,7 @@ fn write_within(
     room: usize,
 ) -> Writing {
     let m = ledger::least(room, buf.len());
-    tables::write_psl(r, query, target, targets, queries, sizes, &mut buf[0..m])
+    psl::write_psl(r, query, target, targets, queries, sizes, &mut buf[0..m])
 }
 
 // What the writer answers.
@@ -93,7 +92,7 @@ fn put_answers(
 ) -> usize {
     let r = record_at(line, query.len(), target.len());
     let a = writing::put_bytes(out, at, b"check ");
-    let b = cases::put_check(out, a, tables::check_psl(r, targets, queries, sizes));
+    let b = cases::put_check(out, a, psl::check_psl(r, targets, queries, sizes));
     let room = cases::number_at(line, 16) as usize;
     put_writing(out, b, r, query, target, targets, queries, sizes, room)
 }
