@@ -6,9 +6,12 @@ use Prim.Native.Nat.{ℕ, zero, suc, _+_, _-_, _≤_, _<_, max}
 use native.Mathlib.Omega.{arith}
 use lib.Dec.{leb, ltb}
 use borrow.Author.Tests.{lt-leb, le-leb, lt-ltb, le-ltb}
-use Rattle.ledger.specs.declared.Strand.{Strand}
-use Rattle.ledger.specs.declared.Strand.the-variants.{Plus, Minus, Dot}
-use Rattle.ledger.specs.declared.Reason.the-variants.{NoPair}
+use Rattle.ledger.specs.declared.Refusal.{Refusal}
+use Rattle.ledger.specs.Refusals.{withoutText}
+use Rattle.text.specs.declared.Check.the-variants as check
+use Rattle.region.specs.declared.Tally.{Tally}
+use Rattle.region.specs.Steps.{noRoom}
+use Rattle.ledger.specs.declared.Reason.the-variants.{NoRoom, NoPair}
 use Rattle.lift.specs.Pairs.{Pair, blockPairs, pairs}
 use Rattle.lift.proofs.RunLaws.{either}
 use Rattle.region.specs.declared.Reach.{Reach}
@@ -18,6 +21,9 @@ use Rattle.region.specs.Regions.{kept, dropped, consIf, partnersIn, notL
 use Rattle.region.specs.Reaches.{lap, answerOf}
 
 -- ---- the answer
+pub room-none : (t : Tally) (x : Refusal) → x ≡ withoutText NoRoom → record { tally = t; check = check.Refused x } ≡ noRoom t
+room-none t x e = rw e
+
 pub answer-none : (r : Reach) (len : ℕ) (g : RegionAnswer) → r .kept ≡ 0 → g ≡ notLifted NoPair → g ≡ answerOf r len
 answer-none r len g h e = rw (lt-leb 1 (r .kept) (omega arith)) e
 

@@ -161,7 +161,7 @@ module _ (k : Strand) (size first span : ℕ) (h : 1 ≤ span) (l : first + span
   low-in : (xs : List ℕ) → List·Memᴰ (forwardOn k size first) xs → List·Memᴰ (forwardOn k size (first + span - 1)) xs → List·Memᴰ (strandStart k size first (first + span)) xs
   low-in xs m n = go k m n
     where
-      e : size - 1 - (first + span - 1) ≡ size - (first + span)
+      e : size - (first + span - 1 + 1) ≡ size - (first + span)
       e = omega arith
 
       go : (k : Strand) → List·Memᴰ (forwardOn k size first) xs → List·Memᴰ (forwardOn k size (first + span - 1)) xs → List·Memᴰ (strandStart k size first (first + span)) xs
@@ -172,7 +172,7 @@ module _ (k : Strand) (size first span : ℕ) (h : 1 ≤ span) (l : first + span
   high-in : (xs : List ℕ) → List·Memᴰ (forwardOn k size first) xs → List·Memᴰ (forwardOn k size (first + span - 1)) xs → List·Memᴰ (strandEnd k size first (first + span) - 1) xs
   high-in xs m n = go k m n
     where
-      e : size - 1 - first ≡ size - first - 1
+      e : size - (first + 1) ≡ size - first - 1
       e = omega arith
 
       go : (k : Strand) → List·Memᴰ (forwardOn k size first) xs → List·Memᴰ (forwardOn k size (first + span - 1)) xs → List·Memᴰ (strandEnd k size first (first + span) - 1) xs

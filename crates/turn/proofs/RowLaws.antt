@@ -46,7 +46,7 @@ pairs-swapped (b ∷ bs) =
 
 -- ---- with `-`: from the other end
 abbrev back : ℕ → ℕ → ℕ
-back size s = size - 1 - s
+back size s = size - (s + 1)
 
 block-last : (f : ℕ → ℕ) (t q n : ℕ) → blockPairs f t q (suc n) ≡ blockPairs f t q n ++ (pair (t + n) (f (q + n)) ∷ [])
 unfolding blockPairs

@@ -13,13 +13,8 @@ Inv-loop k size n starts sizes out₀ i₀ out i = Filled (startAt k size n star
 abbrev μ-loop : tie.MeasureT-loop
 μ-loop k size n starts sizes out₀ i₀ out i = n - i
 
-add-new-start : tie.Need-add-new-start Inv-loop μ-loop
-add-new-start c =
-    let j = c .before .before .source-of in
-    omega (arith, c .before .before .before .before .before .before .before .before .pre .within (j .result) (j .ensures .1))
-
-new-start-requires : tie.Need-new-start-requires Inv-loop μ-loop
-new-start-requires c κs =
+add-strand-start : tie.Need-add-strand-start Inv-loop μ-loop
+add-strand-start c =
     let j = c .before .before .source-of in
     omega (arith, c .before .before .before .before .before .before .before .before .pre .within (j .result) (j .ensures .1))
 
@@ -27,8 +22,8 @@ loop-again : tie.Need-loop-again Inv-loop μ-loop
 loop-again c =
     let o = c .before .before .before .before .before .before .before .before .before .args in let l = c .before .before .before .before .before .loop in
     let j = c .before .before .before .source-of in
-    fill-step (startAt (o .k) (o .size) (o .n) (o .starts .now) (o .sizes .now)) (o .n) (l .i) _ _ (c .new-start .result) (l .inv) (search needs)
-    (start-is (o .k) (o .size) (o .n) (o .starts .now) (o .sizes .now) (l .i) (j .result) (c .new-start .result) (j .ensures .0) (c .new-start .ensures))
+    fill-step (startAt (o .k) (o .size) (o .n) (o .starts .now) (o .sizes .now)) (o .n) (l .i) _ _ (c .strand-start .result) (l .inv) (search needs)
+    (start-is (o .k) (o .size) (o .n) (o .starts .now) (o .sizes .now) (l .i) (j .result) (c .strand-start .result) (j .ensures .0) (c .strand-start .ensures))
 
 pub fill-starts-spec : {M : Type 1} → statement M
 fill-starts-spec =
@@ -42,8 +37,8 @@ fill-starts-spec =
     (λ c. search needs)
     (λ c. search needs)
     (λ c. search needs)
-    add-new-start
-    new-start-requires
+    add-strand-start
+    (λ c κs. search needs)
     (λ c. search needs)
     (λ c. search needs)
     (λ c. search needs)
