@@ -58,10 +58,10 @@ block-last f t q (suc n) =
 same-end : (m q n : ℕ) → m - (suc q + n) ≡ m - (q + suc n)
 same-end m q n = omega arith
 
-last-base : (m q n : ℕ) → q + suc n ≤ m → m - (q + suc n) + n ≡ m - 1 - q
+last-base : (m q n : ℕ) → q + suc n ≤ m → m - (q + suc n) + n ≡ m - (q + 1)
 last-base m q n h = omega arith
 
-back-again : (m t n : ℕ) → t + suc n ≤ m → m - 1 - (m - (t + suc n) + n) ≡ t
+back-again : (m t n : ℕ) → t + suc n ≤ m → m - (m - (t + suc n) + n + 1) ≡ t
 back-again m t n h = omega arith
 
 block-turned : (ts qs t q n : ℕ) → t + n ≤ ts → q + n ≤ qs → blockPairs (back ts) (qs - (q + n)) (ts - (t + n)) n ≡ reverse (map swapPair (blockPairs (back qs) t q n))
@@ -72,7 +72,7 @@ block-turned ts qs t q (suc n) h k =
     = ap₂ (λ (a b : ℕ). blockPairs (back ts) a b n) (sym (same-end qs q n)) (sym (same-end ts t n)) ∙ block-turned ts qs (suc t) (suc q) n (omega arith) (omega arith) in
     block-last (back ts) (qs - (q + suc n)) (ts - (t + suc n)) n
     ∙ ap₂ (λ (l : List Pair) (z : Pair). l ++ (z ∷ [])) i (ap₂ pair (last-base qs q n k) (back-again ts t n h))
-    ∙ sym (reverse-cons (pair (qs - 1 - q) t) (map swapPair (blockPairs (back qs) (suc t) (suc q) n)))
+    ∙ sym (reverse-cons (pair (qs - (q + 1)) t) (map swapPair (blockPairs (back qs) (suc t) (suc q) n)))
 
 module _ (ts qs te qe : ℕ) (h : te ≤ ts) (k : qe ≤ qs) where
   pub pairs-turned : (a b : ℕ) (bs : List Row) → Run te qe a b bs → pairsOf (back ts) (reverse (map (turnRow ts qs) bs)) ≡ reverse (map swapPair (pairsOf (back qs) bs))
