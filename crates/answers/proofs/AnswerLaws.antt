@@ -61,21 +61,21 @@ code-of r x y e h = rw e at h
 pub refused-is : (x : Refusal) (b : List ℕ) (r : ℕ) → r ≡ refusalCode x → Answered (refuses x) b b r
 refused-is x b r e = record { is = e; left = refl }
 
+-- what was put at the front, and the rest as before
+pub put-front : (bytes b b′ : List ℕ) → length bytes ≤ length b → b′ ≡ sets b 0 bytes → b′ ≡ bytes ++ drop (length bytes) b
+put-front bytes b b′ h f =
+    let z : 0 + length bytes ≡ length bytes = omega arith in
+    let s : sets b 0 bytes ≡ bytes ++ drop (0 + length bytes) b = sets-eq bytes b 0 (omega arith) in
+    f ∙ rw z at s
+
 module _ (short : Refusal) (count : ℕ) (bytes b : List ℕ) where
   pub room-short : (r : ℕ) → length b < length bytes → r ≡ refusalCode short → Answered (roomed short (length b) count bytes) b b r
   unfolding roomed
   room-short r h e = rw (lt-leb (length bytes) (length b) h) (refused-is short b r e)
 
-  -- what was put at the front, and the rest as before
-  pub put-front : (b′ : List ℕ) → length bytes ≤ length b → b′ ≡ sets b 0 bytes → b′ ≡ bytes ++ drop (length bytes) b
-  put-front b′ h f =
-      let z : 0 + length bytes ≡ length bytes = omega arith in
-      let s : sets b 0 bytes ≡ bytes ++ drop (0 + length bytes) b = sets-eq bytes b 0 (omega arith) in
-      f ∙ rw z at s
-
   pub room-put : (b′ : List ℕ) (r : ℕ) → length bytes ≤ length b → b′ ≡ sets b 0 bytes → r ≡ told count → Answered (roomed short (length b) count bytes) b b′ r
   unfolding roomed
-  room-put b′ r h f e = rw (le-leb (length bytes) (length b) h) (record { is = e; left = put-front b′ h f })
+  room-put b′ r h f e = rw (le-leb (length bytes) (length b) h) (record { is = e; left = put-front bytes b b′ h f })
 
 -- numbers
 module _ (short : Refusal) (vs b : List ℕ) where

@@ -28,7 +28,7 @@ module _ (t : Tally) (b : List ℕ) where
   unfolding tallyKept
   tally-some b′ p h f =
       let n : length (tallyBytes t) ≡ 3 * wordSize = words-length (t .asked ∷ t .kept ∷ t .dropped ∷ []) in
-      let q = put-front 0 0 (tallyBytes t) b b′ (omega arith) (f .stored) in
+      let q = put-front (tallyBytes t) b b′ (omega arith) (f .stored) in
       rw (le-leb (3 * wordSize) (length b) h) (rw n at q)
 
 -- the ways out

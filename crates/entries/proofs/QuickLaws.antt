@@ -14,7 +14,8 @@ use Rattle.bed.specs.declared.Bed.{Bed}
 use Rattle.bed.specs.declared.BedAnswer.{BedAnswer}
 use Rattle.bed.specs.declared.BedAnswer.the-variants as bed
 use Rattle.bed.specs.Records.{bedTargets, bedQueries, bedSizes, bedRows}
-use Rattle.bed.specs.Read.{bedCheck, rowsAfter, BedRead}
+use Rattle.blocks.specs.Readers.{rowsAfter}
+use Rattle.bed.specs.Read.{onAnswer, bedCheck, BedRead}
 use Rattle.bed.specs.Write.{bedWrite}
 use Rattle.bed.specs.Standard.{Standard}
 use Rattle.bed_laws.proofs.WritableLaws.{accepted-writable, chrom-handed, name-back}
@@ -44,9 +45,9 @@ module _ (s b₁ ts b₂ qs b₃ zs b : List ℕ) (x : BedAnswer) (f : BedRead s
   first-rows =
       let n = a .blockCount in
       let room = read-of (bed-reads s) (rowsOf b₁ b₂ b₃) a (sym (f .is) ∙ e) .1 in
-      let et : ts ≡ sets b₁ 0 (bedTargets s a) = f .targets ∙ ap (λ (y : BedAnswer). rowsAfter y (bedTargets s) b₁) e in
-      let eq : qs ≡ sets b₂ 0 (bedQueries s a) = f .queries ∙ ap (λ (y : BedAnswer). rowsAfter y (bedQueries s) b₂) e in
-      let ez : zs ≡ sets b₃ 0 (bedSizes s a) = f .sizes ∙ ap (λ (y : BedAnswer). rowsAfter y (bedSizes s) b₃) e in
+      let et : ts ≡ sets b₁ 0 (bedTargets s a) = f .targets ∙ ap (λ (y : BedAnswer). rowsAfter onAnswer y (bedTargets s) b₁) e in
+      let eq : qs ≡ sets b₂ 0 (bedQueries s a) = f .queries ∙ ap (λ (y : BedAnswer). rowsAfter onAnswer y (bedQueries s) b₂) e in
+      let ez : zs ≡ sets b₃ 0 (bedSizes s a) = f .sizes ∙ ap (λ (y : BedAnswer). rowsAfter onAnswer y (bedSizes s) b₃) e in
       let t : take n ts ≡ bedTargets s a = rw et (front n (bedTargets s a) b₁ (bed-reads s .targets a accepted) (omega arith)) in
       let q : take n qs ≡ bedQueries s a = rw eq (front n (bedQueries s a) b₂ (bed-reads s .queries a accepted) (omega arith)) in
       let z : take n zs ≡ bedSizes s a = rw ez (front n (bedSizes s a) b₃ (bed-reads s .sizes a accepted) (omega arith)) in

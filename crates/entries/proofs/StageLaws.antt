@@ -7,6 +7,7 @@ use lib.ListN.{length, take, drop, length-take, length-drop}
 use lib.Seq.{sets, sets-eq, length-sets, take-append-seam, take-take}
 use Rattle.ledger.specs.Limits.{blockLimit}
 use Rattle.ledger.specs.declared.Refusal.{Refusal}
+use Rattle.blocks.specs.Readers.{rowsAfter}
 use Rattle.blocks.specs.Blocks.{rowsOf}
 use Rattle.rows.proofs.ReaderLaws.{Reads}
 use Rattle.bed.specs.declared.BedAnswer.{BedAnswer}
@@ -14,6 +15,7 @@ use Rattle.bed.specs.Records.{bedTargets, bedQueries, bedSizes}
 use Rattle.bed.specs.Read.{BedRead}
 use Rattle.bed.specs.Read as bed-read
 use Rattle.table_bed.proofs.RowLaws.{bed-reads}
+use Rattle.psl.specs.declared.Psl.{Psl}
 use Rattle.psl.specs.declared.PslAnswer.{PslAnswer}
 use Rattle.psl.specs.Records.{pslTargets, pslQueries, pslSizes}
 use Rattle.psl.specs.Read.{PslRead}
@@ -75,27 +77,27 @@ module _ (s b₁ ts b₂ qs b₃ zs : List ℕ) (st : Staging b₁ b₂ b₃) wh
   bed-staged x f = record {
     is = staged-is (bed-reads s) b₁ b₂ b₃ st x (f .is);
     held = λ r e. staged-held (bed-reads s) b₁ b₂ b₃ st x (f .is) ts qs zs r e
-        (f .targets ∙ ap (λ (y : BedAnswer). bed-read.rowsAfter y (bedTargets s) b₁) e)
-        (f .queries ∙ ap (λ (y : BedAnswer). bed-read.rowsAfter y (bedQueries s) b₂) e)
-        (f .sizes ∙ ap (λ (y : BedAnswer). bed-read.rowsAfter y (bedSizes s) b₃) e);
+        (f .targets ∙ ap (λ (y : BedAnswer). rowsAfter bed-read.onAnswer y (bedTargets s) b₁) e)
+        (f .queries ∙ ap (λ (y : BedAnswer). rowsAfter bed-read.onAnswer y (bedQueries s) b₂) e)
+        (f .sizes ∙ ap (λ (y : BedAnswer). rowsAfter bed-read.onAnswer y (bedSizes s) b₃) e);
   }
 
   pub psl-staged : (x : PslAnswer) → PslRead s b₁ ts b₂ qs b₃ zs x → PslStaged s ts qs zs x
   psl-staged x f = record {
     is = staged-is (psl-reads s) b₁ b₂ b₃ st x (f .is);
     held = λ r e. staged-held (psl-reads s) b₁ b₂ b₃ st x (f .is) ts qs zs r e
-        (f .targets ∙ ap (λ (y : PslAnswer). psl-read.rowsAfter y (pslTargets s) b₁) e)
-        (f .queries ∙ ap (λ (y : PslAnswer). psl-read.rowsAfter y (pslQueries s) b₂) e)
-        (f .sizes ∙ ap (λ (y : PslAnswer). psl-read.rowsAfter y (pslSizes s) b₃) e);
+        (f .targets ∙ ap (λ (y : PslAnswer). rowsAfter psl-read.onAnswer y (λ (r : Psl). pslTargets s) b₁) e)
+        (f .queries ∙ ap (λ (y : PslAnswer). rowsAfter psl-read.onAnswer y (λ (r : Psl). pslQueries s) b₂) e)
+        (f .sizes ∙ ap (λ (y : PslAnswer). rowsAfter psl-read.onAnswer y (λ (r : Psl). pslSizes s) b₃) e);
   }
 
   pub chain-staged : (x : ChainAnswer) → ChainRead s b₁ ts b₂ qs b₃ zs x → ChainStaged s ts qs zs x
   chain-staged x f = record {
     is = staged-is (chain-reads s) b₁ b₂ b₃ st x (f .is);
     held = λ r e. staged-held (chain-reads s) b₁ b₂ b₃ st x (f .is) ts qs zs r e
-        (f .targets ∙ ap (λ (y : ChainAnswer). chain-read.rowsAfter y (chainTargets s) b₁) e)
-        (f .queries ∙ ap (λ (y : ChainAnswer). chain-read.rowsAfter y (chainQueries s) b₂) e)
-        (f .sizes ∙ ap (λ (y : ChainAnswer). chain-read.rowsAfter y (chainSizes s) b₃) e);
+        (f .targets ∙ ap (λ (y : ChainAnswer). rowsAfter chain-read.onAnswer y (chainTargets s) b₁) e)
+        (f .queries ∙ ap (λ (y : ChainAnswer). rowsAfter chain-read.onAnswer y (chainQueries s) b₂) e)
+        (f .sizes ∙ ap (λ (y : ChainAnswer). rowsAfter chain-read.onAnswer y (chainSizes s) b₃) e);
   }
 
 -- the working rooms of two readers as three parts

@@ -52,14 +52,14 @@ module _ (answer : RegionAnswer) (t : Tally) (b : List ℕ) (room : TallyRoom an
   pub tally-lifted : (x : Region) (b′ : List ℕ) (p r : ℕ) → answer ≡ region.Lifted x → Put (tallyBytes t) 0 b b′ p → r ≡ told (x .kept) → Answered (ofTallied answer t) b b′ r
   tally-lifted x b′ p r e f q =
       let l : length (tallyBytes t) ≤ length b = omega (arith, three, room .lifted x e) in
-      rw e (record { is = q; left = put-front 0 0 (tallyBytes t) b b′ l (f .stored) })
+      rw e (record { is = q; left = put-front (tallyBytes t) b b′ l (f .stored) })
 
   module _ (x : Refusal) (e : answer ≡ region.Refused x) (m n : ℕ) (is : m ≡ reasonNumber (x .reason)) (none : n ≡ reasonNumber NoPair) where
     pub tally-alone : (b′ : List ℕ) (p r : ℕ) → m ≡ n → Put (tallyBytes t) 0 b b′ p → r ≡ refusalCode x → Answered (ofTallied answer t) b b′ r
     tally-alone b′ p r k f q =
         let j : reasonNumber (x .reason) ≡ reasonNumber NoPair = sym is ∙ k ∙ none in
         let l : length (tallyBytes t) ≤ length b = omega (arith, three, room .alone x e j) in
-        rw (e, eq-eqb (reasonNumber (x .reason)) (reasonNumber NoPair) j) (record { is = q; left = put-front 0 0 (tallyBytes t) b b′ l (f .stored) })
+        rw (e, eq-eqb (reasonNumber (x .reason)) (reasonNumber NoPair) j) (record { is = q; left = put-front (tallyBytes t) b b′ l (f .stored) })
 
     pub tally-left : (r : ℕ) → (m ≡ n → ⊥) → r ≡ refusalCode x → Answered (ofTallied answer t) b b r
     tally-left r k q = rw (e, ne-eqb (reasonNumber (x .reason)) (reasonNumber NoPair) (λ j. k (is ∙ j ∙ sym none))) (refused-is x b r q)
