@@ -16,7 +16,7 @@ use Rattle.blocks.specs.Blocks.{orderFrom, blocksFill, allBetween, rowNumbersFi
 use Rattle.blocks.specs.Rows.{tableOf}
 use Rattle.chain.specs.Table.{chainColumns, blockColumns}
 use Rattle.chain.specs.Records.{chainRecord, lineValues, sizeAt, targetGap, queryGap, targetsFrom, queriesFrom, sizesFrom, chainTargets, chainQueries, chainSizes, chainRows}
-use Rattle.chain.specs.Read.{spanCheck, blockWords, blockNumbers, blockLine, linesFrom, fillCheck, roomCheck, afterLast, afterLines, afterSpans, afterColumns, afterWords, afterText, chainCheck, chainRead}
+use Rattle.chain.specs.Read.{spanCheck, blockWords, blockNumbers, blockLine, linesFrom, fillCheck, afterLast, afterLines, afterSpans, afterColumns, afterWords, afterText, chainStages, chainCheck, chainRoomed, chainRead}
 use Rattle.chain_laws.proofs.Vectors.{chainA as recordA, rowsA}
 use Rattle.chain.specs.Tests.{namesFit, fieldsFit, spansFit, rowsFit, chainValid}
 use Rattle.chain.specs.Write.{headWords, gapWords, blockText, chainText}
@@ -33,7 +33,7 @@ use Rattle.demands.specs.Samples as samples
 
 -- what the reader makes of chain A
 read-a : chainRead chainA blockLimit ≡ chain.Accepted recordA
-unfolding run endOf piecesOf linesOf nonEmpty wordsOf lineOf lineEnd nextLine nextWord wordAt wordCount bytesOf textCheck lastLineCheck wellSpelt valueFrom value numberOf sameBytes nameOf strandOf fixedOf spelt fieldFrom columnsFrom valuesFrom chainColumns blockColumns chainRecord lineValues wordsCheck countCheck spanCheck blockWords blockNumbers blockLine linesFrom fillCheck roomCheck afterLast afterLines afterSpans afterColumns afterWords afterText chainCheck chainRead
+unfolding run endOf piecesOf linesOf nonEmpty wordsOf lineOf lineEnd nextLine nextWord wordAt wordCount bytesOf textCheck lastLineCheck wellSpelt valueFrom value numberOf sameBytes nameOf strandOf fixedOf spelt fieldFrom columnsFrom valuesFrom chainColumns blockColumns chainRecord lineValues wordsCheck countCheck spanCheck blockWords blockNumbers blockLine linesFrom fillCheck afterLast afterLines afterSpans afterColumns afterWords afterText chainCheck chainStages chainRoomed chainRead
 read-a = refl
 
 rows-a : chainRows chainA recordA ≡ rowsA
@@ -77,5 +77,5 @@ pub read-ok : answerTo chainA read-chain ≡ samples.accepted
 read-ok = rw read-a
 
 pub long-a : answerTo chainLong read-chain ≡ refused 9 56
-unfolding run endOf piecesOf linesOf nonEmpty wordsOf lineOf lineEnd nextLine nextWord wordAt wordCount bytesOf textCheck lastLineCheck wellSpelt valueFrom value numberOf sameBytes nameOf strandOf fixedOf spelt fieldFrom columnsFrom valuesFrom chainColumns blockColumns chainRecord lineValues wordsCheck countCheck spanCheck blockWords blockNumbers blockLine linesFrom fillCheck roomCheck afterLast afterLines afterSpans afterColumns afterWords afterText chainCheck chainRead
+unfolding run endOf piecesOf linesOf nonEmpty wordsOf lineOf lineEnd nextLine nextWord wordAt wordCount bytesOf textCheck lastLineCheck wellSpelt valueFrom value numberOf sameBytes nameOf strandOf fixedOf spelt fieldFrom columnsFrom valuesFrom chainColumns blockColumns chainRecord lineValues wordsCheck countCheck spanCheck blockWords blockNumbers blockLine linesFrom fillCheck afterLast afterLines afterSpans afterColumns afterWords afterText chainCheck chainStages chainRoomed chainRead
 long-a = refl

@@ -18,7 +18,7 @@ use Rattle.ledger.specs.Strands.{isTold}
 use Rattle.text.specs.declared.Check.{Check}
 use Rattle.text.specs.declared.Check.the-variants.{Holds}
 use Rattle.text.specs.declared.Check.the-variants as check
-use Rattle.text.specs.Checks.{require}
+use Rattle.text.specs.Checks.{refused}
 use Rattle.writing.specs.declared.Writing.the-variants as writing
 use Rattle.writing.specs.Answers.{roomAnswer}
 use Rattle.writing.specs.Answers as answers
@@ -68,7 +68,7 @@ use Rattle.binary.specs.Bytes.{wordsBytes}
 use Rattle.answers.specs.Answers.{mostTold, told, Outcome, gives, refuses, refusalCode, Answered, roomed, numbered, recorded, noRoomAt}
 use Rattle.entries.specs.Entries.{byKind, ofBed, ofPsl, ofChain, ofNumbers, ofSpan, ofPosition, ofRegion, ofTurn, ofTallied, atEnd, nameBytes, written, bedWritten, pslWritten, chainWritten, checkedBed, checkedPsl, checkedChain, checked, parsedBed, parsedPsl, parsedChain, parsed, formattedBed, formattedPsl, formattedChain, formatted, numbersGiven, convertedNumbers, positionLifted, regionLifted, turnWritten, turnedText, tallyIn, tallyBytes, tallied, onCheck, batchLifted, BatchTold}
 use Rattle.demands.specs.Demand1.{Ended, with-count, with-place}
-use Rattle.demands.proofs.PlaceLaws.{placeOf, required}
+use Rattle.demands.proofs.PlaceLaws.{placeOf, demanded}
 use Rattle.demands.proofs.TextPlaceLaws.{bedPlace, bed-in, pslPlace, psl-in, numbersPlace, numbers-in, chainPlace, chain-in}
 
 -- an outcome that ends so
@@ -118,12 +118,12 @@ writing-ends : (end : ℕ) (c : Check) (n room : ℕ) (bytes : List ℕ) → pla
 unfolding roomAnswer
 writing-ends end (check.Refused x) n room bytes h = code-ends end (atEnd end x) (go (eqb (reasonNumber (x .reason)) (reasonNumber NoRoom)))
   where
-    go : (t : Bool) → cond t end (x .place) ≤ end
+    go : (t : Bool) → cond t (noRoomAt end) x .place ≤ end
     go true = le-refl end
     go false = omega arith
 writing-ends end Holds n room bytes h = go (leb n textLimit) (leb n room)
   where
-    go : (t u : Bool) → Ends end (written end (answers.require t TextTooLong (answers.require u NoRoom (writing.Written n))) bytes)
+    go : (t u : Bool) → Ends end (written end (require t (answers.unwritten TextTooLong) (require u (answers.unwritten NoRoom) (writing.Written n))) bytes)
     go true true = gives-ends end n bytes
     go true false = code-ends end (noRoomAt end) (le-refl end)
     go false u = code-ends end (withoutText TextTooLong) zero-le
@@ -133,7 +133,7 @@ unfolding roomAnswer
 write-place (check.Refused y) n room x h e = let q : x ≡ y = cc in rw q (omega arith)
 write-place Holds n room x h e = go (leb n textLimit) (leb n room) e
   where
-    go : (t u : Bool) → writing.Refused x ≡ answers.require t TextTooLong (answers.require u NoRoom (writing.Written n)) → x .place ≡ 0
+    go : (t u : Bool) → writing.Refused x ≡ require t (answers.unwritten TextTooLong) (require u (answers.unwritten NoRoom) (writing.Written n)) → x .place ≡ 0
     go true true k = absurd (let z : _≡_ {A = ℕ} 0 1 = cc in omega arith)
     go true false k = cc
     go false u k = cc
@@ -142,32 +142,32 @@ bed-place : (r : Bed) (chrom name ts qs zs : List ℕ) → placeOf (bed.writeChe
 unfolding bed.writeCheck
 bed-place r chrom name ts qs zs =
     let n = r .blockCount in
-    required 0 (countFits n (rowsOf ts qs zs)) BlockRules 0 _ zero-le
-    (required 0 (bed.namesShow r chrom name && bedTests.strandFits r) BadWord 0 _ zero-le
-    (required 0 (bedTests.fieldsFit r && rowNumbersFit (take n ts) (take n qs) (take n zs)) NumberOutOfRange 0 _ zero-le
-    (required 0 (bedTests.spansFit r) SpanDisagrees 0 _ zero-le
-    (required 0 (bedTests.rowsFit r (take n ts) (take n qs) (take n zs)) BlockRules 0 Holds zero-le zero-le))))
+    demanded (countFits n (rowsOf ts qs zs)) BlockRules _
+    (demanded (bed.namesShow r chrom name && bedTests.strandFits r) BadWord _
+    (demanded (bedTests.fieldsFit r && rowNumbersFit (take n ts) (take n qs) (take n zs)) NumberOutOfRange _
+    (demanded (bedTests.spansFit r) SpanDisagrees _
+    (demanded (bedTests.rowsFit r (take n ts) (take n qs) (take n zs)) BlockRules Holds zero-le))))
 
 psl-place : (r : Psl) (query target ts qs zs : List ℕ) → placeOf (psl.writeCheck r query target ts qs zs) ≤ 0
 unfolding psl.writeCheck
 psl-place r query target ts qs zs =
     let n = r .blockCount in
-    required 0 (countFits n (rowsOf ts qs zs)) BlockRules 0 _ zero-le
-    (required 0 (psl.wordsShow r query target) BadWord 0 _ zero-le
-    (required 0 (pslTests.fieldsFit r && rowNumbersFit (take n ts) (take n qs) (take n zs)) NumberOutOfRange 0 _ zero-le
-    (required 0 (pslTests.spansFit r) SpanDisagrees 0 _ zero-le
-    (required 0 (rowsFit r (take n ts) (take n qs) (take n zs)) BlockRules 0 _ zero-le
-    (required 0 (countsFit (r .counts) (take n ts) (take n qs) (take n zs)) CountsDisagree 0 Holds zero-le zero-le)))))
+    demanded (countFits n (rowsOf ts qs zs)) BlockRules _
+    (demanded (psl.wordsShow r query target) BadWord _
+    (demanded (pslTests.fieldsFit r && rowNumbersFit (take n ts) (take n qs) (take n zs)) NumberOutOfRange _
+    (demanded (pslTests.spansFit r) SpanDisagrees _
+    (demanded (rowsFit r (take n ts) (take n qs) (take n zs)) BlockRules _
+    (demanded (countsFit (r .counts) (take n ts) (take n qs) (take n zs)) CountsDisagree Holds zero-le)))))
 
 chain-place : (r : Chain) (target query ts qs zs : List ℕ) → placeOf (chain.writeCheck r target query ts qs zs) ≤ 0
 unfolding chain.writeCheck
 chain-place r target query ts qs zs =
     let n = r .blockCount in
-    required 0 (countFits n (rowsOf ts qs zs)) BlockRules 0 _ zero-le
-    (required 0 (chain.namesShow target query && isTold (r .qStrand)) BadWord 0 _ zero-le
-    (required 0 (chainTests.fieldsFit r && rowNumbersFit (take n ts) (take n qs) (take n zs)) NumberOutOfRange 0 _ zero-le
-    (required 0 (chainTests.spansFit r) SpanDisagrees 0 _ zero-le
-    (required 0 (chainTests.rowsFit r (take n ts) (take n qs) (take n zs)) BlockRules 0 Holds zero-le zero-le))))
+    demanded (countFits n (rowsOf ts qs zs)) BlockRules _
+    (demanded (chain.namesShow target query && isTold (r .qStrand)) BadWord _
+    (demanded (chainTests.fieldsFit r && rowNumbersFit (take n ts) (take n qs) (take n zs)) NumberOutOfRange _
+    (demanded (chainTests.spansFit r) SpanDisagrees _
+    (demanded (chainTests.rowsFit r (take n ts) (take n qs) (take n zs)) BlockRules Holds zero-le))))
 
 -- so a refused writer is at place 0
 module _ (ts qs zs : List ℕ) (room : ℕ) (x : Refusal) where
@@ -311,7 +311,7 @@ unfolding batchLifted textBatchCheck
 batch-ends s regions lent lent′ b b′ r h = answered-ends (length s) _ b b′ r (go (roomInBytes regions (length b)) (chainCheck s) (chain-in s)) (h .rowsTold)
   where
     go : (v : Bool) (x : ChainAnswer) → chainPlace x ≤ length s
-        → Ends (length s) (onCheck (require v NoRoom 0 (ofChecked check.Refused (λ _. check.Holds) x)) refuses (gives (length regions / regionSize) (rowsBytes (answerRows (tallyIn lent) (sentText s regions (length b))))))
+        → Ends (length s) (onCheck (require v (refused NoRoom) (ofChecked check.Refused (λ _. check.Holds) x)) refuses (gives (length regions / regionSize) (rowsBytes (answerRows (tallyIn lent) (sentText s regions (length b))))))
     go true (chainAnswer.Accepted c) k = gives-ends (length s) (length regions / regionSize) (rowsBytes (answerRows (tallyIn lent) (sentText s regions (length b))))
     go true (chainAnswer.Refused x) k = code-ends (length s) x k
     go false x k = code-ends (length s) (withoutText NoRoom) zero-le

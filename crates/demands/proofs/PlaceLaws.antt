@@ -1,5 +1,5 @@
 -- Every refusal of a text stands in it: its place is no more than the text's length. Assumes nothing.
-use mathlib.Core.Path.{_≡_}
+use mathlib.Core.Path.{_≡_, refl}
 use mathlib.Core.Bool.{Bool, true, false, not, _&&_, cond}
 use mathlib.Core.List.{List, [], _∷_}
 use Prim.Native.Nat.{ℕ, zero, suc, _+_, _-_, _*_, _≤_, zero-le}
@@ -12,6 +12,9 @@ use Rattle.ledger.specs.declared.Reason.the-variants.{TextTooLong, WrongCount, 
 use Rattle.ledger.specs.Limits.{textLimit, nameLimit, colourLimit}
 use Rattle.text.specs.declared.Class.{Class}
 use Rattle.text.specs.declared.Class.the-variants.{Blank, Word, Line, Allowed, Item}
+use Rattle.text.specs.declared.Stage.{Stage}
+use Rattle.text.specs.declared.Stage.the-variants.{Passes}
+use Rattle.text.specs.declared.Stage.the-variants as stage
 use Rattle.text.specs.declared.Check.{Check}
 use Rattle.text.specs.declared.Check.the-variants.{Holds}
 use Rattle.text.specs.declared.Check.the-variants as check
@@ -19,12 +22,13 @@ use Rattle.text.specs.declared.Extent.{Extent}
 use Rattle.text.specs.Scan.{isIn, endOf}
 use Rattle.text.specs.Pieces.{onto, piecesOf, nonEmpty, wordsOf}
 use Rattle.text.specs.Words.{lineEnd, nextLine, nextWord, wordAt, bytesOf}
-use Rattle.text.specs.Checks.{require, textCheck, wordsCheck, lastLineCheck}
+use Rattle.ledger.specs.declared.Fault.{Fault}
+use Rattle.ledger.specs.Refusals.{require}
+use Rattle.text.specs.Checks.{fault, refused, thenCheck, textCheck, wordsCheck, lastLineCheck}
 use Rattle.text.proofs.ShowLaws.{scan-in, next-in, word-in, line-in}
 use Rattle.numbers.specs.declared.Spelt.{Spelt}
 use Rattle.numbers.specs.declared.Spelt.the-variants.{Means, Faulty}
 use Rattle.numbers.specs.Spelling.{faultIn}
-use Rattle.numbers.specs.Spelling as spelling
 use Rattle.numbers.specs.Numbers.{wellSpelt, value, numberOf}
 use Rattle.numbers.specs.Lists.{itemsOf, orItem, testItems, openEnd, thenCount, listEnd, listOf}
 use Rattle.kinds.specs.declared.Kind.{Kind}
@@ -34,36 +38,50 @@ use Rattle.kinds.specs.Kinds.{countAfter, fixedText, isStrand, wholeOf, nameOf,
 use Rattle.columns.specs.declared.Columns.{Columns}
 use Rattle.columns.specs.declared.Columns.the-variants.{Next}
 use Rattle.columns.specs.declared.Columns.the-variants as columns
-use Rattle.columns.specs.Columns.{fieldOf, fieldFrom, thenColumns, columnsFrom, thenNumbers, valuesFrom}
-use Rattle.columns.specs.OneLine.{countCheck, thenLine, thenLast, lineRead}
+use Rattle.columns.specs.Columns.{fieldOf, fieldFrom, thenColumns, thenNext, columnsFrom, thenNumbers, valuesFrom}
+use Rattle.columns.specs.OneLine.{countCheck, thenLast, lineRead}
 use Rattle.demands.proofs.LengthLaws.{spread}
 
--- ---- where a check is refused
+-- ---- where a stage has its fault, and where a check of a record is refused
+abbrev pub faultPlace : Stage → ℕ
+faultPlace Passes = 0
+faultPlace (stage.Faulty x) = x .place
+
 abbrev pub placeOf : Check → ℕ
 placeOf Holds = 0
 placeOf (check.Refused x) = x .place
 
-pub required : (n : ℕ) (t : Bool) (why : Reason) (at : ℕ) (rest : Check) → at ≤ n → placeOf rest ≤ n → placeOf (require t why at rest) ≤ n
+pub required : (n : ℕ) (t : Bool) (why : Reason) (at : ℕ) (rest : Stage) → at ≤ n → faultPlace rest ≤ n → faultPlace (require t (fault why at) rest) ≤ n
 required n true why at rest h k = k
 required n false why at rest h k = h
 
+pub demanded : (t : Bool) (why : Reason) (rest : Check) → placeOf rest ≤ 0 → placeOf (require t (refused why) rest) ≤ 0
+demanded true why rest k = k
+demanded false why rest k = zero-le
+
+-- a stage, then the rest, for answers of any type that have a place
+module _ {A : Type 0} (place : A → ℕ) (stop : Fault → A) (n : ℕ) (same : (x : Fault) → place (stop x) ≡ x .place) where
+  pub then-place : (c : Stage) (rest : A) → faultPlace c ≤ n → place rest ≤ n → place (thenCheck stop c rest) ≤ n
+  then-place Passes rest h k = k
+  then-place (stage.Faulty x) rest h k = rw (same x) h
+
 module _ (s : List ℕ) where
-  pub text-place : placeOf (textCheck s) ≤ length s
+  pub text-place : faultPlace (textCheck s) ≤ length s
   unfolding textCheck
   text-place =
       required (length s) (leb (length s) textLimit) TextTooLong 0 _ zero-le
-      (required (length s) (leb (length s) (endOf Allowed s 0)) ByteNotAllowed (endOf Allowed s 0) Holds (scan-in s Allowed 0 zero-le) zero-le)
+      (required (length s) (leb (length s) (endOf Allowed s 0)) ByteNotAllowed (endOf Allowed s 0) Passes (scan-in s Allowed 0 zero-le) zero-le)
 
-  pub words-place : (line n most : ℕ) (good : Bool) → line ≤ length s → placeOf (wordsCheck s line n most good) ≤ length s
+  pub words-place : (line n most : ℕ) (good : Bool) → line ≤ length s → faultPlace (wordsCheck s line n most good) ≤ length s
   unfolding wordsCheck lineEnd
-  words-place line n most good h = required (length s) (leb n most) WrongCount _ _ (word-in s line most h .0) (required (length s) good WrongCount _ Holds (scan-in s Line line h) zero-le)
+  words-place line n most good h = required (length s) (leb n most) WrongCount _ _ (word-in s line most h .0) (required (length s) good WrongCount _ Passes (scan-in s Line line h) zero-le)
 
-  pub last-place : (line : ℕ) → line ≤ length s → placeOf (lastLineCheck s line) ≤ length s
+  pub last-place : (line : ℕ) → line ≤ length s → faultPlace (lastLineCheck s line) ≤ length s
   unfolding lastLineCheck
-  last-place line h = required (length s) (leb (length s) (nextLine s line)) WrongCount _ Holds (next-in s (nextLine s line) (line-in s line h) .0) zero-le
+  last-place line h = required (length s) (leb (length s) (nextLine s line)) WrongCount _ Passes (next-in s (nextLine s line) (line-in s line h) .0) zero-le
 
 -- ---- a fault in a word stands in it
-fault-require : (n : ℕ) (t : Bool) (why : Reason) (at : ℕ) (rest : Spelt) → at ≤ n → faultIn rest ≤ n → faultIn (spelling.require t why at rest) ≤ n
+fault-require : (n : ℕ) (t : Bool) (why : Reason) (at : ℕ) (rest : Spelt) → at ≤ n → faultIn rest ≤ n → faultIn (require t (Faulty why at) rest) ≤ n
 fault-require n true why at rest h k = k
 fault-require n false why at rest h k = h
 
@@ -111,8 +129,8 @@ unfolding listOf listEnd itemsOf
 list-near least most comma n w = go (testItems least most 0 0 (piecesOf Item w)) (omega (arith, items-near least most 0 0 (piecesOf Item w), pieces-spread Item w))
   where
     go : (x : Spelt) → faultIn x ≤ length w
-        → faultIn (thenCount x (λ m. spelling.require (not (openEnd comma w)) NumberMisspelt (length w) (spelling.require (eqb m n) ListLength 0 (Means m)))) ≤ length w
-    go (Means m) h = fault-require (length w) (not (openEnd comma w)) NumberMisspelt (length w) (spelling.require (eqb m n) ListLength 0 (Means m)) (le-refl (length w)) (fault-require (length w) (eqb m n) ListLength 0 (Means m) zero-le zero-le)
+        → faultIn (thenCount x (λ m. require (not (openEnd comma w)) (Faulty NumberMisspelt (length w)) (require (eqb m n) (Faulty ListLength 0) (Means m)))) ≤ length w
+    go (Means m) h = fault-require (length w) (not (openEnd comma w)) NumberMisspelt (length w) (require (eqb m n) (Faulty ListLength 0) (Means m)) (le-refl (length w)) (fault-require (length w) (eqb m n) ListLength 0 (Means m) zero-le zero-le)
     go (Faulty why at) h = h
 
 colour-near : (w : List ℕ) → faultIn (colourOf w) ≤ length w
@@ -137,7 +155,7 @@ spelt-near Colour n w = colour-near w
 -- ---- the columns of a line
 abbrev pub columnsPlace : Columns → ℕ
 columnsPlace (Next e) = 0
-columnsPlace (columns.Refused x) = x .place
+columnsPlace (columns.Faulty x) = x .place
 
 module _ (s : List ℕ) where
   fault-in : (w : Extent) (off : ℕ) → w .start ≤ length s → off ≤ length (bytesOf s w) → w .start + off ≤ length s
@@ -170,12 +188,16 @@ module _ (s : List ℕ) where
   -- a text of one line
   pub line-place : (cs : List Kind) → columnsPlace (lineRead cs s) ≤ length s
   unfolding lineRead countCheck
-  line-place cs = then-line (textCheck s) _ (text-place s) (then-line (wordsCheck s 0 _ _ _) _ (words-place s 0 _ _ _ zero-le) (then-last (columnsFrom cs 0 s 0) (columns-place cs 0 0 zero-le)))
+  line-place cs =
+      let at = then-place columnsPlace columns.Faulty (length s) (λ x. refl) in
+      at (textCheck s) _ (text-place s) (at (wordsCheck s 0 _ _ _) _ (words-place s 0 _ _ _ zero-le) (then-last (columnsFrom cs 0 s 0) (columns-place cs 0 0 zero-le)))
     where
-      then-line : (c : Check) (rest : Columns) → placeOf c ≤ length s → columnsPlace rest ≤ length s → columnsPlace (thenLine c rest) ≤ length s
-      then-line Holds rest h k = k
-      then-line (check.Refused x) rest h k = h
-
       then-last : (x : Columns) → columnsPlace x ≤ length s → columnsPlace (thenLast x (lastLineCheck s 0)) ≤ length s
-      then-last (Next e) h = then-line (lastLineCheck s 0) (Next e) (last-place s 0 zero-le) zero-le
-      then-last (columns.Refused y) h = h
+      then-last (Next e) h = then-place columnsPlace columns.Faulty (length s) (λ x. refl) (lastLineCheck s 0) (Next e) (last-place s 0 zero-le) zero-le
+      then-last (columns.Faulty y) h = h
+
+-- and the columns, then the rest
+module _ {A : Type 0} (place : A → ℕ) (stop : Fault → A) (n : ℕ) (same : (x : Fault) → place (stop x) ≡ x .place) where
+  pub next-place : (c : Columns) (rest : A) → columnsPlace c ≤ n → place rest ≤ n → place (thenNext stop c rest) ≤ n
+  next-place (Next e) rest h k = k
+  next-place (columns.Faulty x) rest h k = rw (same x) h

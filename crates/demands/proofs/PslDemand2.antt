@@ -29,7 +29,6 @@ use Rattle.psl.specs.Tests.{fieldsFit, spansFit, pslValid}
 use Rattle.psl.specs.Write.{wordsShow, writeCheck, pslText, pslWrite, recordCheck}
 use Rattle.psl_laws.proofs.LineLaws.{line-targets, line-queries, line-sizes, line-of, line-is}
 use Rattle.psl_laws.proofs.RuleLaws.{rules-of, rules-is}
-use Rattle.psl.proofs.BackWordLaws.{on-renamed}
 use Rattle.psl_laws.proofs.BackLaws.{back-query, back-target}
 use Rattle.demands.specs.Formats.{Names}
 use Rattle.demands.specs.Demand2.{Demand2}
@@ -50,7 +49,7 @@ use Rattle.columns.proofs.WordLaws.{graphic-all}
 -- where the blocks start and end does not depend on the names
 rows-named : (r : Psl) (ns : Names) (ts qs zs : List ℕ) → rowsFit (named r (ns .first) (ns .second)) ts qs zs ≡ rowsFit r ts qs zs
 unfolding rowsFit
-rows-named r ns ts qs zs = on-renamed (λ (a b : ℕ). (blocksFill (r .target .start) (r .target .end) ts zs && blocksFill a b qs zs) ≡ rowsFit r ts qs zs) (r .strand) (r .query) (partAt 0 (length (ns .first))) refl
+rows-named r ns ts qs zs = refl
 
 -- the test of a record sees only the lengths of its names
 valid-named : (r : Psl) (ns : Names) (ts qs zs : List ℕ) → length (ns .first) ≡ r .query .name .length → length (ns .second) ≡ r .target .name .length → pslValid r ts qs zs ≡ true → pslValid (named r (ns .first) (ns .second)) ts qs zs ≡ true

@@ -12,10 +12,10 @@ use Rattle.blocks.specs.Blocks.{orderFrom, blocksFill, sumOf, gapsFrom, basesFr
 use Rattle.psl.specs.Table.{pslColumns}
 use Rattle.psl.specs.Records.{countsOf, sideOf, pslRecord, pslSizes, pslQueries, pslTargets}
 use Rattle.psl.specs.Rows.{rowsFit, countsFit}
-use Rattle.psl.specs.Read.{spanCheck, rowCheck, roomCheck, afterLine, pslCheck, pslRead}
+use Rattle.psl.specs.Read.{spanCheck, rowCheck, afterLine, pslStages, pslCheck, pslRead}
 use Rattle.columns.specs.OneLine.{countCheck, lineRead}
 use Rattle.demands.specs.Samples.{read-psl, accepted, refused, answerTo, pslLine, pslReversed}
 
 pub psl-a : (answerTo pslLine read-psl ≡ accepted) × (answerTo pslReversed read-psl ≡ refused 9 71)
-unfolding run endOf piecesOf linesOf nonEmpty wordsOf lineOf lineEnd nextLine nextWord wordAt wordCount bytesOf textCheck lastLineCheck wordsCheck wellSpelt valueFrom value numberOf itemsOf testItems lastByte openEnd listEnd listOf valuesOf nameOf strandOf spelt fieldFrom columnsFrom valuesFrom orderFrom blocksFill sumOf gapsFrom basesFrom gapCount gapBases pslColumns countsOf sideOf pslRecord pslSizes pslQueries pslTargets rowsFit countsFit spanCheck rowCheck roomCheck afterLine pslCheck pslRead countCheck lineRead
+unfolding run endOf piecesOf linesOf nonEmpty wordsOf lineOf lineEnd nextLine nextWord wordAt wordCount bytesOf textCheck lastLineCheck wordsCheck wellSpelt valueFrom value numberOf itemsOf testItems lastByte openEnd listEnd listOf valuesOf nameOf strandOf spelt fieldFrom columnsFrom valuesFrom orderFrom blocksFill sumOf gapsFrom basesFrom gapCount gapBases pslColumns countsOf sideOf pslRecord pslSizes pslQueries pslTargets rowsFit countsFit spanCheck rowCheck afterLine pslCheck pslStages pslRead countCheck lineRead
 psl-a = (refl, refl)

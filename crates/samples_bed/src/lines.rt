@@ -112,13 +112,26 @@ fn put_read(
 // A record's blocks.
 const ROWS: usize = ledger::BLOCK_LIMIT as usize;
 
-// A text read into slices of so many numbers.
+// A text read with room for so many blocks, or for as many as the slices have.
+fn read_with(
+    s: &[u8],
+    room: usize,
+    targets: &mut [u64],
+    queries: &mut [u64],
+    sizes: &mut [u64],
+) -> BedAnswer {
+    let t = ledger::least(room, targets.len());
+    let q = ledger::least(room, queries.len());
+    let z = ledger::least(room, sizes.len());
+    bed::read_bed(s, &mut targets[..t], &mut queries[..q], &mut sizes[..z])
+}
+
+// The same of marked slices.
 fn read_case(s: &[u8], room: usize, out: &mut [u8], at: usize) -> usize {
     let mut targets = cases::marked_rows();
     let mut queries = cases::marked_rows();
     let mut sizes = cases::marked_rows();
-    let n = ledger::least(room, ROWS);
-    let answer = bed::read_bed(s, &mut targets[..n], &mut queries[..n], &mut sizes[..n]);
+    let answer = read_with(s, room, &mut targets, &mut queries, &mut sizes);
     put_read(out, at, s, answer, &targets, &queries, &sizes)
 }
 
