@@ -1,2 +1,3 @@
 mod CaseLaws
 pub mod LineLaws
+pub mod PartLaws

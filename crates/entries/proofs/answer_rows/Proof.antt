@@ -5,18 +5,24 @@ use borrow.Author.Needs.{needs}
 use Rattle.entries.proofs.answer_rows.Statement.{statement}
 use Rattle.entries.proofs.answer_rows.Tie as tie
 
+slice-aggregate-answer-record : tie.Need-slice-aggregate-answer-record
+slice-aggregate-answer-record c = search (room-front, part-count)
+
+mul-answer-record-2 : tie.Need-mul-answer-record-2
+mul-answer-record-2 c = search needs
+
 pub answer-rows-spec : {M : Type 1} → statement M
 answer-rows-spec =
     tie.close
     (tie.spec
     (λ c. search needs)
     (λ c. search needs)
-    (λ c. search (room-front, part-count))
+    slice-aggregate-answer-record
     (λ c. search needs)
     (λ c. search needs)
     (λ c. search needs)
     (λ c. search needs)
-    (λ c. search needs)
+    mul-answer-record-2
     (λ c. search needs)
     (λ c. search needs)
     (λ c. search needs)

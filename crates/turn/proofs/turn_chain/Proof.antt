@@ -38,6 +38,9 @@ module _ (e : Passed) where
 returns : tie.Need-returns
 returns c = record { is = search turn-bad; targets = search as-before; queries = search as-before; sizes = search as-before }
 
+not-turned-requires-2 : tie.Need-not-turned-requires-2
+not-turned-requires-2 c κs = search needs
+
 returns-2 : tie.Need-returns-2
 returns-2 c = record { is = search turn-full; targets = search as-before; queries = search as-before; sizes = search as-before }
 
@@ -71,7 +74,7 @@ turn-chain-spec =
     (λ c κs. search needs)
     returns
     (λ c κs. search needs)
-    (λ c κs. search needs)
+    not-turned-requires-2
     (λ c. search needs)
     (λ c. search needs)
     (λ c. search needs)
