@@ -23,7 +23,7 @@ use text::{Check, Extent, Stage};
 use writing::Writing;
 
 // The record of a BED line. A name is a part of the text; a colour is one number, (red × 256 + green) × 256 + blue.
-#[derive(Drop)]
+#[derive(Clone, Copy)]
 pub struct Bed {
     pub words: u64,
     pub chrom: Part,
@@ -39,14 +39,14 @@ pub struct Bed {
 }
 
 // What the stages of reading a line find.
-#[derive(Drop)]
+#[derive(Clone, Copy)]
 pub enum BedReading {
     Read(Bed),
     Faulty(Fault),
 }
 
 // What a caller is told.
-#[derive(Drop)]
+#[derive(Clone, Copy)]
 pub enum BedAnswer {
     Accepted(Bed),
     Refused(Refusal),
@@ -332,7 +332,7 @@ fn check_long(text: &[u8]) -> BedReading
 }
 
 // A reading of the quick way, which holds where it is sure.
-#[derive(Drop)]
+#[derive(Clone, Copy)]
 pub struct Sure {
     pub sure: bool,
     pub reading: BedReading,

@@ -5,7 +5,7 @@ use crate::byte_at;
 use text::Class;
 
 // What the front of an escaped text stands for: a byte, how many times, and how many bytes spell that.
-#[derive(Drop)]
+#[derive(Clone, Copy)]
 struct Unescaped {
     byte: u8,
     times: usize,

@@ -148,7 +148,7 @@ pub fn tally_region(
 }
 
 // The tally after a batch of regions, and whether the batch was answered.
-#[derive(Drop)]
+#[derive(Clone, Copy)]
 pub struct BatchAnswer {
     pub tally: Tally,
     pub check: Check,

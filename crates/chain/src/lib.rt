@@ -62,7 +62,7 @@ use text::{Check, Class, Stage};
 use writing::Writing;
 
 // The record of a chain. A name is a part of the text; with `-`, qStart and qEnd count on the reversed query.
-#[derive(Drop)]
+#[derive(Clone, Copy)]
 pub struct Chain {
     pub score: u64,
     pub tName: Part,
@@ -79,21 +79,21 @@ pub struct Chain {
 }
 
 // What the stages of a reader find: the record, or the first fault.
-#[derive(Drop)]
+#[derive(Clone, Copy)]
 pub enum ChainReading {
     Read(Chain),
     Faulty(Fault),
 }
 
 // What a caller is told.
-#[derive(Drop)]
+#[derive(Clone, Copy)]
 pub enum ChainAnswer {
     Accepted(Chain),
     Refused(Refusal),
 }
 
 // One block line: the last one's size; or a size and the gaps after it on the target and on the query; or the fault.
-#[derive(Drop)]
+#[derive(Clone, Copy)]
 pub enum BlockLine {
     Last(u64),
     Gap(u64, u64, u64),
@@ -101,7 +101,7 @@ pub enum BlockLine {
 }
 
 // Where the block lines end: the last line's place, the number of blocks, and where the last block ends on either side.
-#[derive(Drop)]
+#[derive(Clone, Copy)]
 pub struct Ending {
     pub line: usize,
     pub count: u64,
@@ -110,7 +110,7 @@ pub struct Ending {
 }
 
 // All block lines: where they end, or the first fault.
-#[derive(Drop)]
+#[derive(Clone, Copy)]
 pub enum Lines {
     Ended(Ending),
     Faulty(Fault),
@@ -314,7 +314,7 @@ fn take_number(text: &[u8], at: usize, least: u64) -> Taken
 }
 
 // What follows a place on its line: whether no word does, and then where the next line begins.
-#[derive(Drop)]
+#[derive(Clone, Copy)]
 pub struct Rest {
     pub bare: bool,
     pub next: usize,
@@ -338,7 +338,7 @@ fn rest_of(text: &[u8], at: usize) -> Rest
 
 // A block line with gaps, taken in one pass, and where the next line begins. Where it is not good, the line has to be
 // read with more care.
-#[derive(Drop)]
+#[derive(Clone, Copy)]
 pub struct Quick {
     pub good: bool,
     pub size: u64,
@@ -377,7 +377,7 @@ fn quick_last(text: &[u8], line: usize) -> Taken
 }
 
 // A block line, and where the next line begins if one has to.
-#[derive(Drop)]
+#[derive(Clone, Copy)]
 pub struct Step {
     pub block: BlockLine,
     pub next: usize,
@@ -521,7 +521,7 @@ fn after_columns(text: &[u8], end: usize, values: &[u64], rows: &mut [u64]) -> C
 }
 
 // A header taken in one pass: whether it is good, and then its columns.
-#[derive(Drop)]
+#[derive(Clone, Copy)]
 pub struct Head {
     pub good: bool,
     pub word: Got,

@@ -25,14 +25,14 @@ use writing::Writing;
 pub const COLUMN_LIMIT: usize = 64;
 
 // One column read: its value and where its word stands, or the fault.
-#[derive(Drop)]
+#[derive(Clone, Copy)]
 pub enum Field {
     Good(u64, Extent),
     Bad(Fault),
 }
 
 // All columns read: the place after the last word, or the first fault.
-#[derive(Drop)]
+#[derive(Clone, Copy)]
 pub enum Columns {
     Next(usize),
     Faulty(Fault),
@@ -78,7 +78,7 @@ fn read_field(
 }
 
 // A column taken alone: whether it is good, then its value, and where its word stands.
-#[derive(Drop)]
+#[derive(Clone, Copy)]
 pub struct Got {
     pub good: bool,
     pub value: u64,
@@ -380,7 +380,7 @@ pub fn walk_text(text: &[u8], table: &[u8], out: &mut [u64], lists: &mut [u64]) 
 }
 
 // A line's words taken in one walk. Where they are good: how many there are, where the last of them ends, and where the line does.
-#[derive(Drop)]
+#[derive(Clone, Copy)]
 pub struct Quick {
     pub good: bool,
     pub count: usize,

@@ -12,7 +12,7 @@ use ledger::Reason;
 use numbers::Spelt;
 
 // The ranges of numbers; least and greatest are in specs/Kinds.antt.
-#[derive(Drop)]
+#[derive(Clone, Copy)]
 pub enum Range {
     Coordinate,
     Size,
@@ -23,14 +23,14 @@ pub enum Range {
 }
 
 // The words that a format fixes.
-#[derive(Drop)]
+#[derive(Clone, Copy)]
 pub enum Fixed {
     Chain,
     Plus,
 }
 
 // The kinds of column. A strand's flag tells whether `.` is one.
-#[derive(Drop)]
+#[derive(Clone, Copy)]
 pub enum Kind {
     Name,
     Number(Range),

@@ -44,7 +44,7 @@ pub fn least(a: usize, b: usize) -> usize
 }
 
 // A position in a sequence, a size or a count: 01's coordinate.
-#[derive(Drop)]
+#[derive(Clone, Copy)]
 pub struct Position {
     pub base: u64,
 }
@@ -62,7 +62,7 @@ impl Position {
 }
 
 // Why a call is refused, in the order of 01's refusal ledger.
-#[derive(Drop)]
+#[derive(Clone, Copy)]
 pub enum Reason {
     TextTooLong,
     WrongCount,
@@ -103,7 +103,7 @@ impl Reason {
 }
 
 // What is wrong with a text, inside the library: why, and the byte offset.
-#[derive(Drop)]
+#[derive(Clone, Copy)]
 pub struct Fault {
     pub reason: Reason,
     pub place: usize,
@@ -111,7 +111,7 @@ pub struct Fault {
 
 // What a caller is told: why, and the place: a byte offset in the text, 0 for a call without a text. Made in the
 // outermost functions alone, and only by the two functions below.
-#[derive(Drop)]
+#[derive(Clone, Copy)]
 pub struct Refusal {
     pub reason: Reason,
     pub place: usize,
@@ -138,7 +138,7 @@ impl Refusal {
 }
 
 // The strand kind of 01: `+`, `-`, or `.` where none is told.
-#[derive(Drop)]
+#[derive(Clone, Copy)]
 pub enum Strand {
     Plus,
     Minus,
@@ -146,7 +146,7 @@ pub enum Strand {
 }
 
 // The strand of a letter, where the letter is one.
-#[derive(Drop)]
+#[derive(Clone, Copy)]
 pub enum Lettered {
     Is(Strand),
     NoStrand,
@@ -211,7 +211,7 @@ impl Strand {
 }
 
 // A row of a lent table, one block: where it starts on the target and on the query (with `-`, on the reversed query), and its size.
-#[derive(Drop)]
+#[derive(Clone, Copy)]
 pub struct Row {
     pub target: u64,
     pub query: u64,
@@ -219,7 +219,7 @@ pub struct Row {
 }
 
 // Where a name stands in a text: its first byte and its length.
-#[derive(Drop)]
+#[derive(Clone, Copy)]
 pub struct Part {
     pub start: usize,
     pub length: usize,

@@ -14,27 +14,27 @@ use ledger::{Position, Reason, Refusal, Strand};
 use text::Check;
 
 // A span of a sequence: its first base, and the base after its last.
-#[derive(Drop)]
+#[derive(Clone, Copy)]
 pub struct Span {
     pub start: u64,
     pub end: u64,
 }
 
-#[derive(Drop)]
+#[derive(Clone, Copy)]
 pub enum SpanAnswer {
     Converted(Span),
     Refused(Refusal),
 }
 
 // What looking up a target base finds: its partner, or none.
-#[derive(Drop)]
+#[derive(Clone, Copy)]
 pub enum Partner {
     Base(u64),
     Alone,
 }
 
 // A position's partner and the drift, partner minus position; or the refusal.
-#[derive(Drop)]
+#[derive(Clone, Copy)]
 pub enum PositionAnswer {
     Lifted(u64, i64),
     Refused(Refusal),

@@ -9,14 +9,14 @@ use numbers::Spelt;
 use text::{Class, Stage};
 
 // How many numbers a text has, or its first fault.
-#[derive(Drop)]
+#[derive(Clone, Copy)]
 pub enum NumbersReading {
     Counted(usize),
     Faulty(Fault),
 }
 
 // The same, as a caller is told.
-#[derive(Drop)]
+#[derive(Clone, Copy)]
 pub enum NumbersAnswer {
     Accepted(usize),
     Refused(Refusal),
@@ -117,7 +117,7 @@ fn read_tested(text: &[u8], out: &mut [u8]) -> NumbersReading
 }
 
 // Numbers taken from a line. Where they are not good, the line has to be read with more care.
-#[derive(Drop)]
+#[derive(Clone, Copy)]
 struct Quick {
     good: bool,
     count: usize,

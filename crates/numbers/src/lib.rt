@@ -9,7 +9,7 @@ use ledger::Reason;
 use text::Class;
 
 // What a word spells; a fault's place counts from the word's first byte.
-#[derive(Drop)]
+#[derive(Clone, Copy)]
 pub enum Spelt {
     Means(u64),
     Faulty(Reason, usize),
@@ -40,7 +40,7 @@ fn one_more(sum: u64, b: u64) -> u64
 }
 
 // Digits in a text: their value, and the place past them.
-#[derive(Drop)]
+#[derive(Clone, Copy)]
 pub struct Digits {
     pub value: u64,
     pub end: usize,
@@ -187,7 +187,7 @@ fn is_item_end(word: &[u8], i: usize) -> bool
 }
 
 // An item of a list: what it spells, and the place past it.
-#[derive(Drop)]
+#[derive(Clone, Copy)]
 struct Piece {
     spelt: Spelt,
     end: usize,
@@ -219,7 +219,7 @@ fn read_item(word: &[u8], from: usize, least: u64, most: u64) -> Piece
 
 // A number taken from a text. Where it is not good, a word that is no number may stand there, or one that has to be
 // read with more care.
-#[derive(Drop)]
+#[derive(Clone, Copy)]
 pub struct Taken {
     pub good: bool,
     pub value: u64,

@@ -20,7 +20,7 @@ use text::{Check, Stage};
 use writing::Writing;
 
 // The eight counts of a PSL line.
-#[derive(Drop)]
+#[derive(Clone, Copy)]
 pub struct Counts {
     pub matches: u64,
     pub misMatches: u64,
@@ -33,7 +33,7 @@ pub struct Counts {
 }
 
 // One side: its sequence's name and size, and the span, which counts on the forward strand.
-#[derive(Drop)]
+#[derive(Clone, Copy)]
 pub struct Side {
     pub name: Part,
     pub size: u64,
@@ -42,7 +42,7 @@ pub struct Side {
 }
 
 // The record of a PSL line. A name is a part of the text; the strand is the query's.
-#[derive(Drop)]
+#[derive(Clone, Copy)]
 pub struct Psl {
     pub counts: Counts,
     pub strand: Strand,
@@ -52,14 +52,14 @@ pub struct Psl {
 }
 
 // What the checks of a text find: its record, or the first fault.
-#[derive(Drop)]
+#[derive(Clone, Copy)]
 pub enum PslReading {
     Read(Psl),
     Faulty(Fault),
 }
 
 // What a caller is told.
-#[derive(Drop)]
+#[derive(Clone, Copy)]
 pub enum PslAnswer {
     Accepted(Psl),
     Refused(Refusal),

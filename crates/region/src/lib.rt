@@ -21,7 +21,7 @@ use ledger::{Reason, Refusal, Strand};
 use text::Check;
 
 // What a region lifts to: its bases in a pair and in none, and the smallest query region that holds all partners.
-#[derive(Drop)]
+#[derive(Clone, Copy)]
 pub struct Region {
     pub kept: u64,
     pub dropped: u64,
@@ -29,14 +29,14 @@ pub struct Region {
     pub end: u64,
 }
 
-#[derive(Drop)]
+#[derive(Clone, Copy)]
 pub enum RegionAnswer {
     Lifted(Region),
     Refused(Refusal),
 }
 
 // How far a region reaches in the blocks passed so far: kept bases, and the query region.
-#[derive(Drop)]
+#[derive(Clone, Copy)]
 pub struct Reach {
     pub kept: u64,
     pub low: u64,
@@ -44,7 +44,7 @@ pub struct Reach {
 }
 
 // The sums of a batch: bases asked for, kept and dropped.
-#[derive(Drop)]
+#[derive(Clone, Copy)]
 pub struct Tally {
     pub asked: u64,
     pub kept: u64,
@@ -52,21 +52,21 @@ pub struct Tally {
 }
 
 // The tally after a region, and the region's answer.
-#[derive(Drop)]
+#[derive(Clone, Copy)]
 pub struct Tallied {
     pub tally: Tally,
     pub answer: RegionAnswer,
 }
 
 // Whether a region goes on to the search, or is refused before it.
-#[derive(Drop)]
+#[derive(Clone, Copy)]
 pub enum Admission {
     Admitted,
     Refused(Reason),
 }
 
 // The tally after a batch, and whether there was room for its answers.
-#[derive(Drop)]
+#[derive(Clone, Copy)]
 pub struct Batched {
     pub tally: Tally,
     pub check: Check,

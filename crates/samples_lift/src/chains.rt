@@ -5,7 +5,7 @@ use chain::{Chain, ChainAnswer};
 use ledger::{Part, Refusal};
 
 // A chain handed in: its record, and how many rows its table has; or why its text is refused.
-#[derive(Drop)]
+#[derive(Clone, Copy)]
 pub(crate) enum Given {
     Chain(Chain, usize),
     Refused(Refusal),

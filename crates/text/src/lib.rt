@@ -11,7 +11,7 @@ ghost use Rattle.text.specs.Checks.{fault, refused, text_check, last_line_check,
 use ledger::{Fault, Part, Reason, Refusal};
 
 // The classes of bytes that a scan passes over.
-#[derive(Drop)]
+#[derive(Clone, Copy)]
 pub enum Class {
     Blank,
     Word,
@@ -118,14 +118,14 @@ fn word_end(text: &[u8], from: usize) -> usize
 }
 
 // A stage of reading a text: it passes, or the text has a fault.
-#[derive(Drop)]
+#[derive(Clone, Copy)]
 pub enum Stage {
     Passes,
     Faulty(Fault),
 }
 
 // A check's answer to a caller.
-#[derive(Drop)]
+#[derive(Clone, Copy)]
 pub enum Check {
     Holds,
     Refused(Refusal),
@@ -200,7 +200,7 @@ pub fn next_line(text: &[u8], line: usize) -> usize
 }
 
 // A word's place: its first byte, and past its last.
-#[derive(Drop)]
+#[derive(Clone, Copy)]
 pub struct Extent {
     pub start: usize,
     pub end: usize,

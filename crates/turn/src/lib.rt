@@ -8,7 +8,7 @@ ghost use Rattle.turn.specs.Turns.{source_of, list_of, start_at, size_at, Fillab
 use chain::Chain;
 use ledger::{Reason, Refusal, Strand};
 
-#[derive(Drop)]
+#[derive(Clone, Copy)]
 pub enum TurnAnswer {
     Turned(Chain),
     Refused(Refusal),

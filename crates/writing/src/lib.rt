@@ -9,7 +9,7 @@ ghost use Rattle.writing.specs.Answers.{room_answer, Wrote};
 use ledger::{Reason, Refusal};
 
 // The answer of a call that writes: the number of bytes written, or why none was.
-#[derive(Drop)]
+#[derive(Clone, Copy)]
 pub enum Writing {
     Written(usize),
     Refused(Refusal),
