@@ -1,4 +1,6 @@
 // How an entry for another language answers (docs/DESK.md): one number, and bytes at the front of what was lent.
+#![tactic(auto)]
+
 ghost use Rattle.std.specs.Prelude.{◌≡◌, ◌+◌, ◌*◌, ◌≤◌, min, leb, length, take};
 ghost use Rattle.blocks.specs.Blocks.{rows_of};
 ghost use Rattle.blocks.specs.Rows.{table_of};

@@ -1,4 +1,6 @@
 // One BED line: reader, text checker, record checker, writer, over three flat slices of blocks.
+#![tactic(auto)]
+
 ghost use Rattle.std.specs.Prelude.{◌≡◌, true, false, ◌*◌, length, take};
 ghost use Rattle.ledger.specs.Limits.{block_limit};
 ghost use Rattle.writing.specs.Answers.{Wrote};

@@ -1,4 +1,6 @@
 // Numbers as bytes, the lowest first: stored in a lent buffer and read back. `put_` functions are as those of `writing`.
+#![tactic(auto)]
+
 ghost use Rattle.std.specs.Prelude.{◌≡◌, [], ◌∷◌, ◌+◌, ◌*◌, ◌≤◌, min, leb, length};
 ghost use Rattle.std.proofs.lemmas.List.Edits.{sets};
 ghost use Rattle.blocks.specs.Blocks.{rows_of};

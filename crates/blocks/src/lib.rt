@@ -1,4 +1,6 @@
 // The rules of blocks over flat slices: order, span, sums and ranges; and moving blocks between tables.
+#![tactic(auto)]
+
 ghost use Rattle.std.specs.Prelude.{◌≡◌, ◌+◌, ◌-◌, ◌*◌, min, length, take};
 ghost use Rattle.std.proofs.lemmas.List.Edits.{sets};
 ghost use Rattle.ledger.specs.Limits.{block_limit, largest_number};

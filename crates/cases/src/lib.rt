@@ -1,5 +1,7 @@
 // What the sample programs share: the lines of cases, escaped payloads, the words of a record, lent rooms with marks in them, and
 // answers spelt as bytes.
+#![tactic(auto)]
+
 mod escape;
 mod puts;
 mod rooms;

@@ -1,5 +1,7 @@
 // The sample programs' calls over lent tables of rows: chains read, checked and written; lifted, tallied and turned; batches. Each table
 // is made here with a mark in every row, and its rows are filled from three columns before a call, or copied out to them after it.
+#![tactic(auto)]
+
 ghost use Rattle.std.specs.Prelude.{◌≡◌};
 ghost use Rattle.cases_chain.specs.Lifts.{PositionLifted, RegionLifted, RegionCounted, BatchCounted, TableTurned};
 ghost use Rattle.cases_chain.specs.Tables.{TableRead, TableChecked, TableWrote};

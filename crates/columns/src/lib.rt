@@ -1,4 +1,6 @@
 // A line by its table of columns: one loop reads a line by any table, and one writes it.
+#![tactic(auto)]
+
 ghost use Rattle.std.specs.Prelude.{◌≡◌, ◌+◌, ◌*◌, ◌≤◌, min, map, length, set, get_or};
 ghost use Rattle.ledger.specs.Limits.{name_limit, block_limit};
 ghost use Rattle.text.specs.declared.Class.TheVariants.{Blank};

@@ -1,5 +1,7 @@
 // The entries for programs in other languages (docs/DESK.md), on numbers and slices of bytes. Each is a function of `entries`,
 // under the name that a linker finds; the static library of this crate is what a program links.
+#![tactic(auto)]
+
 ghost use Rattle.std.specs.Prelude.{◌≡◌, length};
 ghost use Rattle.answers.specs.Answers.{Answered};
 ghost use Rattle.entries.specs.Entries.{checked, numbers_given, converted_numbers, parsed, formatted, position_lifted, region_lifted, tallied, BatchTold, turned_text};

@@ -1,4 +1,6 @@
 // The desk's entries (docs/DESK.md): the library for a program in another language, on numbers and byte slices.
+#![tactic(auto)]
+
 ghost use Rattle.std.specs.Prelude.{◌≡◌, List, ◌++◌, ℕ, ◌+◌, ◌*◌, ◌≤◌, pos, ◌-ℤ◌, length, take, drop};
 ghost use Rattle.ledger.specs.Limits.{block_limit};
 ghost use Rattle.blocks.specs.Rows.{table_of};

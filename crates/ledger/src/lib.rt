@@ -1,4 +1,6 @@
 // What every layer shares: the reasons of a refusal with their numbers, strands, positions, rows, parts of a text, and the limits by name.
+#![tactic(auto)]
+
 ghost use Rattle.std.specs.Prelude.{◌≡◌, min};
 ghost use Rattle.ledger.specs.Reasons.{reason_number};
 ghost use Rattle.ledger.specs.Refusals.{refusal_at, without_text};

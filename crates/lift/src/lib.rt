@@ -1,4 +1,6 @@
 // Pairs of a chain, lifting a position through it, and converting a span to the other strand.
+#![tactic(auto)]
+
 ghost use Rattle.std.specs.Prelude.{◌≡◌, ◌+◌, ◌-◌, ◌≤◌, ◌<◌, pos, ◌-ℤ◌};
 ghost use Rattle.ledger.specs.Limits.{largest_position};
 ghost use Rattle.blocks.specs.Rows.{table_of};

@@ -1,4 +1,6 @@
 // A text of one line of numbers, any number of words: for lists of positions (docs/DESK.md, `tenderchock_numbers`).
+#![tactic(auto)]
+
 ghost use Rattle.std.specs.Prelude.{◌≡◌, false, ◌*◌, leb, length};
 ghost use Rattle.binary.specs.Bytes.{word_size};
 ghost use Rattle.number_line.specs.Numbers.{numbers_answer, numbers_stages, numbers_check, NumbersStored};

@@ -1,4 +1,6 @@
 // Numbers and comma lists: what a word spells, or its first fault with the place in the word.
+#![tactic(auto)]
+
 ghost use Rattle.std.specs.Prelude.{◌≡◌, ◌+◌, ◌-◌, ◌*◌, ◌≤◌, min, length, set, get_or};
 ghost use Rattle.text.specs.declared.Class.TheVariants.{Digit};
 ghost use Rattle.text.specs.Scan.{is_in};

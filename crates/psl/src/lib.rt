@@ -1,4 +1,6 @@
 // One PSL line: reader, text checker, record checker, writer, over three flat slices of blocks.
+#![tactic(auto)]
+
 ghost use Rattle.std.specs.Prelude.{◌≡◌, ◌*◌, ◌≤◌, length, take};
 ghost use Rattle.ledger.specs.Limits.{block_limit};
 ghost use Rattle.text.specs.Checks.{then_check, room_check};

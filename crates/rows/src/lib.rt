@@ -1,5 +1,7 @@
 // Rows of a lent table to three columns of numbers, and back. Every function over a table stages its rows in three columns, calls a
 // function over flat slices, and stores the rows that it made.
+#![tactic(auto)]
+
 ghost use Rattle.std.specs.Prelude.{◌≡◌, ◌≤◌, min, length};
 ghost use Rattle.ledger.specs.Limits.{block_limit};
 ghost use Rattle.rows.specs.Staging.{all_reach, Loaded, front_stored, stored_rows};

@@ -1,6 +1,8 @@
 // The samples program: one case a line on standard input, one answer a line on standard output. A case is its letter, a space and an
 // escaped payload; empty lines and lines that begin with `#` have no answer. Every answer comes from the libraries. Here are the cases of
 // texts, words, lists, numbers and columns; each format has a program of its own.
+#![tactic(auto)]
+
 ghost use Rattle.std.specs.Prelude.{◌≡◌, length, ◌*◌};
 ghost use Rattle.ledger.specs.Limits.{block_limit};
 

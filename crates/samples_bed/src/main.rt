@@ -1,5 +1,7 @@
 // The samples of BED: one case a line on standard input, one answer a line on standard output. Every answer comes from the library.
 // Case `D` is a text, read with room for 512 blocks; `E` a text, read with room for one; `W` a record with its names and rows.
+#![tactic(auto)]
+
 mod lines;
 mod records;
 

@@ -1,5 +1,7 @@
 // The samples of chains: one case a line on standard input, one answer a line on standard output. Every answer comes from the library.
 // Case `H` is a text, read with room for 512 blocks; `I` a text, read with room for two; `Y` a record with its names and rows.
+#![tactic(auto)]
+
 mod chains;
 mod records;
 

@@ -3,6 +3,8 @@
 // `p` a position; `g` a region's start and end; `u` how many rows are lent for the turned chain; `a` a tally's three numbers, then a
 // region's start and end; `m` a region's start and end, with the tally as the last case left it; `R` a batch of regions with that tally
 // (batches). `v` has no chain: it is a span's start and end, to be converted, and the sequence's size.
+#![tactic(auto)]
+
 mod answers;
 mod batches;
 mod chains;

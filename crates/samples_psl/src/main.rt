@@ -1,5 +1,7 @@
 // The samples of PSL: one case a line on standard input, one answer a line on standard output. Every answer comes from the library.
 // Case `F` is a text, read with room for 512 blocks; `G` a text, read with room for two; `X` a record with its names and rows.
+#![tactic(auto)]
+
 mod lines;
 mod records;
 

@@ -1,5 +1,7 @@
 // Chains over a lent table of row structs: reader, record checker, writer. Each stages the rows in three columns and calls the
 // function of the same name over flat slices.
+#![tactic(auto)]
+
 ghost use Rattle.std.specs.Prelude.{◌≡◌, min, take};
 ghost use Rattle.ledger.specs.Limits.{block_limit};
 ghost use Rattle.blocks.specs.Rows.{targets_of, queries_of, sizes_of};

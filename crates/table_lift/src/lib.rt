@@ -1,6 +1,8 @@
 // Lifts through a chain whose blocks stand in a lent table of row structs, and the tally lent for regions, one by one or a
 // batch of them. Each stages
 // the rows in three columns and calls the function of `lift` or `region` over flat slices.
+#![tactic(auto)]
+
 ghost use Rattle.std.specs.Prelude.{◌≡◌};
 ghost use Rattle.rows.specs.Staging.{Columns, staged_rows};
 ghost use Rattle.lift.specs.Positions.{lift_position};

@@ -1,5 +1,7 @@
 // The turn of a chain whose blocks stand in a lent table of row structs, into another lent table. It stages both tables in three
 // columns each and calls the function of `turn` over flat slices.
+#![tactic(auto)]
+
 ghost use Rattle.std.specs.Prelude.{◌≡◌};
 ghost use Rattle.rows.specs.Staging.{Columns, staged_rows};
 ghost use Rattle.table_turn.specs.Turns.{RowsTurned, rows_filled, ColumnsTurned};

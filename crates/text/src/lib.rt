@@ -1,4 +1,6 @@
 // Bytes by class, one scan over them, and the lines, words and parts of a text by their places.
+#![tactic(auto)]
+
 ghost use Rattle.std.specs.Prelude.{◌≡◌, true, ◌+◌, min, length, leb};
 ghost use Rattle.text.specs.declared.Class.TheVariants.{Allowed, Word};
 ghost use Rattle.text.specs.Scan.{is_in, end_of, Scanned, Passed};

@@ -1,4 +1,6 @@
 // Turning a chain: its sides exchanged, its blocks stored into lent slices.
+#![tactic(auto)]
+
 ghost use Rattle.std.specs.Prelude.{◌≡◌, ◌≤◌, ◌<◌, length};
 ghost use Rattle.std.proofs.lemmas.List.Edits.{sets};
 ghost use Rattle.blocks.specs.Strands.{strand_start, strand_end};

@@ -1,5 +1,7 @@
 // Writing bytes, a number's digits and comma lists into a lent buffer.
 // `put_` functions store from a place on as far as the buffer reaches and answer the place after; `write_` functions test the room first.
+#![tactic(auto)]
+
 ghost use Rattle.std.specs.Prelude.{◌≡◌, [], ◌∷◌, ◌++◌, ◌+◌, ◌≤◌, leb, length};
 ghost use Rattle.std.proofs.lemmas.List.Edits.{sets};
 ghost use Rattle.writing.specs.Digits.{digits, list_text};
