@@ -1,0 +1,17 @@
+-- The value counts the digits passed, and the digits from here on end where all of them end. Assumes nothing.
+use borrow.Author.Rules.{rules}
+use Prim.Native.Nat.{◌+◌, ◌-◌, ◌≤◌}
+use mathlib.Core.Path.{◌≡◌, refl, ap}
+use lib.ListN.{take, drop}
+use native.Mathlib.Nat.{add-zero}
+use Rattle.text.specs.declared.Class.TheVariants.{Digit}
+use Rattle.text.specs.Scan.{end_of}
+use Rattle.numbers.specs.Numbers.{value, value_from}
+use Rattle.numbers.proofs.DigitLaws.{room_left, digit_low, digit_high, one_more_passed, value_more, digits_stop, digits_end}
+use Rattle.numbers.proofs.digits_in.Given as goal
+
+abbrev pub invariant-loop-k : goal.invariant-loop-k
+invariant-loop-k l = (l.k ≤ l.most) × (end_of Digit l.text (l.from + l.k) ≡ end_of Digit l.text l.from) × (l.value ≡ value (take l.k (drop l.from l.text)))
+
+abbrev pub decreases-loop-k : goal.decreases-loop-k
+decreases-loop-k l = l.most - l.k

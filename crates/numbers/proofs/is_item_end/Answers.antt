@@ -1,0 +1,6 @@
+-- The word's end, or a comma. Assumes nothing.
+use borrow.Author.Rules.{rules}
+use Rattle.numbers.proofs.is_item_end.Goals as goal
+
+pub returns : goal.returns
+returns c = rw c.byte_at.ensures

@@ -1,0 +1,7 @@
+-- The digits at a place, where they end with the word. Assumes nothing.
+use borrow.Author.Rules.{rules}
+use Rattle.numbers.proofs.ItemLaws.{number_taken}
+use Rattle.numbers.proofs.number_at.Goals as goal
+
+pub returns : goal.returns
+returns c = search number_taken
