@@ -165,6 +165,16 @@ def turn(crate, function, path, info):
     local = {}
 
     def words(term):
+        # an alias of an earlier step's facts: today each step is a field of `c`
+        names = ['c']
+        while True:
+            m = re.search(rf"let ({NAME}) = (?:{'|'.join(map(re.escape, names))})(?:\.before)+ in\s*", term)
+            if not m:
+                break
+            names.append(m.group(1))
+            term = term[:m.start()] + term[m.end():]
+        for name in names[1:]:
+            term = re.sub(rf"(?<![{LETTER}.-]){re.escape(name)}(?=\.)", 'c', term)
         term = re.sub(rf"(?<![{LETTER}.-])c((?:\.{NAME})+)", lambda m: 'c' + steps.path(m.group(1)), term)
         term = re.sub(rf"\btie\.Need-({NAME})", lambda m: 'goal.' + dict(needs).get(m.group(1), m.group(1)), term)
         return re.sub(rf"(?<![{LETTER}.-])({'|'.join(map(re.escape, local))})(?![{LETTER}-])", lambda m: local[m.group(1)], term) if local else term
@@ -201,14 +211,10 @@ def turn(crate, function, path, info):
                 out.append(f"pub {new} : goal.{new}\n{new} c = {words(d)}")
             continue
         lines = [f"pub {new} : goal.{new}"]
-        for l in d['lines'][1:]:
-            if l.startswith(d['name']):
-                l = new + l[len(d['name']):]
-                l = re.sub(rf"^({re.escape(new)}(?: {NAME})*?) κs(?= |$)", r"\1", l)
-                lead, eq, rest = l.partition(' =')
-                lines.append(lead + eq + words(rest))
-            else:
-                lines.append(words(l))
+        rest = '\n'.join(d['lines'][1:])
+        rest = re.sub(rf"^{re.escape(d['name'])}(?= )", new, rest, flags=re.M)
+        rest = re.sub(rf"^({re.escape(new)}(?: {NAME})*?) κs(?= |$)", r"\1", rest, flags=re.M)
+        lines += words(rest).split('\n')
         # nothing to say: the check finds it
         joined = ' '.join(x.strip() for x in lines[1:])
         if re.fullmatch(rf"{re.escape(new)} c = search rules", joined):
