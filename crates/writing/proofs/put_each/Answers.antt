@@ -1,0 +1,17 @@
+-- Whatever stores the bytes from here on completes the whole. Assumes nothing.
+use borrow.Author.Rules.{rules}
+use Prim.Native.Nat.{◌-◌, ◌≤◌}
+use mathlib.Core.Path.{◌≡◌, refl}
+use lib.ListN.{length, drop}
+use Rattle.ledger.specs.Limits.{largest_place}
+use Rattle.writing.proofs.PutLaws.{Completes, completes_all, bytes_step, bytes_done}
+use Rattle.writing.proofs.put_each.Goals as goal
+
+pub loop-i-init : goal.loop-i-init
+loop-i-init c = (search rules, refl, search rules, search rules, completes_all _ _ _)
+
+pub loop-i-preserved : goal.loop-i-preserved
+loop-i-preserved c = (search rules, search rules, search rules, search rules, search bytes_step)
+
+pub returns : goal.returns
+returns c = search bytes_done
