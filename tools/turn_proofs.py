@@ -122,7 +122,7 @@ class Steps:
             if found:
                 return '.' + '.'.join([found, *parts[n:]])
         step = parts[0]
-        for form in (step, step.replace('-', '_')):
+        for form in (step, step.replace('-', '_'), step.replace('-', '_').lower(), re.sub('_lem(?=\\d*$)', '', step), re.sub('_lem(?=\\d*$)', '', step).lower()):
             if form in self.map:
                 step = self.map[form]
                 break
@@ -161,10 +161,30 @@ def turn(crate, function, path, info):
     said = []
     # goals that the older kit did not ask
     if len(goals) != len(needs):
+        # a literal's goal comes first, and is no longer asked
         said.append(f"{len(goals)} arguments, {len(needs)} goals")
+        goals = goals[-len(needs):]
     local = {}
+    facts = {}
+    for d in list(decls):
+        m = re.match(rf"{NAME} : \(c : tie\.[^)]*\) → (?:let ({NAME}) = c\.args in )?(.*)", ' '.join(l.strip() for l in d['lines'] if ' : ' in l or not l.startswith(d['name'])), re.S)
+        if m and d['lines'][0].count('tie.'):
+            sig = d['lines'][0].split(') → ', 1)[1]
+            if m.group(1):
+                sig = re.sub(rf"(?<![{LETTER}.-]){m.group(1)}\.", 'c.args.', sig.split(' in ', 1)[1])
+            proof = ' '.join(l.strip() for l in d['lines'][1:] if not l.startswith('unfolding')).split(' = ', 1)[1]
+            facts[d['name']] = (sig, proof)
+            decls.remove(d)
 
     def words(term):
+        called = [f for f in facts if re.search(rf"(?<![{LETTER}.-]){re.escape(f)} ", term)]
+        if called:
+            for f in called:
+                term = re.sub(rf"\({re.escape(f)} c(?:\.before)*\)|(?<![{LETTER}.-]){re.escape(f)} c(?:\.before)*", respelt(f), term)
+            lets = ''.join(f"\n    let {respelt(f)} : {facts[f][0]} = {facts[f][1]} in" for f in called)
+            # behind the sign of the clause's equation
+            m = re.search(r" =(?=\s)", term)
+            term = term[:m.end()] + lets + ('' if term[m.end():].startswith('\n') else '\n    ') + term[m.end():].lstrip(' ') if m else lets.lstrip() + ' ' + term
         # an alias of an earlier step's facts: today each step is a field of `c`
         names = ['c']
         while True:

@@ -1,0 +1,10 @@
+-- From the highest byte down. Assumes nothing.
+use borrow.Author.Rules.{rules}
+use Rattle.binary.proofs.ByteLaws.{Reading, reading_step, times_fits, sum_fits, reading_starts, reading_ends}
+use Rattle.binary.proofs.low_at.Given as goal
+
+abbrev pub invariant-loop-left : goal.invariant-loop-left
+invariant-loop-left l = Reading l.bytes l.at l.most l.left l.n
+
+abbrev pub decreases-loop-left : goal.decreases-loop-left
+decreases-loop-left l = l.left

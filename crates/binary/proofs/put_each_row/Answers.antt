@@ -1,0 +1,20 @@
+-- Whatever stores the rows from here on completes the whole. Assumes nothing.
+use borrow.Author.Rules.{rules}
+use Prim.Native.Nat.{◌-◌, ◌≤◌}
+use mathlib.Core.Path.{◌≡◌, refl}
+use lib.ListN.{length, drop}
+use Rattle.ledger.specs.Limits.{largest_place}
+use Rattle.blocks.specs.Rows.{table_of}
+use Rattle.writing.proofs.PutLaws.{Completes, completes_all}
+use Rattle.binary.specs.Bytes.{words_bytes, rows_numbers}
+use Rattle.binary.proofs.ByteLaws.{rows_step, rows_done}
+use Rattle.binary.proofs.put_each_row.Goals as goal
+
+pub loop-i-init : goal.loop-i-init
+loop-i-init c = (search rules, refl, search rules, search rules, completes_all _ _ _)
+
+pub loop-i-preserved : goal.loop-i-preserved
+loop-i-preserved c = (search rules, search rules, search rules, search rules, search rows_step)
+
+pub returns : goal.returns
+returns c = search rows_done

@@ -1,0 +1,17 @@
+-- Whatever stores the rows from here on completes the whole. Assumes nothing.
+use borrow.Author.Rules.{rules}
+use Prim.Native.Nat.{◌-◌, ◌≤◌}
+use mathlib.Core.Path.{◌≡◌, refl}
+use lib.ListN.{length, drop}
+use Rattle.ledger.specs.Limits.{largest_place}
+use Rattle.blocks.specs.Rows.{table_of}
+use Rattle.writing.proofs.PutLaws.{Completes, completes_all}
+use Rattle.binary.specs.Bytes.{words_bytes, rows_numbers}
+use Rattle.binary.proofs.ByteLaws.{rows_step, rows_done}
+use Rattle.binary.proofs.put_each_row.Given as goal
+
+abbrev pub invariant-loop-i : goal.invariant-loop-i
+invariant-loop-i l = (l.i ≤ l.n) × (length l.buf ≡ length l.initial.buf) × (length l.buf ≤ largest_place) × (l.p ≤ largest_place) × Completes (words_bytes (rows_numbers (drop l.i (table_of l.targets l.queries l.sizes)))) l.p l.buf (words_bytes (rows_numbers (table_of l.targets l.queries l.sizes))) l.at l.initial.buf
+
+abbrev pub decreases-loop-i : goal.decreases-loop-i
+decreases-loop-i l = l.n - l.i

@@ -1,9 +1,0 @@
--- Three numbers one after the other. Assumes nothing.
-use Rattle.binary.proofs.ByteLaws.{row_put}
-use borrow.Author.Rules.{rules}
-use Rattle.binary.proofs.put_row.Statement.{statement}
-use Rattle.binary.proofs.put_row.Tie as tie
-
-pub put-row-spec : {M : Type 1} → statement M
-put-row-spec =
-    tie.close (tie.spec (λ c κs. search rules) (λ c κs. search rules) (λ c κs. search rules) (λ c. search rules) (λ c. search row_put))

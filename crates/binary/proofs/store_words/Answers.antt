@@ -1,0 +1,15 @@
+-- Storing the numbers that are left makes the whole. Assumes nothing.
+use borrow.Author.Rules.{rules}
+use Prim.Native.Nat.{◌-◌}
+use lib.ListN.{length}
+use Rattle.binary.proofs.WordLaws.{Storing, storing_starts, storing_step, storing_ends}
+use Rattle.binary.proofs.store_words.Goals as goal
+
+pub loop-i-init : goal.loop-i-init
+loop-i-init c = search storing_starts
+
+pub loop-i-preserved : goal.loop-i-preserved
+loop-i-preserved c = search storing_step
+
+pub returns : goal.returns
+returns c = search storing_ends
