@@ -232,9 +232,9 @@ def turn(crate, function, path, info):
             continue
         lines = [f"pub {new} : goal.{new}"]
         rest = '\n'.join(d['lines'][1:])
-        rest = re.sub(rf"^{re.escape(d['name'])}(?= )", new, rest, flags=re.M)
-        rest = re.sub(rf"^({re.escape(new)}(?: {NAME})*?) κs(?= |$)", r"\1", rest, flags=re.M)
-        lines += words(rest).split('\n')
+        rest = re.sub(rf"^{re.escape(d['name'])}(?= )", "\0", rest, flags=re.M)
+        rest = re.sub(rf"^(\0(?: {NAME})*?) κs(?= |$)", r"\1", rest, flags=re.M)
+        lines += words(rest).replace('\0', new).split('\n')
         # nothing to say: the check finds it
         joined = ' '.join(x.strip() for x in lines[1:])
         if re.fullmatch(rf"{re.escape(new)} c = search rules", joined):

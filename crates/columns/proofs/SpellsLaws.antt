@@ -65,6 +65,8 @@ tail_is w w' ws ws' e = (cc, cc)
 pub meant_read : (cs : List Kind) (n : ℕ) (s : List ℕ) (at : ℕ) (ws : List (List ℕ)) (vs : List ℕ) → word_count s at ≡ length cs → words_of (line_of (drop at s)) ≡ ws → Meant cs n ws vs → Reads cs n s at vs
 unfolding columns_from values_from firsts field_from
 meant_read [] n s at ws vs h q meant_none = record { end = at; read = refl; values = refl }
+meant_read (c ∷ cs) n s at [] vs h q m = elim m [ ]
+meant_read (c ∷ cs) n s at (w ∷ ws) [] h q m = elim m [ ]
 meant_read (c ∷ cs) n s at (w ∷ ws) (v ∷ vs) h q (meant_more p t) =
     let there = first_there s at (length cs) (omega arith) in
     let e = tail_is (bytes_of s (next_word s at)) w (words_of (line_of (drop (next_word s at).end s))) ws (sym (words_step s at there) ∙ q) in

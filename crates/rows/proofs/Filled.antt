@@ -8,11 +8,14 @@
 -- Assumes nothing.
 use mathlib.Core.Path.{◌≡◌, refl, sym, ◌∙◌, ap}
 use mathlib.Core.List.{List, [], ◌∷◌, ◌++◌, map}
-use Prim.Native.Nat.{ℕ, zero, suc, ◌<◌, ◌≤◌}
+use Prim.Native.Nat.{ℕ, zero, suc, ◌+◌, ◌<◌, ◌≤◌}
 use native.Mathlib.Omega.{arith}
 use native.Mathlib.Nat.{add-zero, add-suc}
-use lib.ListN.{length, take, drop, set, get_or, length-set, length-append}
-use lib.Seq.{drop-cons, set_at, append_snoc, take-suc, take_all}
+use native.Mathlib.Numerals.{add-one}
+use lib.ListN.{length, take, drop, set, get_or, length-set, length-append, length-map}
+use lib.Seq.{drop-cons, set_at, append_snoc, take-suc, take_all, length-take-le}
+use Rattle.ledger.specs.declared.Row.{Row}
+use Rattle.rows.specs.Staging.{first_rows, front_stored}
 use Rattle.blocks.specs.Rows.{table_of, no_row, row_at}
 use Rattle.blocks.proofs.TableLaws.{taken, taken_length, taken_at}
 
@@ -47,6 +50,10 @@ module _ {X : Type 0} where
   up_to_same f g zero h = refl
   up_to_same f g (suc n) h = ap (λ (l : List X). l ++ (f n ∷ [])) (up_to_same f g n (λ k b. h k (omega arith))) ∙ ap (λ (x : X). up_to g n ++ (x ∷ [])) (h n (omega arith))
 
+up_to_suc : {X : Type 0} (f : ℕ → X) (n : ℕ) → up_to f (suc n) ≡ up_to f n ++ (f n ∷ [])
+unfolding up_to
+up_to_suc f n = refl
+
 map_snoc : {X Y : Type 0} (g : X → Y) (xs : List X) (x : X) → map g (xs ++ (x ∷ [])) ≡ map g xs ++ (g x ∷ [])
 map_snoc g [] x = refl
 map_snoc {X} {Y} g (y ∷ ys) x = ap (λ (l : List Y). g y ∷ l) (map_snoc g ys x)
@@ -69,3 +76,28 @@ rows_first n ts qs zs ht hq hz =
     let h : n ≤ length (taken n ts qs zs) = omega (arith, l) in
     up_to_same (row_at ts qs zs) (λ (i : ℕ). get_or (taken n ts qs zs) i no_row) n (λ i b. sym (taken_at n ts qs zs ht hq hz i b))
     ∙ up_to_take no_row (taken n ts qs zs) n h ∙ take_all n (taken n ts qs zs) (omega (arith, l))
+
+-- a list with n elements xs at its front, and one more stored behind them
+snoc_stored : {X : Type 0} (xs ys : List X) (x d : X) (n : ℕ) → length xs ≡ n → n < length ys → set (xs ++ drop n ys) n x ≡ (xs ++ (x ∷ [])) ++ drop (suc n) ys
+snoc_stored {X} xs ys x d n e h =
+    ap (λ (l : List X). set (xs ++ l) n x) (drop-cons ys n d h)
+    ∙ set_at xs (get_or ys n d) (drop (suc n) ys) x n e
+    ∙ sym (append_snoc xs x (drop (suc n) ys))
+
+-- a field of one more row, stored behind those of the first n
+pub front_more : {Y : Type 0} (g : Row → Y) (rows : List Row) (d : Row) (ys ys' : List Y) (n : ℕ) → n < length rows → n < length ys → ys' ≡ map g (take n rows) ++ drop n ys
+    → set ys' n (g (get_or rows n d)) ≡ map g (take (n + 1) rows) ++ drop (n + 1) ys
+front_more {Y} g rows d ys ys' n h l e =
+    let k : length (map g (take n rows)) ≡ n = length-map (take n rows) g ∙ length-take-le n rows (omega arith) in
+    let s : map g (take (suc n) rows) ≡ map g (take n rows) ++ (g (get_or rows n d) ∷ []) = ap (map g) (take-suc rows n d h) ∙ map_snoc g (take n rows) (get_or rows n d) in
+    rw (add-one n) (ap (λ (l' : List Y). set l' n (g (get_or rows n d))) e ∙ snoc_stored (map g (take n rows)) ys (g (get_or rows n d)) (g d) n k l ∙ ap (λ (l' : List Y). l' ++ drop (suc n) ys) (sym s))
+
+-- one more row of three columns, stored behind the first n
+pub rows_more : (n : ℕ) (ts qs zs : List ℕ) (rows rows' : List Row) → n < length ts → n < length qs → n < length zs → n < length rows → rows' ≡ front_stored n ts qs zs rows
+    → set rows' n (row_at ts qs zs n) ≡ front_stored (n + 1) ts qs zs rows
+rows_more n ts qs zs rows rows' ht hq hz hr e =
+    let a : up_to (row_at ts qs zs) n ≡ first_rows n ts qs zs = rows_first n ts qs zs (omega arith) (omega arith) (omega arith) in
+    let b : up_to (row_at ts qs zs) (suc n) ≡ first_rows (suc n) ts qs zs = rows_first (suc n) ts qs zs (omega arith) (omega arith) (omega arith) in
+    let k : length (first_rows n ts qs zs) ≡ n = ap length (sym a) ∙ length_up_to (row_at ts qs zs) n in
+    let s : first_rows (suc n) ts qs zs ≡ first_rows n ts qs zs ++ (row_at ts qs zs n ∷ []) = sym b ∙ up_to_suc (row_at ts qs zs) n ∙ ap (λ (l : List Row). l ++ (row_at ts qs zs n ∷ [])) a in
+    rw (add-one n) (ap (λ (l : List Row). set l n (row_at ts qs zs n)) e ∙ snoc_stored (first_rows n ts qs zs) rows (row_at ts qs zs n) no_row n k hr ∙ ap (λ (l : List Row). l ++ drop (suc n) rows) (sym s))

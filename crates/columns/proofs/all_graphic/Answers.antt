@@ -1,0 +1,6 @@
+-- The scan reaches the end. Assumes nothing.
+use borrow.Author.Rules.{rules}
+use Rattle.columns.proofs.all_graphic.Goals as goal
+
+pub returns : goal.returns
+returns c = rw c.scan.ensures.is

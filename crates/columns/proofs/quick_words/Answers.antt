@@ -1,0 +1,14 @@
+-- The quick way by the first codes of the table. Assumes nothing.
+use Rattle.columns.proofs.ReadLaws.{codes_length, codes_few}
+use Rattle.columns.proofs.QuickLaws.{quick_line}
+use borrow.Author.Rules.{rules}
+use Rattle.columns.proofs.quick_words.Goals as goal
+
+pub slice_bounds-quick_columns-end : goal.slice_bounds-quick_columns-end
+slice_bounds-quick_columns-end c = search codes_length
+
+pub quick_columns-requires : goal.quick_columns-requires
+quick_columns-requires c = search codes_few
+
+pub returns : goal.returns
+returns c = search quick_line

@@ -1,0 +1,15 @@
+-- What the word spells, at its place in the text. Assumes nothing.
+use native.Mathlib.Omega.{arith}
+use Rattle.columns.proofs.ReadLaws.{field_good, field_bad, field_near}
+use borrow.Author.Rules.{rules}
+use Rattle.columns.proofs.read_field.Goals as goal
+
+pub overflow_add-result : goal.overflow_add-result
+overflow_add-result c = let w = c.next_word-w.ensures in
+    omega (arith, field_near _ _ _ _ _ w.is _ _ _ _ c.spell_in.ensures _ _ c.in-Faulty.is w.mid)
+
+pub returns-in-Means : goal.returns-in-Means
+returns-in-Means c = search (field_good, field_bad)
+
+pub returns-in-Faulty : goal.returns-in-Faulty
+returns-in-Faulty c = search (field_good, field_bad)

@@ -1,0 +1,13 @@
+-- One walk by the first codes of the table. Assumes nothing.
+use Rattle.columns.proofs.ReadLaws.{codes_length, codes_few, walked_line}
+use borrow.Author.Rules.{rules}
+use Rattle.columns.proofs.walk_line.Goals as goal
+
+pub slice_bounds-walk_columns-end : goal.slice_bounds-walk_columns-end
+slice_bounds-walk_columns-end c = search codes_length
+
+pub walk_columns-requires : goal.walk_columns-requires
+walk_columns-requires c = search codes_few
+
+pub returns : goal.returns
+returns c = search walked_line

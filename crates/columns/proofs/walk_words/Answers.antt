@@ -1,0 +1,13 @@
+-- The walk first, then what the count says. Assumes nothing.
+use Rattle.columns.proofs.OneLineLaws.{words}
+use borrow.Author.Rules.{rules}
+use Rattle.columns.proofs.walk_words.Goals as goal
+
+pub returns-then-w : goal.returns-then-w
+returns-then-w c = search words
+
+pub returns-in-Faulty : goal.returns-in-Faulty
+returns-in-Faulty c = search words
+
+pub returns-else-w : goal.returns-else-w
+returns-else-w c = search words
