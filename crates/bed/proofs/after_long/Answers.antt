@@ -1,0 +1,13 @@
+-- The walk over all columns decides, or the stage for any line does. Assumes nothing.
+use Rattle.bed.proofs.ColumnLaws.{long_listed, long_line, long_on, long_stop}
+use borrow.Author.Rules.{rules}
+use Rattle.bed.proofs.after_long.Goals as goal
+
+pub after_columns-requires : goal.after_columns-requires
+after_columns-requires c = (search long_listed, search long_line)
+
+pub returns-then-count_words-eq-COLUMNS : goal.returns-then-count_words-eq-COLUMNS
+returns-then-count_words-eq-COLUMNS c = search (long_on, long_stop)
+
+pub returns-in-Next : goal.returns-in-Next
+returns-in-Next c = search long_on

@@ -1,0 +1,7 @@
+-- The starts are stored past the sizes. Assumes nothing.
+use Rattle.bed.proofs.WriteLaws.{lists_put}
+use borrow.Author.Rules.{rules}
+use Rattle.bed.proofs.put_lists.Goals as goal
+
+pub returns : goal.returns
+returns c = search lists_put

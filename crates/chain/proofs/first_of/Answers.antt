@@ -1,0 +1,12 @@
+-- The first stage decides, where it finds a fault. Assumes nothing.
+use Rattle.text.specs.declared.Stage.TheVariants as stage
+use Rattle.text.proofs.StageLaws.{stops}
+use Rattle.chain.proofs.BlockLaws.{first_passes}
+use borrow.Author.Rules.{rules}
+use Rattle.chain.proofs.first_of.Goals as goal
+
+pub returns-in-Faulty : goal.returns-in-Faulty
+returns-in-Faulty c = search (stops stage.Faulty, first_passes)
+
+pub returns-in-Passes : goal.returns-in-Passes
+returns-in-Passes c = search (stops stage.Faulty, first_passes)

@@ -1,0 +1,14 @@
+-- The lines from row i on complete the text. Assumes nothing.
+use Rattle.chain.proofs.WriteLaws.{Lining, lines_start, lines_step, lines_done}
+use Prim.Native.Nat.{◌-◌}
+use borrow.Author.Rules.{rules}
+use Rattle.chain.proofs.put_blocks.Goals as goal
+
+pub loop-i-init : goal.loop-i-init
+loop-i-init c = search lines_start
+
+pub loop-i-preserved : goal.loop-i-preserved
+loop-i-preserved c = search lines_step
+
+pub returns : goal.returns
+returns c = search lines_done

@@ -1,0 +1,11 @@
+-- The lines from row i on complete the text. Assumes nothing.
+use Rattle.chain.proofs.WriteLaws.{Lining, lines_start, lines_step, lines_done}
+use Prim.Native.Nat.{◌-◌}
+use borrow.Author.Rules.{rules}
+use Rattle.chain.proofs.put_blocks.Given as goal
+
+abbrev pub invariant-loop-i : goal.invariant-loop-i
+invariant-loop-i l = Lining l.targets l.queries l.sizes l.at l.last l.initial.buf l.buf l.p l.i
+
+abbrev pub decreases-loop-i : goal.decreases-loop-i
+decreases-loop-i l = l.last - l.i

@@ -1,0 +1,13 @@
+-- The checks, then the rows. Assumes nothing.
+use Rattle.chain.proofs.StageLaws.{read_faulty, read_staged, read_stored}
+use borrow.Author.Rules.{rules}
+use Rattle.chain.proofs.read_blocks.Goals as goal
+
+pub store_rows-requires : goal.store_rows-requires
+store_rows-requires c = search read_staged
+
+pub returns-in-Faulty : goal.returns-in-Faulty
+returns-in-Faulty c = search (read_faulty, read_stored)
+
+pub returns-in-Read : goal.returns-in-Read
+returns-in-Read c = search (read_faulty, read_stored)

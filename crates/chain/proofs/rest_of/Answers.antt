@@ -1,0 +1,10 @@
+-- The rest of the line ends with the text, or by a feed. Assumes nothing.
+use Rattle.chain.proofs.QuickLaws.{rest_end, rest_feed}
+use borrow.Author.Rules.{rules}
+use Rattle.chain.proofs.rest_of.Goals as goal
+
+pub returns-then-text-e : goal.returns-then-text-e
+returns-then-text-e c = search rest_end
+
+pub returns : goal.returns
+returns c = search rest_feed

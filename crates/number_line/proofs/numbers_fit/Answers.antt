@@ -1,0 +1,7 @@
+-- Eight bytes a number. Assumes nothing.
+use borrow.Author.Rules.{rules}
+use Rattle.number_line.proofs.ReadLaws.{fit_is}
+use Rattle.number_line.proofs.numbers_fit.Goals as goal
+
+pub returns : goal.returns
+returns c = search fit_is

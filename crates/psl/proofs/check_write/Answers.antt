@@ -1,0 +1,8 @@
+-- The tests in their order. Assumes nothing.
+use Rattle.psl.specs.Write.{write_check}
+use borrow.Author.Rules.{rules}
+use Rattle.psl.proofs.check_write.Goals as goal
+
+pub returns : goal.returns
+unfolding write_check
+returns c = rw (c.demand.ensures, c.count_fits.ensures, c.demand-words.ensures, c.words_show.ensures, c.check_numbers-numbers.ensures, c.rows_of-rows.ensures)

@@ -1,0 +1,13 @@
+-- The line read gives the record and its lists, and the next stage goes on. Assumes nothing.
+use Rattle.psl.proofs.ColumnLaws.{stage_ready, stage_stops, stage_on}
+use borrow.Author.Rules.{rules}
+use Rattle.psl.proofs.stage.Goals as goal
+
+pub after_line-requires : goal.after_line-requires
+after_line-requires c = search stage_ready
+
+pub returns-in-Faulty : goal.returns-in-Faulty
+returns-in-Faulty c = search (stage_stops, stage_on)
+
+pub returns-in-Next : goal.returns-in-Next
+returns-in-Next c = search (stage_stops, stage_on)
