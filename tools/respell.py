@@ -64,7 +64,8 @@ def declared():
         for block in BLOCK.findall(text):
             fields.update({n: spelt(n) for n in FIELD.findall(block)})
     sources = '\n'.join(p.read_text() for p in CRATES.glob('*/src/**/*.rt'))
-    fields = {o: n for o, n in fields.items() if o != n and not re.search(rf"\b{o}: ", sources)}
+    # a field that has the name of a struct's keeps its spelling
+    fields = {o: o if re.search(rf"\b{o}: ", sources) else n for o, n in fields.items() if o != n}
     # a lemma that would have a definition's name ends in `_lem`
     words = {new for of in names for old, new in names[of].items() if '.specs.' in of or ('-' not in old and old != new)}
     for of in names:

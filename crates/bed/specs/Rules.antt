@@ -33,15 +33,15 @@ pub record BedLine (s vs : List ℕ) (ls : List (List ℕ)) (r : Bed) (starts si
   -- the record is what they spell
   pub words : r.words ≡ word_count s 0
   pub chrom : r.chrom ≡ part_of (word_at s 0 column.chrom)
-  pub chrom_start : r.chromStart ≡ get_or vs column.chrom_start 0
-  pub chrom_end : r.chromEnd ≡ get_or vs column.chrom_end 0
+  pub chromStart : r.chromStart ≡ get_or vs column.chrom_start 0
+  pub chromEnd : r.chromEnd ≡ get_or vs column.chrom_end 0
   pub name : column.name < r.words → r.name ≡ part_of (word_at s 0 column.name)
   pub score : column.score < r.words → r.score ≡ get_or vs column.score 0
   pub strand : column.strand < r.words → strand_letter r.strand ≡ get_or vs column.strand 0
-  pub thick_start : column.thick_start < r.words → r.thickStart ≡ get_or vs column.thick_start 0
-  pub thick_end : column.thick_end < r.words → r.thickEnd ≡ get_or vs column.thick_end 0
-  pub item_rgb : column.item_rgb < r.words → r.itemRgb ≡ get_or vs column.item_rgb 0
-  pub block_count : column.block_count < r.words → r.blockCount ≡ get_or vs column.block_count 0
+  pub thickStart : column.thick_start < r.words → r.thickStart ≡ get_or vs column.thick_start 0
+  pub thickEnd : column.thick_end < r.words → r.thickEnd ≡ get_or vs column.thick_end 0
+  pub itemRgb : column.item_rgb < r.words → r.itemRgb ≡ get_or vs column.item_rgb 0
+  pub blockCount : column.block_count < r.words → r.blockCount ≡ get_or vs column.block_count 0
   pub listed_sizes : column.block_count < r.words → sizes ≡ get_or ls column.block_sizes []
   pub listed_starts : column.block_count < r.words → starts ≡ get_or ls column.block_starts []
   -- columns left out hold their defaults; one block, the span
@@ -101,15 +101,15 @@ abbrev pub named : Bed → List ℕ → List ℕ → Bed
 named r chrom name = record {
   words = r.words;
   chrom = part_at 0 (length chrom);
-  chrom_start = r.chromStart;
-  chrom_end = r.chromEnd;
+  chromStart = r.chromStart;
+  chromEnd = r.chromEnd;
   name = part_at 0 (length name);
   score = r.score;
   strand = r.strand;
-  thick_start = r.thickStart;
-  thick_end = r.thickEnd;
-  item_rgb = r.itemRgb;
-  block_count = r.blockCount;
+  thickStart = r.thickStart;
+  thickEnd = r.thickEnd;
+  itemRgb = r.itemRgb;
+  blockCount = r.blockCount;
 }
 
 -- the record with its names where they stand in a text: what the reader makes of the record's standard text
@@ -117,13 +117,13 @@ unfoldable pub placed : List ℕ → Bed → Bed
 placed s r = record {
   words = r.words;
   chrom = part_of (word_at s 0 column.chrom);
-  chrom_start = r.chromStart;
-  chrom_end = r.chromEnd;
+  chromStart = r.chromStart;
+  chromEnd = r.chromEnd;
   name = cond (ltb column.name r.words) (part_of (word_at s 0 column.name)) (record { start = length s; length = 0 });
   score = r.score;
   strand = r.strand;
-  thick_start = r.thickStart;
-  thick_end = r.thickEnd;
-  item_rgb = r.itemRgb;
-  block_count = r.blockCount;
+  thickStart = r.thickStart;
+  thickEnd = r.thickEnd;
+  itemRgb = r.itemRgb;
+  blockCount = r.blockCount;
 }

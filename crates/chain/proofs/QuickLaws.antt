@@ -185,16 +185,16 @@ module _ (s : List ℕ) (line k : ℕ) (some : 1 ≤ k) where
 pub record HeadRun (s : List ℕ) (x : Head) : Type 0 where
   pub word : FieldTaken (kind.Word fixed.Chain) s 0 x.word
   pub score : FieldTaken (Number ChainScore) s x.word.end x.score
-  pub t_name : FieldTaken Name s x.score.end x.tName
-  pub t_size : FieldTaken (Number Size) s x.tName.end x.tSize
-  pub t_strand : FieldTaken (kind.Word fixed.Plus) s x.tSize.end x.tStrand
-  pub t_start : FieldTaken (Number Coordinate) s x.tStrand.end x.tStart
-  pub t_end : FieldTaken (Number Coordinate) s x.tStart.end x.tEnd
-  pub q_name : FieldTaken Name s x.tEnd.end x.qName
-  pub q_size : FieldTaken (Number Size) s x.qName.end x.qSize
-  pub q_strand : FieldTaken (Stranded false) s x.qSize.end x.qStrand
-  pub q_start : FieldTaken (Number Coordinate) s x.qStrand.end x.qStart
-  pub q_end : FieldTaken (Number Coordinate) s x.qStart.end x.qEnd
+  pub tName : FieldTaken Name s x.score.end x.tName
+  pub tSize : FieldTaken (Number Size) s x.tName.end x.tSize
+  pub tStrand : FieldTaken (kind.Word fixed.Plus) s x.tSize.end x.tStrand
+  pub tStart : FieldTaken (Number Coordinate) s x.tStrand.end x.tStart
+  pub tEnd : FieldTaken (Number Coordinate) s x.tStart.end x.tEnd
+  pub qName : FieldTaken Name s x.tEnd.end x.qName
+  pub qSize : FieldTaken (Number Size) s x.qName.end x.qSize
+  pub qStrand : FieldTaken (Stranded false) s x.qSize.end x.qStrand
+  pub qStart : FieldTaken (Number Coordinate) s x.qStrand.end x.qStart
+  pub qEnd : FieldTaken (Number Coordinate) s x.qStart.end x.qEnd
   pub id : FieldTaken (Number ChainId) s x.qEnd.end x.id
 
 module _ (s : List ℕ) (x : Head) (run : HeadRun s x) where

@@ -34,15 +34,15 @@ pub record ChainText (s vs : List ℕ) (ls : List (List ℕ)) (r : Chain) (ts qs
   pub spelt : Spells chain_columns 0 (words_of (line_of s)) vs lists
   -- the record is what they spell
   pub score : r.score ≡ get_or vs column.score 0
-  pub t_name : r.tName ≡ part_of (word_at s 0 column.t_name)
-  pub t_size : r.tSize ≡ get_or vs column.t_size 0
-  pub t_start : r.tStart ≡ get_or vs column.t_start 0
-  pub t_end : r.tEnd ≡ get_or vs column.t_end 0
-  pub q_name : r.qName ≡ part_of (word_at s 0 column.q_name)
-  pub q_size : r.qSize ≡ get_or vs column.q_size 0
-  pub q_strand : strand_letter r.qStrand ≡ get_or vs column.q_strand 0
-  pub q_start : r.qStart ≡ get_or vs column.q_start 0
-  pub q_end : r.qEnd ≡ get_or vs column.q_end 0
+  pub tName : r.tName ≡ part_of (word_at s 0 column.t_name)
+  pub tSize : r.tSize ≡ get_or vs column.t_size 0
+  pub tStart : r.tStart ≡ get_or vs column.t_start 0
+  pub tEnd : r.tEnd ≡ get_or vs column.t_end 0
+  pub qName : r.qName ≡ part_of (word_at s 0 column.q_name)
+  pub qSize : r.qSize ≡ get_or vs column.q_size 0
+  pub qStrand : strand_letter r.qStrand ≡ get_or vs column.q_strand 0
+  pub qStart : r.qStart ≡ get_or vs column.q_start 0
+  pub qEnd : r.qEnd ≡ get_or vs column.q_end 0
   pub id : r.id ≡ get_or vs column.id 0
   -- the spans
   pub t_span : r.tStart < r.tEnd
@@ -86,17 +86,17 @@ pub record ChainRules (r : Chain) (ts qs zs : List ℕ) : Type 0 where
 
 -- the record with names of these lengths: what the rules are asked of where the names are handed in beside it
 abbrev pub named : Chain → List ℕ → List ℕ → Chain
-named r t_name q_name = record {
+named r tName qName = record {
   score = r.score;
-  t_name = part_at 0 (length t_name);
-  t_size = r.tSize;
-  t_start = r.tStart;
-  t_end = r.tEnd;
-  q_name = part_at 0 (length q_name);
-  q_size = r.qSize;
-  q_strand = r.qStrand;
-  q_start = r.qStart;
-  q_end = r.qEnd;
+  tName = part_at 0 (length tName);
+  tSize = r.tSize;
+  tStart = r.tStart;
+  tEnd = r.tEnd;
+  qName = part_at 0 (length qName);
+  qSize = r.qSize;
+  qStrand = r.qStrand;
+  qStart = r.qStart;
+  qEnd = r.qEnd;
   id = r.id;
   blockCount = r.blockCount;
 }
@@ -105,15 +105,15 @@ named r t_name q_name = record {
 unfoldable pub placed : List ℕ → Chain → Chain
 placed s r = record {
   score = r.score;
-  t_name = part_of (word_at s 0 column.t_name);
-  t_size = r.tSize;
-  t_start = r.tStart;
-  t_end = r.tEnd;
-  q_name = part_of (word_at s 0 column.q_name);
-  q_size = r.qSize;
-  q_strand = r.qStrand;
-  q_start = r.qStart;
-  q_end = r.qEnd;
+  tName = part_of (word_at s 0 column.t_name);
+  tSize = r.tSize;
+  tStart = r.tStart;
+  tEnd = r.tEnd;
+  qName = part_of (word_at s 0 column.q_name);
+  qSize = r.qSize;
+  qStrand = r.qStrand;
+  qStart = r.qStart;
+  qEnd = r.qEnd;
   id = r.id;
   blockCount = r.blockCount;
 }

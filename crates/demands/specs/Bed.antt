@@ -43,14 +43,14 @@ pub record BedValid (r : Bed) (ns : Names) (table : List Row) : Type 0 where
 
 pub record SameBed (r r' : Bed) : Type 0 where
   pub words : r'.words ≡ r.words
-  pub chrom_start : r'.chromStart ≡ r.chromStart
-  pub chrom_end : r'.chromEnd ≡ r.chromEnd
+  pub chromStart : r'.chromStart ≡ r.chromStart
+  pub chromEnd : r'.chromEnd ≡ r.chromEnd
   pub score : r'.score ≡ r.score
   pub strand : r'.strand ≡ r.strand
-  pub thick_start : r'.thickStart ≡ r.thickStart
-  pub thick_end : r'.thickEnd ≡ r.thickEnd
-  pub item_rgb : r'.itemRgb ≡ r.itemRgb
-  pub block_count : r'.blockCount ≡ r.blockCount
+  pub thickStart : r'.thickStart ≡ r.thickStart
+  pub thickEnd : r'.thickEnd ≡ r.thickEnd
+  pub itemRgb : r'.itemRgb ≡ r.itemRgb
+  pub blockCount : r'.blockCount ≡ r.blockCount
 
 unfoldable pub bed : Format
 bed = record {

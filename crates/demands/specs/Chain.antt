@@ -42,15 +42,15 @@ pub record ChainValid (r : Chain) (ns : Names) (table : List Row) : Type 0 where
 
 pub record SameChain (r r' : Chain) : Type 0 where
   pub score : r'.score ≡ r.score
-  pub t_size : r'.tSize ≡ r.tSize
-  pub t_start : r'.tStart ≡ r.tStart
-  pub t_end : r'.tEnd ≡ r.tEnd
-  pub q_size : r'.qSize ≡ r.qSize
-  pub q_strand : r'.qStrand ≡ r.qStrand
-  pub q_start : r'.qStart ≡ r.qStart
-  pub q_end : r'.qEnd ≡ r.qEnd
+  pub tSize : r'.tSize ≡ r.tSize
+  pub tStart : r'.tStart ≡ r.tStart
+  pub tEnd : r'.tEnd ≡ r.tEnd
+  pub qSize : r'.qSize ≡ r.qSize
+  pub qStrand : r'.qStrand ≡ r.qStrand
+  pub qStart : r'.qStart ≡ r.qStart
+  pub qEnd : r'.qEnd ≡ r.qEnd
   pub id : r'.id ≡ r.id
-  pub block_count : r'.blockCount ≡ r.blockCount
+  pub blockCount : r'.blockCount ≡ r.blockCount
 
 unfoldable pub chain : Format
 chain = record {

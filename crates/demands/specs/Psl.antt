@@ -43,13 +43,13 @@ pub record PslValid (r : Psl) (ns : Names) (table : List Row) : Type 0 where
 pub record SamePsl (r r' : Psl) : Type 0 where
   pub counts : r'.counts ≡ r.counts
   pub strand : r'.strand ≡ r.strand
-  pub q_size : r'.query.size ≡ r.query.size
-  pub q_start : r'.query.start ≡ r.query.start
-  pub q_end : r'.query.end ≡ r.query.end
-  pub t_size : r'.target.size ≡ r.target.size
-  pub t_start : r'.target.start ≡ r.target.start
-  pub t_end : r'.target.end ≡ r.target.end
-  pub block_count : r'.blockCount ≡ r.blockCount
+  pub qSize : r'.query.size ≡ r.query.size
+  pub qStart : r'.query.start ≡ r.query.start
+  pub qEnd : r'.query.end ≡ r.query.end
+  pub tSize : r'.target.size ≡ r.target.size
+  pub tStart : r'.target.start ≡ r.target.start
+  pub tEnd : r'.target.end ≡ r.target.end
+  pub blockCount : r'.blockCount ≡ r.blockCount
 
 unfoldable pub psl : Format
 psl = record {

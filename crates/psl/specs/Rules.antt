@@ -42,17 +42,17 @@ pub record PslLine (s vs : List ℕ) (ls : List (List ℕ)) (r : Psl) (ts qs zs 
   pub line : OneLine psl_columns s vs ls
   -- the record is what the words spell
   pub matches : r.counts.matches ≡ get_or vs column.matches 0
-  pub mis_matches : r.counts.misMatches ≡ get_or vs column.mis_matches 0
-  pub rep_matches : r.counts.repMatches ≡ get_or vs column.rep_matches 0
-  pub n_count : r.counts.nCount ≡ get_or vs column.n_count 0
-  pub q_num_insert : r.counts.qNumInsert ≡ get_or vs column.q_num_insert 0
-  pub q_base_insert : r.counts.qBaseInsert ≡ get_or vs column.q_base_insert 0
-  pub t_num_insert : r.counts.tNumInsert ≡ get_or vs column.t_num_insert 0
-  pub t_base_insert : r.counts.tBaseInsert ≡ get_or vs column.t_base_insert 0
+  pub misMatches : r.counts.misMatches ≡ get_or vs column.mis_matches 0
+  pub repMatches : r.counts.repMatches ≡ get_or vs column.rep_matches 0
+  pub nCount : r.counts.nCount ≡ get_or vs column.n_count 0
+  pub qNumInsert : r.counts.qNumInsert ≡ get_or vs column.q_num_insert 0
+  pub qBaseInsert : r.counts.qBaseInsert ≡ get_or vs column.q_base_insert 0
+  pub tNumInsert : r.counts.tNumInsert ≡ get_or vs column.t_num_insert 0
+  pub tBaseInsert : r.counts.tBaseInsert ≡ get_or vs column.t_base_insert 0
   pub strand : strand_letter r.strand ≡ get_or vs column.strand 0
   pub query : SideSays s vs column.q_name r.query
   pub target : SideSays s vs column.t_name r.target
-  pub block_count : r.blockCount ≡ get_or vs column.block_count 0
+  pub blockCount : r.blockCount ≡ get_or vs column.block_count 0
   pub listed_sizes : zs ≡ get_or ls column.block_sizes []
   pub listed_queries : qs ≡ get_or ls column.q_starts []
   pub listed_targets : ts ≡ get_or ls column.t_starts []
@@ -108,7 +108,7 @@ named r qName tName = record {
   strand = r.strand;
   query = renamed r.query (part_at 0 (length qName));
   target = renamed r.target (part_at 0 (length tName));
-  block_count = r.blockCount;
+  blockCount = r.blockCount;
 }
 
 -- the record with its names where they stand in a text: what the reader makes of the record's standard text
@@ -118,5 +118,5 @@ placed s r = record {
   strand = r.strand;
   query = renamed r.query (part_of (word_at s 0 column.q_name));
   target = renamed r.target (part_of (word_at s 0 column.t_name));
-  block_count = r.blockCount;
+  blockCount = r.blockCount;
 }

@@ -16,11 +16,11 @@ use Rattle.psl.specs.Tests.{fields_fit}
 -- counts that columns hold are coordinates
 pub record CountsRange (c : Counts) : Type 0 where
   pub matches : c.matches ≤ largest_position
-  pub mis_matches : c.misMatches ≤ largest_position
-  pub rep_matches : c.repMatches ≤ largest_position
-  pub n_count : c.nCount ≤ largest_position
-  pub q_base_insert : c.qBaseInsert ≤ largest_position
-  pub t_base_insert : c.tBaseInsert ≤ largest_position
+  pub misMatches : c.misMatches ≤ largest_position
+  pub repMatches : c.repMatches ≤ largest_position
+  pub nCount : c.nCount ≤ largest_position
+  pub qBaseInsert : c.qBaseInsert ≤ largest_position
+  pub tBaseInsert : c.tBaseInsert ≤ largest_position
 
 -- a record and its blocks, before its rules are tested
 pub record Ready (s : List ℕ) (r : Psl) (lists : List ℕ) : Type 0 where

@@ -44,13 +44,13 @@ turned c = record {
   score = c.score;
   tName = c.qName;
   tSize = c.qSize;
-  t_start = strand_start c.qStrand c.qSize c.qStart c.qEnd;
-  t_end = strand_end c.qStrand c.qSize c.qStart c.qEnd;
+  tStart = strand_start c.qStrand c.qSize c.qStart c.qEnd;
+  tEnd = strand_end c.qStrand c.qSize c.qStart c.qEnd;
   qName = c.tName;
   qSize = c.tSize;
   qStrand = c.qStrand;
-  q_start = strand_start c.qStrand c.tSize c.tStart c.tEnd;
-  q_end = strand_end c.qStrand c.tSize c.tStart c.tEnd;
+  qStart = strand_start c.qStrand c.tSize c.tStart c.tEnd;
+  qEnd = strand_end c.qStrand c.tSize c.tStart c.tEnd;
   id = c.id;
   blockCount = c.blockCount;
 }
@@ -105,7 +105,7 @@ pub record Fillable (size n : ℕ) (xs zs out : List ℕ) : Type 0 where
 
 -- both spans lie within their sequences
 pub record SpansFit (c : Chain) : Type 0 where
-  pub t_start : c.tStart ≤ c.tSize
-  pub t_end : c.tEnd ≤ c.tSize
-  pub q_start : c.qStart ≤ c.qSize
-  pub q_end : c.qEnd ≤ c.qSize
+  pub tStart : c.tStart ≤ c.tSize
+  pub tEnd : c.tEnd ≤ c.tSize
+  pub qStart : c.qStart ≤ c.qSize
+  pub qEnd : c.qEnd ≤ c.qSize
