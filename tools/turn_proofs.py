@@ -76,6 +76,29 @@ def args_of(text):
     return out
 
 
+def aligned(args, needs, decls):
+    """As many of the arguments as there are goals, in order: what was asked of a call takes two parameters, all else one."""
+    def cost(arg, need):
+        d = next((d for d in decls if d['name'] == arg), None)
+        if d:
+            m = re.search(rf"tie\.Need-({NAME})", ' '.join(d['lines'][:2]))
+            return 0 if m and m.group(1).replace('-', '_') == need[0].replace('-', '_') else 5
+        two = bool(re.match(rf"\(λ {NAME} {NAME}\.", arg))
+        return 0 if two == bool(re.search(r"-requires(-\d+)?$", need[0])) else 3
+
+    best = {(0, 0): (0, [])}
+    for i, arg in enumerate(args):
+        for j in range(len(needs) + 1):
+            if (i, j) not in best:
+                continue
+            c, taken = best[i, j]
+            trivial = strip(re.sub(r"^\(λ c\. ", '', arg)[:-1]) == 'search rules'
+            for to, more, kept in (((i + 1, j), 0 if trivial else 9, taken), ((i + 1, j + 1), cost(arg, needs[j]) if j < len(needs) else 99, taken + [arg])):
+                if to[1] <= len(needs) and (to not in best or best[to][0] > c + more):
+                    best[to] = (c + more, kept)
+    return best.get((len(args), len(needs)), (0, []))[1]
+
+
 def strip(term):
     term = term.strip()
     while term.startswith('(') and term.endswith(')'):
@@ -161,9 +184,10 @@ def turn(crate, function, path, info):
     said = []
     # goals that the older kit did not ask
     if len(goals) != len(needs):
-        # a literal's goal comes first, and is no longer asked
-        said.append(f"{len(goals)} arguments, {len(needs)} goals")
-        goals = goals[-len(needs):]
+        # a literal's goal is no longer asked: it stands before the call that takes the literal
+        goals = aligned(goals, needs, decls)
+        if not goals:
+            said.append(f"arguments and {len(needs)} goals do not go together")
     local = {}
     facts = {}
     for d in list(decls):
@@ -268,6 +292,12 @@ def turn(crate, function, path, info):
             if len(given) > len(params):
                 said.append(f"{kind}: {len(given)} parameters for {len(params)}")
             swap = dict(zip(given, params))
+            if len(given) != len(params):
+                swap = {}
+                for g in given:
+                    base = g.rstrip('₀')
+                    if base in live:
+                        swap[g] = ('l.initial.' if base != g else 'l.') + base
             rest = re.sub(rf"(?<![{LETTER}.-])({NAME})", lambda m: swap.get(m.group(1), m.group(1)) if m.group(1) != '_' else '_', rest)
             parts.append('\n'.join(d.get('above', []) + [f"abbrev pub {kind}-{name} : goal.{kind}-{name}"] + unf + [f"{kind}-{name} l ={rest}"]))
         (path.parent / 'Invariants.antt').write_text('\n'.join(comment + uses + [f"use {mod}.Given as goal"]) + '\n\n' + '\n\n'.join(parts) + '\n')

@@ -37,7 +37,7 @@ run_below te qe a b (x ∷ xs) r = let h = run_below te qe (target_end x) (query
 pub run_at : (te qe a b : ℕ) (xs : List Row) → Run te qe a b xs → (i : ℕ) → i < length xs → (target_end (get_or xs i no_row) ≤ te) × (query_end (get_or xs i no_row) ≤ qe)
 run_at te qe a b [] r i h = absurd (omega arith)
 run_at te qe a b (x ∷ xs) r zero h = run_below te qe _ _ xs r.3
-run_at te qe a b (x ∷ xs) r (suc i) h = run_at te qe _ _ xs r.3 i (omega arith)
+run_at te qe a b (x ∷ xs) r (suc i) h = run_at te qe (target_end x) (query_end x) xs r.3 i (omega arith)
 
 -- the two sides of a row
 abbrev pub on_target : Row → ℕ

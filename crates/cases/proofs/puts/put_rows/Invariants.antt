@@ -1,0 +1,16 @@
+-- Whatever puts the rows from here on completes the whole. Assumes nothing.
+use Prim.Native.Nat.{◌-◌, ◌≤◌}
+use mathlib.Core.Path.{◌≡◌, refl}
+use lib.ListN.{length}
+use Rattle.ledger.specs.Limits.{largest_place}
+use Rattle.writing.proofs.PutLaws.{Completes}
+use Rattle.cases.specs.Texts.{rows_text}
+use Rattle.cases.proofs.CaseLaws.{rows_start, rows_step, rows_done}
+use borrow.Author.Rules.{rules}
+use Rattle.cases.proofs.puts.put_rows.Given as goal
+
+abbrev pub invariant-loop-i : goal.invariant-loop-i
+invariant-loop-i l = (l.i ≤ l.n) × (length l.out ≡ length l.initial.out) × (length l.out ≤ largest_place) × (l.p ≤ largest_place) × Completes (rows_text (l.n - l.i) l.i l.targets l.queries l.sizes) l.p l.out (rows_text l.n 0 l.targets l.queries l.sizes) l.at l.initial.out
+
+abbrev pub decreases-loop-i : goal.decreases-loop-i
+decreases-loop-i l = l.n - l.i

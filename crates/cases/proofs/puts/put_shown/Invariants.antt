@@ -1,0 +1,16 @@
+-- Whatever puts the bytes from here on completes the whole. Assumes nothing.
+use Prim.Native.Nat.{◌-◌, ◌≤◌}
+use mathlib.Core.Path.{◌≡◌, refl}
+use lib.ListN.{length, drop}
+use Rattle.ledger.specs.Limits.{largest_place}
+use Rattle.writing.proofs.PutLaws.{Completes, completes_all}
+use Rattle.cases.specs.Texts.{shown_text}
+use Rattle.cases.proofs.CaseLaws.{shown_step, shown_done}
+use borrow.Author.Rules.{rules}
+use Rattle.cases.proofs.puts.put_shown.Given as goal
+
+abbrev pub invariant-loop-i : goal.invariant-loop-i
+invariant-loop-i l = (l.i ≤ length l.bytes) × (length l.out ≡ length l.initial.out) × (length l.out ≤ largest_place) × (l.p ≤ largest_place) × Completes (shown_text (drop l.i l.bytes)) l.p l.out (shown_text l.bytes) l.at l.initial.out
+
+abbrev pub decreases-loop-i : goal.decreases-loop-i
+decreases-loop-i l = length l.bytes - l.i

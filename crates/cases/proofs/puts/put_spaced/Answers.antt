@@ -1,0 +1,19 @@
+-- Whatever puts the numbers from here on completes the whole. Assumes nothing.
+use Prim.Native.Nat.{◌-◌, ◌≤◌}
+use mathlib.Core.Path.{◌≡◌, refl}
+use lib.ListN.{length, drop}
+use Rattle.ledger.specs.Limits.{largest_place}
+use Rattle.writing.proofs.PutLaws.{Completes, completes_all}
+use Rattle.cases.specs.Texts.{spaced_text}
+use Rattle.cases.proofs.CaseLaws.{spaced_step, spaced_done}
+use borrow.Author.Rules.{rules}
+use Rattle.cases.proofs.puts.put_spaced.Goals as goal
+
+pub loop-i-init : goal.loop-i-init
+loop-i-init c = (search rules, refl, search rules, search rules, completes_all _ _ _)
+
+pub loop-i-preserved : goal.loop-i-preserved
+loop-i-preserved c = (search rules, search rules, search rules, search rules, search spaced_step)
+
+pub returns : goal.returns
+returns c = search spaced_done

@@ -1,0 +1,16 @@
+-- Whatever puts the numbers from here on completes the whole. Assumes nothing.
+use Prim.Native.Nat.{◌-◌, ◌≤◌}
+use mathlib.Core.Path.{◌≡◌, refl}
+use lib.ListN.{length, drop}
+use Rattle.ledger.specs.Limits.{largest_place}
+use Rattle.writing.proofs.PutLaws.{Completes, completes_all}
+use Rattle.cases.specs.Texts.{spaced_text}
+use Rattle.cases.proofs.CaseLaws.{spaced_step, spaced_done}
+use borrow.Author.Rules.{rules}
+use Rattle.cases.proofs.puts.put_spaced.Given as goal
+
+abbrev pub invariant-loop-i : goal.invariant-loop-i
+invariant-loop-i l = (l.i ≤ length l.vs) × (length l.out ≡ length l.initial.out) × (length l.out ≤ largest_place) × (l.p ≤ largest_place) × Completes (spaced_text (drop l.i l.vs)) l.p l.out (spaced_text l.vs) l.at l.initial.out
+
+abbrev pub decreases-loop-i : goal.decreases-loop-i
+decreases-loop-i l = length l.vs - l.i

@@ -1,0 +1,13 @@
+-- The two answers of a writer. Assumes nothing.
+use Rattle.cases.proofs.CaseLaws.{written_length, text_refused, text_written}
+use borrow.Author.Rules.{rules}
+use Rattle.cases.proofs.puts.put_text.Goals as goal
+
+pub slice_bounds-put_shown-end : goal.slice_bounds-put_shown-end
+slice_bounds-put_shown-end c = search written_length
+
+pub returns-in-Refused : goal.returns-in-Refused
+returns-in-Refused c = search (text_refused, text_written)
+
+pub returns-in-Written : goal.returns-in-Written
+returns-in-Written c = search (text_refused, text_written)

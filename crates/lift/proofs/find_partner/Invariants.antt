@@ -1,0 +1,14 @@
+use Prim.Native.Nat.{◌-◌, ◌≤◌, ◌<◌}
+use mathlib.Core.Path.{refl}
+use lib.ListN.{get_or}
+use native.Mathlib.Omega.{arith}
+use borrow.Author.Rules.{rules}
+use Rattle.lift.specs.Pairs.{forward_on, pairs}
+use Rattle.lift.proofs.FindLaws.{held, Seeking, seek_on, seek_found, seek_past, told_low}
+use Rattle.lift.proofs.find_partner.Given as goal
+
+abbrev pub invariant-loop-i : goal.invariant-loop-i
+invariant-loop-i l = Seeking (forward_on l.k l.size) l.targets l.queries l.sizes l.p l.n l.i
+
+abbrev pub decreases-loop-i : goal.decreases-loop-i
+decreases-loop-i l = l.n - l.i

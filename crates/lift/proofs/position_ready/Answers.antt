@@ -1,0 +1,16 @@
+-- Each way out is one of the definition. Assumes nothing.
+use Rattle.lift.proofs.PositionLaws.{past_target, by_partner, small_target, small_query, lift_at, lift_none}
+use borrow.Author.Rules.{rules}
+use Rattle.lift.proofs.position_ready.Goals as goal
+
+pub returns-then-c-p : goal.returns-then-c-p
+returns-then-c-p c = search past_target
+
+pub drift_of-requires : goal.drift_of-requires
+drift_of-requires c = (search small_target, search small_query)
+
+pub returns-in-Base : goal.returns-in-Base
+returns-in-Base c = search (by_partner, lift_at)
+
+pub returns-in-Alone : goal.returns-in-Alone
+returns-in-Alone c = search (by_partner, lift_none)

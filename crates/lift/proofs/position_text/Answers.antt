@@ -1,0 +1,13 @@
+-- The text is refused, or its chain is accepted. Assumes nothing.
+use Rattle.lift.proofs.TextLaws.{text_held, text_refused, text_lifted_lem}
+use borrow.Author.Rules.{rules}
+use Rattle.lift.proofs.position_text.Goals as goal
+
+pub position_rows-requires : goal.position_rows-requires
+position_rows-requires c = search text_held
+
+pub returns-in-Refused : goal.returns-in-Refused
+returns-in-Refused c = search text_refused
+
+pub returns-in-Accepted : goal.returns-in-Accepted
+returns-in-Accepted c = search text_lifted_lem
