@@ -149,6 +149,8 @@ class Steps:
             if form in self.map:
                 step = self.map[form]
                 break
+        if step == 'well-formed':
+            step = 'well_formed'
         rest = parts[1:]
         if rest and rest[0] in self.inner.get(step, {}):
             rest[0] = self.inner[step][rest[0]]

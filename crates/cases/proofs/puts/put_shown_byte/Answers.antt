@@ -3,8 +3,8 @@ use Rattle.cases.proofs.CaseLaws.{shown_tab, shown_feed, shown_self}
 use borrow.Author.Rules.{rules}
 use Rattle.cases.proofs.puts.put_shown_byte.Goals as goal
 
-pub shape_of-out-then-b-eq9 : goal.shape_of-out-then-b-eq9
-shape_of-out-then-b-eq9 c = search shown_tab
+pub returns-then-b-eq9 : goal.returns-then-b-eq9
+returns-then-b-eq9 c = search shown_tab
 
 pub returns-then-b-eq10 : goal.returns-then-b-eq10
 returns-then-b-eq10 c = search shown_feed

@@ -1,0 +1,17 @@
+-- Each way out is one of the definition. Assumes nothing.
+use Rattle.lift.proofs.TextLaws.{text_held}
+use Rattle.region.proofs.ByteLaws.{room_there, text_no_room, text_refused, text_answered}
+use borrow.Author.Rules.{rules}
+use Rattle.region.proofs.batch_text.Goals as goal
+
+pub returns-then-not-rows_fit : goal.returns-then-not-rows_fit
+returns-then-not-rows_fit c = search text_no_room
+
+pub put_text-after-requires : goal.put_text-after-requires
+put_text-after-requires c = (search text_held, search room_there)
+
+pub returns-in-Refused : goal.returns-in-Refused
+returns-in-Refused c = search text_refused
+
+pub returns-in-Accepted : goal.returns-in-Accepted
+returns-in-Accepted c = search text_answered

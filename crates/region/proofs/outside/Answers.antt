@@ -1,0 +1,7 @@
+-- Assumes nothing.
+use Rattle.region.proofs.SearchLaws.{outside_is}
+use borrow.Author.Rules.{rules}
+use Rattle.region.proofs.outside.Goals as goal
+
+pub returns : goal.returns
+returns c = search outside_is

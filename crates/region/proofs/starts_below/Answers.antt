@@ -1,0 +1,7 @@
+-- Assumes nothing.
+use Rattle.region.proofs.SearchLaws.{below_is}
+use borrow.Author.Rules.{rules}
+use Rattle.region.proofs.starts_below.Goals as goal
+
+pub returns : goal.returns
+returns c = search below_is

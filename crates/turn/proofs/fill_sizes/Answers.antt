@@ -1,0 +1,19 @@
+-- Storing the rest of the sizes from here on completes storing all of them. Assumes nothing.
+use Prim.Native.Nat.{◌-◌}
+use native.Mathlib.Omega.{arith}
+use borrow.Author.Rules.{rules}
+use Rattle.turn.specs.Turns.{size_at}
+use Rattle.turn.proofs.FillLaws.{Filled, fill_start, fill_step, fill_end, size_is}
+use Rattle.turn.proofs.fill_sizes.Goals as goal
+
+pub loop-i-init : goal.loop-i-init
+loop-i-init c = search fill_start
+
+pub loop-i-preserved : goal.loop-i-preserved
+loop-i-preserved c =
+    let o = c.args in let l = c.loop-i in
+    let j = c.source_of-j in
+    fill_step (size_at o.k o.n o.sizes.now) o.n l.i _ _ _ l.invariant (search rules) (size_is o.k o.n o.sizes.now l.i j.result j.ensures.0)
+
+pub returns : goal.returns
+returns c = search fill_end
