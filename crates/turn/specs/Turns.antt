@@ -1,5 +1,5 @@
 -- Turning a chain (01, "Pairs, lifting, turning"): sides exchanged; with `-`, both spans converted and the blocks reversed, so that the new target is `+`.
-use Rattle.std.specs.Prelude.{ℕ, zero, suc, ◌+◌, ◌-◌, ◌≤◌, ◌<◌, ◌≡◌, Bool, true, false, List, [], ◌∷◌, map, reverse, length, get_or, leb}
+use Rattle.std.specs.Prelude.{ℕ, zero, suc, ◌+◌, ◌-◌, ◌≤◌, ◌<◌, ◌≡◌, List, [], ◌∷◌, map, reverse, length, get_or, leb}
 use Rattle.std.proofs.lemmas.List.Edits.{sets}
 use Rattle.blocks.specs.Strands.{strand_start, strand_end}
 use Rattle.ledger.specs.Refusals.{without_text, require}

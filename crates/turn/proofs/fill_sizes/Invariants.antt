@@ -1,9 +1,7 @@
 -- Storing the rest of the sizes from here on completes storing all of them. Assumes nothing.
 use Prim.Native.Nat.{◌-◌}
-use native.Mathlib.Omega.{arith}
-use borrow.Author.Rules.{rules}
 use Rattle.turn.specs.Turns.{size_at}
-use Rattle.turn.proofs.FillLaws.{Filled, fill_start, fill_step, fill_end, size_is}
+use Rattle.turn.proofs.FillLaws.{Filled}
 use Rattle.turn.proofs.fill_sizes.Given as goal
 
 abbrev pub invariant-loop-i : goal.invariant-loop-i

@@ -1,9 +1,8 @@
 -- Storing the rest of the starts from here on completes storing all of them. Assumes nothing.
-use Prim.Native.Nat.{◌-◌}
 use native.Mathlib.Omega.{arith}
 use borrow.Author.Rules.{rules}
 use Rattle.turn.specs.Turns.{start_at}
-use Rattle.turn.proofs.FillLaws.{Filled, fill_start, fill_step, fill_end, start_is}
+use Rattle.turn.proofs.FillLaws.{fill_start, fill_step, fill_end, start_is}
 use Rattle.turn.proofs.fill_starts.Goals as goal
 
 pub loop-i-init : goal.loop-i-init

@@ -1,5 +1,4 @@
 -- Each way out: the refusals leave the slices; the fills store the columns of the turned rows. Assumes nothing.
-use borrow.Author.Rules.{rules}
 use mathlib.Core.Path.{ap}
 use mathlib.Core.Bool.{not}
 use Rattle.blocks.specs.Blocks.{rows_of}
