@@ -179,13 +179,15 @@ fn prove(root: &Path, archive: &Path) {
     // Cargo shows a warning when this program has ended; on a terminal it is told at once too.
     let _ = fs::write("/dev/tty", format!("\r\nwarning: {message}\n"));
     let mut command = Command::new("rt");
-    let command = command.arg("lib").current_dir(root.join("crates").join(CRATE));
+    let command = command
+        .arg("lib")
+        .current_dir(root.join("crates").join(CRATE));
     // what `rt` prints is no line for cargo
     match command.stdout(Stdio::null()).status() {
         Ok(status) if status.success() && archive.is_file() => (),
-        Ok(status) if status.success() => stop(&format!(
-            "`rt lib` left no crates/{CRATE}/out/{ARCHIVE}"
-        )),
+        Ok(status) if status.success() => {
+            stop(&format!("`rt lib` left no crates/{CRATE}/out/{ARCHIVE}"))
+        }
         Ok(status) => stop(&format!("`rt lib` failed in crates/{CRATE}: {status}")),
         Err(error) => stop(&format!(
             "no {ARCHIVE} is built, and `rt lib` cannot be run: {error}. {OTHERWISE}"

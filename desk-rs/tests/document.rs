@@ -94,14 +94,7 @@ fn the_first_page_is_short_and_has_every_refusal() {
 /// Documents keep to 120 columns.
 #[test]
 fn no_document_is_too_wide() {
-    let folders = [
-        "",
-        "docs",
-        "docs/landings",
-        "desk-rs",
-        "python",
-        "tools/walks",
-    ];
+    let folders = ["", "docs", "docs/landings", "desk-rs", "python"];
     let mut seen = 0;
     for folder in folders.map(|folder| root().join(folder)) {
         for path in fs::read_dir(folder)

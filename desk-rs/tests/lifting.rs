@@ -376,7 +376,7 @@ fn blocks_in_several_chains_are_not_lifted_as_one_line() {
 
 #[test]
 fn a_target_with_chr_in_front_is_named() {
-    let folder = Folder::new("near");
+    let folder = Folder::new("near-grows");
     let chain = "chain 1 chr1 9 + 0 9 q 9 + 0 9 1\n9\n\nchain 1 X 9 + 0 9 q 9 + 0 9 2\n9\n";
     folder.write("a.chain", chain);
     folder.write("in.bed", "1 0 2\nchrX 0 2\nchr2 0 2\nchr 0 2\n");

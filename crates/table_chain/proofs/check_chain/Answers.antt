@@ -1,6 +1,5 @@
 -- The staged rows give the table's answer. Assumes nothing.
 use borrow.Author.Rules.{rules}
-use Rattle.rows.specs.Staging.{Columns}
 use Rattle.table_chain.proofs.RowLaws.{rows_checked}
 use Rattle.table_chain.proofs.check_chain.Goals as goal
 

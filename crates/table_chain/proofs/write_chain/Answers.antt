@@ -1,6 +1,5 @@
 -- The staged rows give the table's text. Assumes nothing.
 use borrow.Author.Rules.{rules}
-use Rattle.rows.specs.Staging.{Columns}
 use Rattle.table_chain.proofs.RowLaws.{rows_wrote}
 use Rattle.table_chain.proofs.write_chain.Goals as goal
 

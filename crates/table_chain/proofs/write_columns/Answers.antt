@@ -1,7 +1,6 @@
 -- The part of the columns that the table fills, written. Assumes nothing.
 use Rattle.rows.proofs.StagingLaws.{part_count}
 use Rattle.table_chain.proofs.RowLaws.{columns_wrote}
-use borrow.Author.Rules.{rules}
 use Rattle.table_chain.proofs.write_columns.Goals as goal
 
 pub slice_bounds-write_chain-end : goal.slice_bounds-write_chain-end

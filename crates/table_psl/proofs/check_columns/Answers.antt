@@ -1,7 +1,6 @@
 -- The part of the columns that the table fills, checked. Assumes nothing.
 use Rattle.rows.proofs.StagingLaws.{part_count}
 use Rattle.table_psl.proofs.RowLaws.{columns_checked}
-use borrow.Author.Rules.{rules}
 use Rattle.table_psl.proofs.check_columns.Goals as goal
 
 pub slice_bounds-check_psl-end : goal.slice_bounds-check_psl-end

@@ -1,7 +1,6 @@
 -- The part of the columns that the table may fill, read into. Assumes nothing.
 use Rattle.rows.proofs.StagingLaws.{part_count}
 use Rattle.table_psl.proofs.RowLaws.{columns_read}
-use borrow.Author.Rules.{rules}
 use Rattle.table_psl.proofs.read_columns.Goals as goal
 
 pub slice_bounds-read_psl-end-2 : goal.slice_bounds-read_psl-end-2
