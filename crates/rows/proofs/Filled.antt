@@ -2,9 +2,9 @@
 --     up_to f n         f 0, f 1, … , f (n - 1)
 --     stored f ys n    ys after the stores of f 0 at 0, f 1 at 1, … , f (n - 1) at n - 1
 --     stored_is        that is `up_to f n` and the rest of ys
---     upTo-same        `up_to` of functions that agree below n
---     upTo-map         `up_to` along a list is the list's front, mapped
---     rows-first       `up_to` along the rows of three columns is their first rows
+--     up_to_same        `up_to` of functions that agree below n
+--     up_to_map         `up_to` along a list is the list's front, mapped
+--     rows_first       `up_to` along the rows of three columns is their first rows
 -- Assumes nothing.
 use mathlib.Core.Path.{◌≡◌, refl, sym, ◌∙◌, ap}
 use mathlib.Core.List.{List, [], ◌∷◌, ◌++◌, map}

@@ -1,6 +1,5 @@
 use Rattle.rows.proofs.StagingLaws.{part_count}
 use Rattle.table_lift.proofs.LiftLaws.{batch_staged}
-use borrow.Author.Rules.{rules}
 use Rattle.table_lift.proofs.batch_columns.Goals as goal
 
 pub slice_bounds-tally_batch-end : goal.slice_bounds-tally_batch-end

@@ -1,6 +1,5 @@
 -- The staged rows give the table's batch. Assumes nothing.
 use borrow.Author.Rules.{rules}
-use Rattle.rows.specs.Staging.{Columns}
 use Rattle.table_lift.proofs.LiftLaws.{batch_lifted_lem}
 use Rattle.table_lift.proofs.lift_batch.Goals as goal
 

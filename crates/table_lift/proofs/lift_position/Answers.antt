@@ -1,6 +1,5 @@
 -- The staged rows give the table's answer. Assumes nothing.
 use borrow.Author.Rules.{rules}
-use Rattle.rows.specs.Staging.{Columns}
 use Rattle.table_lift.proofs.LiftLaws.{position_lifted_lem}
 use Rattle.table_lift.proofs.lift_position.Goals as goal
 

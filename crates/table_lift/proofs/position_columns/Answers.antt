@@ -1,7 +1,6 @@
 -- A position lifted through the part of the columns that the table fills. Assumes nothing.
 use Rattle.rows.proofs.StagingLaws.{part_count}
 use Rattle.table_lift.proofs.LiftLaws.{position_staged}
-use borrow.Author.Rules.{rules}
 use Rattle.table_lift.proofs.position_columns.Goals as goal
 
 pub slice_bounds-lift_position-end : goal.slice_bounds-lift_position-end

@@ -1,7 +1,6 @@
 -- A tally stepped by the part of the columns that the table fills. Assumes nothing.
 use Rattle.rows.proofs.StagingLaws.{part_count}
 use Rattle.table_lift.proofs.LiftLaws.{step_staged}
-use borrow.Author.Rules.{rules}
 use Rattle.table_lift.proofs.tally_columns.Goals as goal
 
 pub slice_bounds-tally_step-end : goal.slice_bounds-tally_step-end

@@ -1,6 +1,5 @@
 -- The staged rows give the table's step. Assumes nothing.
 use borrow.Author.Rules.{rules}
-use Rattle.rows.specs.Staging.{Columns}
 use Rattle.table_lift.proofs.LiftLaws.{region_tallied}
 use Rattle.table_lift.proofs.tally_region.Goals as goal
 

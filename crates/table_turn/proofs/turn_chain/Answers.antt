@@ -1,6 +1,5 @@
 -- The staged rows give the table's turn, and its rows stand in the other table. Assumes nothing.
 use borrow.Author.Rules.{rules}
-use Rattle.rows.specs.Staging.{Columns}
 use Rattle.table_turn.proofs.RowLaws.{rows_turned}
 use Rattle.table_turn.proofs.turn_chain.Goals as goal
 

@@ -1,7 +1,6 @@
 -- The parts of the columns that the tables fill, turned. Assumes nothing.
 use Rattle.rows.proofs.StagingLaws.{part_count}
 use Rattle.table_turn.proofs.RowLaws.{columns_turned}
-use borrow.Author.Rules.{rules}
 use Rattle.table_turn.proofs.turn_columns.Goals as goal
 
 pub slice_bounds-turn_chain-end : goal.slice_bounds-turn_chain-end
