@@ -5,6 +5,9 @@
 mod chains;
 mod records;
 
+use std::io;
+use std::io::Write;
+
 // The answer of a case by its letter, from its payload as it stands and unescaped.
 fn answer(letter: u8, escaped: &[u8], payload: &[u8], out: &mut [u8], at: usize) -> usize {
     match letter {

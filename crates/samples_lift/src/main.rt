@@ -12,6 +12,8 @@ mod drifts;
 mod tallies;
 
 use chains::Given;
+use std::io;
+use std::io::Write;
 
 // How many words a case's question has.
 fn question_words(letter: u8, line: &[u8]) -> usize {
