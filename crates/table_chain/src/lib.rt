@@ -64,7 +64,7 @@ fn check_columns(r: Chain, rows: usize, targets: &[u64], queries: &[u64], sizes:
 
 // THE RECORD CHECKER: a record with the first blockCount rows of a table; any breach is 9.
 pub fn check_chain(r: Chain, table: &[Row]) -> Check
-    ensures { result ≡ record_check r (targets_of table.now) (queries_of table.now) (sizes_of table.entry.now) }
+    ensures { result ≡ record_check r (targets_of table.now) (queries_of table.now) (sizes_of table.now) }
 {
     let mut targets: [u64; rows::ROOM] = [0; rows::ROOM];
     let mut queries: [u64; rows::ROOM] = [0; rows::ROOM];

@@ -1,0 +1,8 @@
+-- The staged rows give the table's text. Assumes nothing.
+use borrow.Author.Rules.{rules}
+use Rattle.rows.specs.Staging.{Columns}
+use Rattle.table_psl.proofs.RowLaws.{rows_wrote}
+use Rattle.table_psl.proofs.write_psl.Goals as goal
+
+pub returns : goal.returns
+returns c = rows_wrote c.args.table.now _ c.load_rows.new.targets _ c.load_rows.new.queries _ c.load_rows.new.sizes (search rules) c.load_rows.ensures c.args.r c.args.query.now c.args.target.now c.args.buf.now c.write_columns.new.buf c.write_columns.result c.write_columns.ensures
