@@ -18,8 +18,8 @@ pub use puts::{
     put_strand, put_text,
 };
 pub use rooms::{
-    bytes_kept, length_of, marked_bytes, marked_rows, name_room, page, row_mark, row_numbers, rows_kept,
-    table_rows,
+    bytes_kept, length_of, marked_bytes, marked_rows, name_room, page, row_mark, row_numbers,
+    rows_kept, table_rows,
 };
 pub use words::{name_at, number_at, row_numbers_at, strand_at};
 
