@@ -1,5 +1,4 @@
 -- Each word starts at or past the end of the one before and ends inside the text. Assumes nothing.
-use borrow.Author.Rules.{rules}
 use Prim.Native.Nat.{◌-◌, ◌≤◌, max}
 use mathlib.Core.Path.{◌≡◌}
 use lib.ListN.{length}

@@ -1,6 +1,5 @@
 -- Each slice cut to the room. Assumes nothing.
 use Rattle.cases.proofs.PartLaws.{first_count}
-use borrow.Author.Rules.{rules}
 use Rattle.samples_psl.proofs.lines.read_with.Goals as goal
 
 pub slice_bounds-read_psl-end-2 : goal.slice_bounds-read_psl-end-2
