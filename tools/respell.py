@@ -24,7 +24,7 @@ PICKED = re.compile(rf"(?<=[\w)'])\.([a-z][{LETTER}]*(?:-[{LETTER}]+)*)")
 BLOCK = re.compile(r"^(?:pub )?record [^\n]* where\n((?:(?:[ \t][^\n]*)?\n)*)", re.M)
 DATA = re.compile(r"^(?:pub )?data [^\n]* where\n((?:(?:[ \t][^\n]*)?\n)*)", re.M)
 FIELD = re.compile(rf"^  (?:pub )?([a-z][{LETTER}]*(?:-[{LETTER}]+)*) :(?=\s)", re.M)
-USE = re.compile(r"^[ \t]*(?:(?:pub|ghost|unfoldable) )*use (Rattle\.\w+\.(?:specs|proofs)(?:\.[\w+]+)*)(?:\.\{([^{}]*)\}| as (\w+))", re.M)
+USE = re.compile(r"^[ \t]*(?:(?:pub|ghost|unfoldable) )*use (Rattle\.\w+\.(?:specs|proofs)(?:\.[\w+]+)*)(?:\.\{([^{}]*)\}| as ([\w-]+))", re.M)
 
 # Names that the rule alone would bring together with another, and functions into types, which are written as types.
 GIVEN = {}

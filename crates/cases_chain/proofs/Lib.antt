@@ -1,4 +1,3 @@
 pub mod FillLaws
 pub mod TableLaws
 pub mod LiftLaws
-pub mod Lending

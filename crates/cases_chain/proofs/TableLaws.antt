@@ -3,7 +3,8 @@ use mathlib.Core.Path.{◌≡◌, sym, ap, ◌∙◌}
 use mathlib.Core.List.{List, ◌++◌}
 use Prim.Native.Nat.{ℕ, min}
 use native.Mathlib.Omega.{arith}
-use lib.ListN.{length, take, drop, length-take}
+use lib.ListN.{length, take, drop, length-take, length-append, length-drop}
+use lib.Seq.{length-take-le}
 use Rattle.ledger.specs.declared.Row.{Row}
 use Rattle.ledger.specs.Limits.{block_limit}
 use Rattle.text.specs.declared.Check.{Check}
@@ -42,6 +43,10 @@ module _ (n : ℕ) (ts qs zs : List ℕ) (marked table : List Row) (en : n ≡ m
       filled_sizes n ts qs zs marked table en long stored even,
     ) at e;
   }
+
+-- a table of which a part from its front was lent has the length that it had
+pub whole_length : (n room : ℕ) (marked after : List Row) → n ≡ min room block_limit → length marked ≡ block_limit → length after ≡ length (take n marked) → length (after ++ drop n marked) ≡ block_limit
+whole_length n room marked after en long e = simp (length-append, length-drop) (omega (arith, e, length-take-le n marked (omega arith)))
 
 -- rows copied out to columns
 module _ (s : List ℕ) (room n : ℕ) (marked after : List Row) (ts ts' qs qs' zs zs' : List ℕ) (x : ChainAnswer) (en : n ≡ min room block_limit) (long : length marked ≡ block_limit) (read : RowsRead s (take n marked) after x)

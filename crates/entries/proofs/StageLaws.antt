@@ -77,27 +77,27 @@ module _ (s b₁ ts b₂ qs b₃ zs : List ℕ) (st : Staging b₁ b₂ b₃) wh
   bed_staged x f = record {
     is = staged_is (bed_reads s) b₁ b₂ b₃ st x f.is;
     held = λ r e. staged_held (bed_reads s) b₁ b₂ b₃ st x f.is ts qs zs r e
-        (f.targets ∙ ap (λ (y : BedAnswer). rows_after bed-read.onAnswer y (bed_targets s) b₁) e)
-        (f.queries ∙ ap (λ (y : BedAnswer). rows_after bed-read.onAnswer y (bed_queries s) b₂) e)
-        (f.sizes ∙ ap (λ (y : BedAnswer). rows_after bed-read.onAnswer y (bed_sizes s) b₃) e);
+        (f.targets ∙ ap (λ (y : BedAnswer). rows_after bed-read.on_answer y (bed_targets s) b₁) e)
+        (f.queries ∙ ap (λ (y : BedAnswer). rows_after bed-read.on_answer y (bed_queries s) b₂) e)
+        (f.sizes ∙ ap (λ (y : BedAnswer). rows_after bed-read.on_answer y (bed_sizes s) b₃) e);
   }
 
   pub psl_staged : (x : PslAnswer) → PslRead s b₁ ts b₂ qs b₃ zs x → PslStaged s ts qs zs x
   psl_staged x f = record {
     is = staged_is (psl_reads s) b₁ b₂ b₃ st x f.is;
     held = λ r e. staged_held (psl_reads s) b₁ b₂ b₃ st x f.is ts qs zs r e
-        (f.targets ∙ ap (λ (y : PslAnswer). rows_after psl-read.onAnswer y (λ (r : Psl). psl_targets s) b₁) e)
-        (f.queries ∙ ap (λ (y : PslAnswer). rows_after psl-read.onAnswer y (λ (r : Psl). psl_queries s) b₂) e)
-        (f.sizes ∙ ap (λ (y : PslAnswer). rows_after psl-read.onAnswer y (λ (r : Psl). psl_sizes s) b₃) e);
+        (f.targets ∙ ap (λ (y : PslAnswer). rows_after psl-read.on_answer y (λ (r : Psl). psl_targets s) b₁) e)
+        (f.queries ∙ ap (λ (y : PslAnswer). rows_after psl-read.on_answer y (λ (r : Psl). psl_queries s) b₂) e)
+        (f.sizes ∙ ap (λ (y : PslAnswer). rows_after psl-read.on_answer y (λ (r : Psl). psl_sizes s) b₃) e);
   }
 
   pub chain_staged : (x : ChainAnswer) → ChainRead s b₁ ts b₂ qs b₃ zs x → ChainStaged s ts qs zs x
   chain_staged x f = record {
     is = staged_is (chain_reads s) b₁ b₂ b₃ st x f.is;
     held = λ r e. staged_held (chain_reads s) b₁ b₂ b₃ st x f.is ts qs zs r e
-        (f.targets ∙ ap (λ (y : ChainAnswer). rows_after chain-read.onAnswer y (chain_targets s) b₁) e)
-        (f.queries ∙ ap (λ (y : ChainAnswer). rows_after chain-read.onAnswer y (chain_queries s) b₂) e)
-        (f.sizes ∙ ap (λ (y : ChainAnswer). rows_after chain-read.onAnswer y (chain_sizes s) b₃) e);
+        (f.targets ∙ ap (λ (y : ChainAnswer). rows_after chain-read.on_answer y (chain_targets s) b₁) e)
+        (f.queries ∙ ap (λ (y : ChainAnswer). rows_after chain-read.on_answer y (chain_queries s) b₂) e)
+        (f.sizes ∙ ap (λ (y : ChainAnswer). rows_after chain-read.on_answer y (chain_sizes s) b₃) e);
   }
 
 -- the working rooms of two readers as three parts

@@ -70,24 +70,24 @@ line_copied s b b' e w code h g is =
 module _ (s ts qs zs b b' : List ℕ) (w : Writing) (code : ℕ) (is : (bytes : List ℕ) → code ≡ (written (length s) w bytes).answer) where
   pub bed_written_lem : (r : Bed) (chrom name : List ℕ) → chrom ≡ name_bytes s r.chrom → name ≡ name_bytes s r.name → bed-write.BedWrote r chrom name ts qs zs b b' w
       → Answered (bed_written s r ts qs zs (length b)) b b' code
-  unfolding bed_written bed-write.bedWrite
+  unfolding bed_written bed-write.bed_write
   bed_written_lem r chrom name e f g =
-      let t = bed-write.bedText r chrom name ts zs in
-      let k = writes then_write (λ v. refl) (λ x v. refl) (bed-write.writeCheck r chrom name ts qs zs) (length s) t b b' w code g.is g.left (is t) in
+      let t = bed-write.bed_text r chrom name ts zs in
+      let k = writes then_write (λ v. refl) (λ x v. refl) (bed-write.write_check r chrom name ts qs zs) (length s) t b b' w code g.is g.left (is t) in
       rw (← e, ← f, ← g.is) k
 
   pub psl_written_lem : (r : Psl) (query target : List ℕ) → query ≡ name_bytes s r.query.name → target ≡ name_bytes s r.target.name → psl-write.PslWrote r query target ts qs zs b b' w
       → Answered (psl_written s r ts qs zs (length b)) b b' code
-  unfolding psl_written psl-write.pslWrite
+  unfolding psl_written psl-write.psl_write
   psl_written_lem r query target e f g =
-      let t = psl-write.pslText r query target ts qs zs in
-      let k = writes then_write (λ v. refl) (λ x v. refl) (psl-write.writeCheck r query target ts qs zs) (length s) t b b' w code g.is g.left (is t) in
+      let t = psl-write.psl_text r query target ts qs zs in
+      let k = writes then_write (λ v. refl) (λ x v. refl) (psl-write.write_check r query target ts qs zs) (length s) t b b' w code g.is g.left (is t) in
       rw (← e, ← f, ← g.is) k
 
   pub chain_written_lem : (r : Chain) (target query : List ℕ) → target ≡ name_bytes s r.tName → query ≡ name_bytes s r.qName → chain-write.ChainWrote r target query ts qs zs b b' w
       → Answered (chain_written s r ts qs zs (length b)) b b' code
-  unfolding chain_written chain-write.chainWrite
+  unfolding chain_written chain-write.chain_write
   chain_written_lem r target query e f g =
-      let t = chain-write.chainText r target query ts qs zs in
-      let k = writes then_write (λ v. refl) (λ x v. refl) (chain-write.writeCheck r target query ts qs zs) (length s) t b b' w code g.is g.left (is t) in
+      let t = chain-write.chain_text r target query ts qs zs in
+      let k = writes then_write (λ v. refl) (λ x v. refl) (chain-write.write_check r target query ts qs zs) (length s) t b b' w code g.is g.left (is t) in
       rw (← e, ← f, ← g.is) k

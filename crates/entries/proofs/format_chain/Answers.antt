@@ -1,0 +1,15 @@
+-- Refused, or the standard text of the record. Assumes nothing.
+use Rattle.entries.specs.Entries.{formatted_chain}
+use Rattle.entries.proofs.EntryLaws.{chain_refused, chain_wide, format_chain_accepted}
+use borrow.Author.Rules.{rules}
+use Rattle.entries.proofs.format_chain.Goals as goal
+
+pub write_chain-requires : goal.write_chain-requires
+write_chain-requires c = search chain_wide
+
+pub returns-in-Refused : goal.returns-in-Refused
+unfolding formatted_chain
+returns-in-Refused c = search chain_refused
+
+pub returns-in-Accepted : goal.returns-in-Accepted
+returns-in-Accepted c = search format_chain_accepted

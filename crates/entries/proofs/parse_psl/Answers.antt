@@ -1,0 +1,11 @@
+-- Refused, or the record's numbers and its rows. Assumes nothing.
+use Rattle.entries.proofs.EntryLaws.{parse_psl_refused, parse_psl_accepted}
+use Rattle.entries.proofs.StageLaws.{psl_parts}
+use borrow.Author.Rules.{rules}
+use Rattle.entries.proofs.parse_psl.Goals as goal
+
+pub returns-in-Refused : goal.returns-in-Refused
+returns-in-Refused c = search parse_psl_refused
+
+pub returns-in-Accepted : goal.returns-in-Accepted
+returns-in-Accepted c = search (parse_psl_accepted, psl_parts)

@@ -1,0 +1,16 @@
+-- A chain's text, then the tally's step. Assumes nothing.
+use Rattle.entries.specs.Entries.{tallied}
+use Rattle.entries.proofs.EntryLaws.{chain_refused, chain_wide}
+use Rattle.entries.proofs.TallyLaws.{tally_answered}
+use borrow.Author.Rules.{rules}
+use Rattle.entries.proofs.tally.Goals as goal
+
+pub answer_tally-requires : goal.answer_tally-requires
+answer_tally-requires c = search chain_wide
+
+pub returns-in-Refused : goal.returns-in-Refused
+unfolding tallied
+returns-in-Refused c = search chain_refused
+
+pub returns-in-Accepted : goal.returns-in-Accepted
+returns-in-Accepted c = search tally_answered

@@ -1,0 +1,13 @@
+-- Refused, or the standard text of the turned record. Assumes nothing.
+use Rattle.entries.proofs.TurnLaws.{turned_wide, turned_written, turned_refused}
+use borrow.Author.Rules.{rules}
+use Rattle.entries.proofs.write_turned.Goals as goal
+
+pub write_chain-requires : goal.write_chain-requires
+write_chain-requires c = search turned_wide
+
+pub returns-in-Refused : goal.returns-in-Refused
+returns-in-Refused c = search turned_refused
+
+pub returns-in-Turned : goal.returns-in-Turned
+returns-in-Turned c = search turned_written
