@@ -1,9 +1,7 @@
 -- The next line begins further on (LineLaws). Assumes nothing.
-use borrow.Author.Rules.{rules}
 use Prim.Native.Nat.{◌-◌}
 use mathlib.Core.Path.{◌≡◌}
 use lib.ListN.{length}
-use Rattle.cases.proofs.LineLaws.{less_left}
 use Rattle.samples_lift.proofs.answer_lines.Given as goal
 
 abbrev pub invariant-loop-line : goal.invariant-loop-line

@@ -1,4 +1,3 @@
-use borrow.Author.Rules.{rules}
 use Rattle.samples_lift.proofs.PartLaws.{part_of_all}
 use Rattle.samples_lift.proofs.batches.batch_case.Goals as goal
 

@@ -1,4 +1,3 @@
-use borrow.Author.Rules.{rules}
 use Rattle.samples_lift.proofs.PartLaws.{part_within}
 use Rattle.samples_lift.proofs.batches.put_batch.Goals as goal
 

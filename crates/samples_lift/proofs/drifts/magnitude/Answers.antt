@@ -1,5 +1,4 @@
 -- The number is written without its sign (SignLaws). Assumes nothing.
-use borrow.Author.Rules.{rules}
 use Rattle.samples_lift.proofs.SignLaws.{less_fits, less_natural}
 use Rattle.samples_lift.proofs.drifts.magnitude.Goals as goal
 
