@@ -1,17 +1,16 @@
 //! Finds or makes the archive of the library, `libdesk.a`, and links it:
 //!
 //! 1. the one in the folder that TENDERCHOCK_LIB names;
-//! 2. target/staticlib of the repository, where `rt staticlib desk` writes it, if it is newer than every file that it
-//!    was made and proved from (with TENDERCHOCK_PROVE=1, and if the log says that it is proved);
-//! 3. with TENDERCHOCK_PROVE=1, the one that `rt staticlib desk` then makes;
-//! 4. else a quick build: the kit compiles the same sources, and no proof is checked.
+//! 2. crates/desk/out of the repository, where `rt lib` writes it, if it is newer than every file that it was made and
+//!    proved from;
+//! 3. else the one that `rt lib` then makes: it builds only what is proved.
 //!
 //! The package is told which it was (TENDERCHOCK_PROOFS), and where it stands (TENDERCHOCK_ARCHIVE).
 
 use std::env;
 use std::fs;
 use std::path::{Path, PathBuf};
-use std::process::{exit, Command};
+use std::process::{exit, Command, Stdio};
 use std::time::SystemTime;
 
 const ARCHIVE: &str = "libdesk.a";
@@ -19,10 +18,7 @@ const ARCHIVE: &str = "libdesk.a";
 const CRATE: &str = "desk";
 
 const LENT: &str = "not known to have been checked: TENDERCHOCK_LIB named the archive";
-const UNLOGGED: &str =
-    "not known to have been checked: no log of `rt staticlib desk` is beside the archive";
-const PROVED: &str = "checked, by the `rt staticlib desk` that made the archive";
-const QUICK: &str = "not checked in this build: the sources were compiled without them";
+const PROVED: &str = "checked, by the `rt lib` that made the archive";
 
 const OTHERWISE: &str =
     "To use an archive that is built already, set TENDERCHOCK_LIB to its folder";
@@ -36,7 +32,6 @@ struct Found {
 fn main() {
     watch(Path::new("build.rs"));
     println!("cargo:rerun-if-env-changed=TENDERCHOCK_LIB");
-    println!("cargo:rerun-if-env-changed=TENDERCHOCK_PROVE");
     let Found { folder, proofs } = match env::var_os("TENDERCHOCK_LIB") {
         Some(folder) => lent(Path::new(&folder)),
         None => own(),
@@ -90,32 +85,19 @@ fn own() -> Found {
     files.iter().for_each(|file| watch(file));
     watch(&root.join("crates.txt"));
 
-    let folder = root.join("target").join("staticlib");
+    let folder = root.join("crates").join(CRATE).join("out");
     watch_folder(&folder, time_of(&root.join("crates.txt")));
     let archive = folder.join(ARCHIVE);
-    let changed = archive.is_file().then(|| newer(&archive, &files));
-    let asked = env::var_os("TENDERCHOCK_PROVE").is_some_and(|value| value == "1");
-    match changed {
-        Some(None) => {
-            let proofs = logged(&root);
-            if proofs == PROVED || !asked {
-                return Found { folder, proofs };
-            }
-        }
+    let proofs = PROVED;
+    match archive.is_file().then(|| newer(&archive, &files)) {
+        Some(None) => return Found { folder, proofs },
         Some(Some(file)) => warn(&format!(
-            "target/staticlib/{ARCHIVE} is stale, and is not used: {} is newer",
+            "crates/{CRATE}/out/{ARCHIVE} is stale, and is not used: {} is newer",
             file.strip_prefix(&root).unwrap_or(file).display()
         )),
         None => (),
     }
-    if asked {
-        prove(&root, &archive);
-        let proofs = PROVED;
-        return Found { folder, proofs };
-    }
-    let folder = PathBuf::from(wanted("OUT_DIR"));
-    compile(&root, &crates, &folder.join(ARCHIVE));
-    let proofs = QUICK;
+    prove(&root, &archive);
     Found { folder, proofs }
 }
 
@@ -128,6 +110,8 @@ fn reached(root: &Path) -> Vec<String> {
         .lines()
         .filter(|line| !line.starts_with('#'))
         .filter_map(|line| line.split_once(':'))
+        // a line's first word is the crate's name
+        .filter_map(|(head, uses)| Some((head.split_whitespace().next()?, uses)))
         .collect();
     let mut wanted = vec![CRATE];
     let mut reached = Vec::new();
@@ -188,95 +172,23 @@ fn time_of(file: &Path) -> SystemTime {
         })
 }
 
-/// What the log of `rt` tells of the archive in target/staticlib. It can't tell of an archive that was put there by
-/// hand afterwards.
-fn logged(root: &Path) -> &'static str {
-    let log = root.join("target").join("log").join("desk.say");
-    if log.is_file() {
-        watch(&log);
-    }
-    let log = fs::read_to_string(log).unwrap_or_default();
-    match log.lines().any(|line| line.starts_with("logic=proved ")) {
-        true => PROVED,
-        false => UNLOGGED,
-    }
-}
-
-/// Runs `rt staticlib desk` in the repository, which writes the archive.
+/// Runs `rt lib` in the crate's folder, which proves the library and then writes the archive.
 fn prove(root: &Path, archive: &Path) {
-    let message = "`rt staticlib desk` proves the library: the first time this takes some minutes";
+    let message = "`rt lib` proves the library: the first time this takes some minutes";
     warn(message);
     // Cargo shows a warning when this program has ended; on a terminal it is told at once too.
     let _ = fs::write("/dev/tty", format!("\r\nwarning: {message}\n"));
     let mut command = Command::new("rt");
-    match command
-        .args(["staticlib", CRATE])
-        .current_dir(root)
-        .status()
-    {
+    let command = command.arg("lib").current_dir(root.join("crates").join(CRATE));
+    // what `rt` prints is no line for cargo
+    match command.stdout(Stdio::null()).status() {
         Ok(status) if status.success() && archive.is_file() => (),
         Ok(status) if status.success() => stop(&format!(
-            "`rt staticlib desk` left no target/staticlib/{ARCHIVE}"
+            "`rt lib` left no crates/{CRATE}/out/{ARCHIVE}"
         )),
-        Ok(status) => stop(&format!("`rt staticlib desk` failed: {status}")),
+        Ok(status) => stop(&format!("`rt lib` failed in crates/{CRATE}: {status}")),
         Err(error) => stop(&format!(
-            "TENDERCHOCK_PROVE is 1, and `rt staticlib desk` cannot be run: {error}"
-        )),
-    }
-}
-
-/// The quick build: the kit's compiler on desk and the crates that it reaches, without their proofs.
-fn compile(root: &Path, crates: &[String], archive: &Path) {
-    let kit = kit();
-    let own = kit.join("on").join(env::consts::ARCH);
-    let program = own.join("bin").join("rattle-cases");
-    if !program.is_file() {
-        stop(&format!(
-            "no {ARCHIVE} is built, and the Rattle kit of the `rt` on PATH has no compiler for this machine, {}. \
-             {OTHERWISE}",
-            program.display()
-        ));
-    }
-    watch(&program);
-    let source = |folder: PathBuf| folder.join("src").join("lib.rt");
-    let library = |name: &str, folder: PathBuf| format!("{name}={}", source(folder).display());
-    let crate_folder = |name: &str| root.join("crates").join(name);
-    let mut command = Command::new(&program);
-    command.arg("--toolchain").arg(own.join("toolchain"));
-    command.arg("--staticlib").arg(archive);
-    command.arg(source(crate_folder(CRATE)));
-    command.args(["--crate-name", CRATE]);
-    command
-        .arg("--lib")
-        .arg(library("std", kit.join("libs").join("std")));
-    for name in crates.iter().filter(|name| *name != CRATE) {
-        command.arg("--lib").arg(library(name, crate_folder(name)));
-    }
-    // An archive of an earlier build must not pass for this one's.
-    let _ = fs::remove_file(archive);
-    match command.status() {
-        Ok(status) if status.success() && archive.is_file() => warn(
-            "quick build: the library's sources were compiled and its proofs were NOT checked; \
-             TENDERCHOCK_PROVE=1 checks them first",
-        ),
-        Ok(status) => stop(&format!(
-            "the Rattle kit did not compile the crate {CRATE}: {status}"
-        )),
-        Err(error) => stop(&format!("cannot run {}: {error}", program.display())),
-    }
-}
-
-/// The kit that the `rt` on the path belongs to.
-fn kit() -> PathBuf {
-    let path = env::var_os("PATH").unwrap_or_default();
-    let programs = env::split_paths(&path).map(|folder| folder.join("rt"));
-    let program = programs
-        .filter(|program| program.is_file())
-        .find_map(|program| program.canonicalize().ok());
-    match program.as_deref().and_then(Path::parent).and_then(Path::parent) {
-        Some(kit) => kit.to_path_buf(),
-        None => stop(&format!(
-            "no {ARCHIVE} is built, and no Rattle kit is there to build it: PATH has no `rt`. {OTHERWISE}"
+            "no {ARCHIVE} is built, and `rt lib` cannot be run: {error}. {OTHERWISE}"
         )),
     }
 }

@@ -1,5 +1,5 @@
 -- Storing the rows of what a reader accepts, for any format. Assumes nothing.
-use mathlib.Core.Path.{◌≡◌, refl, sym, ap, ◌∙◌}
+use mathlib.Core.Path.{◌≡◌, sym, ap, ◌∙◌}
 use mathlib.Core.List.{List}
 use Prim.Native.Nat.{ℕ, ◌≤◌, ◌<◌}
 use lib.ListN.{length}
@@ -9,7 +9,7 @@ use Rattle.ledger.specs.declared.Reason.TheVariants.{NoRoom}
 use Rattle.ledger.specs.declared.Fault.{Fault}
 use Rattle.ledger.specs.Refusals.{fault_at}
 use Rattle.text.specs.Checks.{then_check, room_check}
-use Rattle.blocks.specs.Readers.{then_room, rows_after, RowsRead}
+use Rattle.blocks.specs.Readers.{RowsRead}
 
 -- the room decides
 module _ {A : Type 0} (stop : Fault → A) (s : List ℕ) (count room : ℕ) (a : A) where

@@ -1,5 +1,5 @@
 -- The standard text of a word, kind by kind.
-use Rattle.std.specs.Prelude.{cond, ℕ, suc, ◌+◌, ◌/◌, ◌%◌, List, [], ◌∷◌, ◌++◌, take, drop, eqb}
+use Rattle.std.specs.Prelude.{cond, ℕ, suc, ◌/◌, ◌%◌, List, [], ◌∷◌, ◌++◌, take, drop, eqb}
 use Rattle.ledger.specs.Limits.{colour_limit}
 use Rattle.writing.specs.Digits.{digits, list_text}
 use Rattle.kinds.specs.declared.Kind.{Kind}

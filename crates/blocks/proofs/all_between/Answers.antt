@@ -1,9 +1,6 @@
 -- The numbers from here on lie in the range exactly when all do. Assumes nothing.
 use borrow.Author.Rules.{rules}
-use Prim.Native.Nat.{◌-◌, ◌≤◌}
-use mathlib.Core.Path.{◌≡◌, refl}
-use lib.ListN.{take, drop}
-use Rattle.blocks.specs.Blocks.{all_between}
+use mathlib.Core.Path.{refl}
 use Rattle.blocks.proofs.BlockLaws.{between_low, between_high, between_next, between_done}
 use Rattle.blocks.proofs.all_between.Goals as goal
 

@@ -1,10 +1,8 @@
 -- The numbers from here on lie in the range exactly when all do. Assumes nothing.
-use borrow.Author.Rules.{rules}
 use Prim.Native.Nat.{◌-◌, ◌≤◌}
-use mathlib.Core.Path.{◌≡◌, refl}
+use mathlib.Core.Path.{◌≡◌}
 use lib.ListN.{take, drop}
 use Rattle.blocks.specs.Blocks.{all_between}
-use Rattle.blocks.proofs.BlockLaws.{between_low, between_high, between_next, between_done}
 use Rattle.blocks.proofs.all_between.Given as goal
 
 abbrev pub invariant-loop-i : goal.invariant-loop-i

@@ -1,9 +1,5 @@
 -- The rest are the sums that go on from the last one seen exactly when all are the sums. Assumes nothing.
 use borrow.Author.Rules.{rules}
-use Prim.Native.Nat.{◌+◌, ◌-◌, ◌≤◌}
-use mathlib.Core.Path.{◌≡◌}
-use lib.ListN.{take, drop}
-use Rattle.blocks.specs.Blocks.{are_sums}
 use Rattle.blocks.proofs.BlockLaws.{sums_uneven, sums_none, sums_off, sums_start, sums_before, sums_other, sums_more, sums_done}
 use Rattle.blocks.proofs.are_sums.Goals as goal
 

@@ -1,10 +1,8 @@
 -- The rule for the blocks from here on, after the last one seen, is the rule for all of them. Assumes nothing.
-use borrow.Author.Rules.{rules}
 use Prim.Native.Nat.{◌-◌, ◌≤◌}
 use mathlib.Core.Path.{◌≡◌}
 use lib.ListN.{take, drop}
 use Rattle.blocks.specs.Blocks.{blocks_fill, order_from}
-use Rattle.blocks.proofs.BlockLaws.{fill_uneven, fill_none, fill_off, fill_start, fill_before, fill_within, fill_more, fill_past, fill_done}
 use Rattle.blocks.proofs.blocks_fill.Given as goal
 
 abbrev pub invariant-loop-i : goal.invariant-loop-i

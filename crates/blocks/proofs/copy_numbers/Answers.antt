@@ -1,9 +1,6 @@
 -- Storing the rest from here on completes storing all of them. Assumes nothing.
 use borrow.Author.Rules.{rules}
-use Prim.Native.Nat.{◌-◌, ◌≤◌}
-use mathlib.Core.Path.{◌≡◌, refl}
-use lib.ListN.{length, take, drop}
-use lib.Seq.{sets}
+use mathlib.Core.Path.{refl}
 use Rattle.blocks.proofs.BlockLaws.{copied_more, copied_done}
 use Rattle.blocks.proofs.copy_numbers.Goals as goal
 

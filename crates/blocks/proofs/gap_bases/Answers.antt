@@ -1,10 +1,5 @@
 -- The bases of the gaps so far and of those after the last block seen come to the bases of all. Assumes nothing.
 use borrow.Author.Rules.{rules}
-use Prim.Native.Nat.{◌+◌, ◌-◌, ◌≤◌}
-use mathlib.Core.Path.{◌≡◌}
-use lib.ListN.{take, drop}
-use Rattle.ledger.specs.Limits.{largest_number}
-use Rattle.blocks.specs.Blocks.{capped, gap_bases, bases_from}
 use Rattle.blocks.proofs.GapLaws.{bases_none, bases_start, bases_more, bases_done}
 use Rattle.blocks.proofs.gap_bases.Goals as goal
 

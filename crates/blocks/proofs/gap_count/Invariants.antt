@@ -1,10 +1,8 @@
 -- The gaps so far and those after the last block seen are all of them. Assumes nothing.
-use borrow.Author.Rules.{rules}
 use Prim.Native.Nat.{◌+◌, ◌-◌, ◌≤◌, ◌<◌}
 use mathlib.Core.Path.{◌≡◌}
 use lib.ListN.{take, drop}
 use Rattle.blocks.specs.Blocks.{gap_count, gaps_from}
-use Rattle.blocks.proofs.GapLaws.{gaps_none, gaps_start, gaps_below, gaps_more, gaps_done}
 use Rattle.blocks.proofs.gap_count.Given as goal
 
 abbrev pub invariant-loop-i : goal.invariant-loop-i

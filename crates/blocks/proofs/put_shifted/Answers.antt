@@ -1,11 +1,6 @@
 -- Storing the rest from here on completes storing all of them. Assumes nothing.
 use borrow.Author.Rules.{rules}
-use Prim.Native.Nat.{◌-◌, ◌≤◌}
-use mathlib.Core.Path.{◌≡◌, refl}
-use lib.ListN.{length, take, drop}
-use lib.Seq.{sets}
-use Rattle.ledger.specs.Limits.{largest_number}
-use Rattle.blocks.specs.Blocks.{shifted_within}
+use mathlib.Core.Path.{refl}
 use Rattle.blocks.proofs.BlockLaws.{shift_over, shift_more, shift_done}
 use Rattle.blocks.proofs.put_shifted.Goals as goal
 

@@ -1,11 +1,9 @@
 -- Storing the rest from here on completes storing all of them. Assumes nothing.
-use borrow.Author.Rules.{rules}
 use Prim.Native.Nat.{◌-◌, ◌≤◌}
-use mathlib.Core.Path.{◌≡◌, refl}
+use mathlib.Core.Path.{◌≡◌}
 use lib.ListN.{length, take, drop}
 use lib.Seq.{sets}
 use Rattle.blocks.specs.Blocks.{subtracted}
-use Rattle.blocks.proofs.BlockLaws.{less_more, less_done}
 use Rattle.blocks.proofs.put_subtracted.Given as goal
 
 abbrev pub invariant-loop-i : goal.invariant-loop-i

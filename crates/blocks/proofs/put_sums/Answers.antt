@@ -1,11 +1,6 @@
 -- Storing the sums that go on from here completes storing all of them. Assumes nothing.
 use borrow.Author.Rules.{rules}
-use Prim.Native.Nat.{◌-◌, ◌≤◌}
-use mathlib.Core.Path.{◌≡◌, refl}
-use lib.ListN.{length, take, drop}
-use lib.Seq.{sets}
-use Rattle.blocks.specs.Blocks.{sums_within}
-use Rattle.ledger.specs.Limits.{largest_number}
+use mathlib.Core.Path.{refl}
 use Rattle.blocks.proofs.BlockLaws.{put_over, put_more, put_done}
 use Rattle.blocks.proofs.put_sums.Goals as goal
 

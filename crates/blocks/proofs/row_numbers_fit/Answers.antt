@@ -1,5 +1,4 @@
 -- Each column of the rows by one test. Assumes nothing.
-use borrow.Author.Rules.{rules}
 use Rattle.blocks.specs.Blocks.{row_numbers_fit}
 use Rattle.blocks.proofs.row_numbers_fit.Goals as goal
 

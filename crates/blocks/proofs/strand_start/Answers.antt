@@ -1,5 +1,4 @@
 -- Each strand by its case. Assumes nothing.
-use borrow.Author.Rules.{rules}
 use Rattle.blocks.proofs.strand_start.Goals as goal
 
 pub returns-in-Minus : goal.returns-in-Minus

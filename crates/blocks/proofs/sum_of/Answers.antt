@@ -1,10 +1,5 @@
 -- The sum so far and that of the rest come to the sum of all. Assumes nothing.
 use borrow.Author.Rules.{rules}
-use Prim.Native.Nat.{◌+◌, ◌-◌, ◌≤◌}
-use mathlib.Core.Path.{◌≡◌}
-use lib.ListN.{take, drop}
-use Rattle.ledger.specs.Limits.{largest_number}
-use Rattle.blocks.specs.Blocks.{capped, sum_of}
 use Rattle.blocks.proofs.GapLaws.{sum_more, sum_done}
 use Rattle.blocks.proofs.sum_of.Goals as goal
 

@@ -1,7 +1,5 @@
 -- Past the end a byte reads as 0. Assumes nothing.
 use Rattle.kinds.proofs.SpellLaws.{first_none}
-use borrow.Author.Rules.{rules}
-use Rattle.kinds.proofs.first.Reads as reads
 use Rattle.kinds.proofs.first.Goals as goal
 
 pub returns-else-word-gt0 : goal.returns-else-word-gt0

@@ -1,6 +1,5 @@
 -- Each fixed word is compared with its bytes. Assumes nothing.
 use Rattle.kinds.proofs.SpellLaws.{fixed_chain, fixed_plus}
-use borrow.Author.Rules.{rules}
 use Rattle.kinds.proofs.is_fixed.Goals as goal
 
 pub returns-in-Chain : goal.returns-in-Chain

@@ -1,5 +1,4 @@
 -- The test is the definition, at the first byte. Assumes nothing.
-use borrow.Author.Rules.{rules}
 use Rattle.kinds.proofs.is_strand.Goals as goal
 
 pub returns : goal.returns

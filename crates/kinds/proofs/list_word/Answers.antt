@@ -1,6 +1,5 @@
 -- The items are stored in a part of the table, and the list is ended. Assumes nothing.
 use Rattle.kinds.proofs.SpellLaws.{list_spelled}
-use borrow.Author.Rules.{rules}
 use Rattle.kinds.proofs.list_word.Goals as goal
 
 pub returns : goal.returns

@@ -1,6 +1,5 @@
 -- Black is one byte; any other colour is three numbers and two commas, stored one after the other. Assumes nothing.
 use Rattle.kinds.proofs.WordLaws.{colour_zero, colour_three}
-use borrow.Author.Rules.{rules}
 use Rattle.kinds.proofs.put_colour.Goals as goal
 
 pub returns-then-v-eq0 : goal.returns-then-v-eq0

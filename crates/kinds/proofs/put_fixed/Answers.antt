@@ -1,6 +1,5 @@
 -- Each fixed word by its bytes. Assumes nothing.
 use Rattle.kinds.proofs.WordLaws.{put_chain, put_plus}
-use borrow.Author.Rules.{rules}
 use Rattle.kinds.proofs.put_fixed.Goals as goal
 
 pub returns-in-Chain : goal.returns-in-Chain

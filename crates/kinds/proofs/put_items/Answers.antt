@@ -1,6 +1,5 @@
 -- The part is cut off where the table ends. Assumes nothing.
 use Rattle.kinds.proofs.WordLaws.{put_list_part}
-use borrow.Author.Rules.{rules}
 use Rattle.kinds.proofs.put_items.Goals as goal
 
 pub returns : goal.returns

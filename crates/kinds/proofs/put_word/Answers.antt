@@ -1,6 +1,5 @@
 -- Each kind's own function stores its word. Assumes nothing.
 use Rattle.kinds.proofs.WordLaws.{words}
-use borrow.Author.Rules.{rules}
 use Rattle.kinds.proofs.put_word.Goals as goal
 
 pub returns-in-Name : goal.returns-in-Name

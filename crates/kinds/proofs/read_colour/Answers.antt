@@ -1,6 +1,5 @@
 -- The short form, the list's fault, or its three numbers as one. Assumes nothing.
 use Rattle.kinds.proofs.SpellLaws.{colours}
-use borrow.Author.Rules.{rules}
 use Rattle.kinds.proofs.read_colour.Goals as goal
 
 pub returns-then-same_bytes : goal.returns-then-same_bytes

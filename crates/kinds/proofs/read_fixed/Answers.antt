@@ -1,6 +1,5 @@
 -- The comparison decides. Assumes nothing.
 use Rattle.kinds.proofs.SpellLaws.{fixed_read}
-use borrow.Author.Rules.{rules}
 use Rattle.kinds.proofs.read_fixed.Goals as goal
 
 pub returns : goal.returns

@@ -1,6 +1,5 @@
 -- Its length decides. Assumes nothing.
 use Rattle.kinds.proofs.SpellLaws.{name_read}
-use borrow.Author.Rules.{rules}
 use Rattle.kinds.proofs.read_name.Goals as goal
 
 pub returns : goal.returns

@@ -1,6 +1,5 @@
 -- The range's two values, handed on. Assumes nothing.
 use Rattle.kinds.proofs.SpellLaws.{ranged_read}
-use borrow.Author.Rules.{rules}
 use Rattle.kinds.proofs.read_ranged.Goals as goal
 
 pub returns : goal.returns

@@ -1,6 +1,5 @@
 -- The test decides, and the letter is the value. Assumes nothing.
 use Rattle.kinds.proofs.SpellLaws.{strand_read}
-use borrow.Author.Rules.{rules}
 use Rattle.kinds.proofs.read_strand.Goals as goal
 
 pub returns : goal.returns

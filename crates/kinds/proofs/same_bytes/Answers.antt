@@ -1,9 +1,6 @@
 -- The two words agree from here on exactly when they agree as a whole. Assumes nothing.
 use borrow.Author.Rules.{rules}
-use Prim.Native.Nat.{◌-◌, ◌≤◌}
-use mathlib.Core.Path.{◌≡◌, refl}
-use lib.ListN.{length, drop}
-use Rattle.kinds.specs.Kinds.{same_bytes}
+use mathlib.Core.Path.{refl}
 use Rattle.kinds.proofs.SpellLaws.{same_short, same_other, same_more, same_done}
 use Rattle.kinds.proofs.same_bytes.Goals as goal
 

@@ -1,7 +1,5 @@
 -- Each kind's own function reads its word. Assumes nothing.
 use Rattle.kinds.proofs.SpellLaws.{spellings}
-use borrow.Author.Rules.{rules}
-use Rattle.kinds.proofs.spell.Reads as reads
 use Rattle.kinds.proofs.spell.Goals as goal
 
 pub returns-in-Name : goal.returns-in-Name

@@ -1,6 +1,5 @@
 -- A byte of the word, or none. Assumes nothing.
 use Rattle.numbers.proofs.DigitLaws.{byte_none}
-use borrow.Author.Rules.{rules}
 use Rattle.numbers.proofs.byte_at.Goals as goal
 
 pub returns-else-i-word : goal.returns-else-i-word

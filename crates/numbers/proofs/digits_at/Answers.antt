@@ -1,6 +1,5 @@
 -- Past the end, as many as are asked for, or as many as are left. Assumes nothing.
 use Rattle.numbers.proofs.DigitLaws.{digits_none, digits_asked, digits_left}
-use borrow.Author.Rules.{rules}
 use Rattle.numbers.proofs.digits_at.Goals as goal
 
 pub returns-then-text-from : goal.returns-then-text-from

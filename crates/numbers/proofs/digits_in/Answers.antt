@@ -1,8 +1,6 @@
 -- The value counts the digits passed, and the digits from here on end where all of them end. Assumes nothing.
 use borrow.Author.Rules.{rules}
-use Prim.Native.Nat.{◌+◌, ◌-◌, ◌≤◌}
-use mathlib.Core.Path.{◌≡◌, refl, ap}
-use lib.ListN.{take, drop}
+use mathlib.Core.Path.{refl, ap}
 use native.Mathlib.Nat.{add-zero}
 use Rattle.text.specs.declared.Class.TheVariants.{Digit}
 use Rattle.text.specs.Scan.{end_of}

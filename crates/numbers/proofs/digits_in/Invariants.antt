@@ -1,13 +1,10 @@
 -- The value counts the digits passed, and the digits from here on end where all of them end. Assumes nothing.
-use borrow.Author.Rules.{rules}
 use Prim.Native.Nat.{◌+◌, ◌-◌, ◌≤◌}
-use mathlib.Core.Path.{◌≡◌, refl, ap}
+use mathlib.Core.Path.{◌≡◌}
 use lib.ListN.{take, drop}
-use native.Mathlib.Nat.{add-zero}
 use Rattle.text.specs.declared.Class.TheVariants.{Digit}
 use Rattle.text.specs.Scan.{end_of}
-use Rattle.numbers.specs.Numbers.{value, value_from}
-use Rattle.numbers.proofs.DigitLaws.{room_left, digit_low, digit_high, one_more_passed, value_more, digits_stop, digits_end}
+use Rattle.numbers.specs.Numbers.{value}
 use Rattle.numbers.proofs.digits_in.Given as goal
 
 abbrev pub invariant-loop-k : goal.invariant-loop-k

@@ -1,6 +1,5 @@
 -- The checks in their order, each read off the definition. Assumes nothing.
 use Rattle.numbers.proofs.ListLaws.{ends}
-use borrow.Author.Rules.{rules}
 use Rattle.numbers.proofs.end_list.Goals as goal
 
 pub returns-then-open_end : goal.returns-then-open_end

@@ -1,5 +1,4 @@
 -- The word's end, or a comma. Assumes nothing.
-use borrow.Author.Rules.{rules}
 use Rattle.numbers.proofs.is_item_end.Goals as goal
 
 pub returns : goal.returns

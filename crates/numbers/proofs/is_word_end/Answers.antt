@@ -1,5 +1,4 @@
 -- The text's end, or a byte of no word. Assumes nothing.
-use borrow.Author.Rules.{rules}
 use Rattle.numbers.proofs.is_word_end.Goals as goal
 
 pub returns : goal.returns

@@ -1,6 +1,5 @@
 -- Misspelt, good, or out of range. Assumes nothing.
 use Rattle.numbers.proofs.DigitLaws.{judged_misspelt, judged_good, judged_range}
-use borrow.Author.Rules.{rules}
 use Rattle.numbers.proofs.judge.Goals as goal
 
 pub returns-then-not-leads : goal.returns-then-not-leads

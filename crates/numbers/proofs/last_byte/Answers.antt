@@ -1,5 +1,4 @@
 use Rattle.numbers.proofs.ListLaws.{last_none, last_is}
-use borrow.Author.Rules.{rules}
 use Rattle.numbers.proofs.last_byte.Goals as goal
 
 pub returns-then-n-eq0 : goal.returns-then-n-eq0

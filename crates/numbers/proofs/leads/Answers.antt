@@ -1,5 +1,4 @@
 -- No digit, or some. Assumes nothing.
-use borrow.Author.Rules.{rules}
 use Rattle.numbers.proofs.DigitLaws.{led_none, led_some}
 use Rattle.numbers.proofs.leads.Goals as goal
 

@@ -1,5 +1,4 @@
 -- The digits at a place, where they end with the word. Assumes nothing.
-use borrow.Author.Rules.{rules}
 use Rattle.numbers.proofs.ItemLaws.{number_taken}
 use Rattle.numbers.proofs.number_at.Goals as goal
 

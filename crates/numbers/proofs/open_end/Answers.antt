@@ -1,5 +1,4 @@
 use Rattle.numbers.proofs.ListLaws.{open_is}
-use borrow.Author.Rules.{rules}
 use Rattle.numbers.proofs.open_end.Goals as goal
 
 pub returns : goal.returns

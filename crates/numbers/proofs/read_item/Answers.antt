@@ -1,5 +1,4 @@
 -- The digits end the item, or it is found first. Assumes nothing.
-use borrow.Author.Rules.{rules}
 use Rattle.numbers.proofs.ItemLaws.{piece_short}
 use Rattle.numbers.proofs.read_item.Goals as goal
 

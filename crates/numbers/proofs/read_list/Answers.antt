@@ -1,6 +1,5 @@
 -- A fault leaves the table; a list that ends well is walked again, now into the table. Assumes nothing.
 use Rattle.numbers.proofs.ListLaws.{read_bad, read_good}
-use borrow.Author.Rules.{rules}
 use Rattle.numbers.proofs.read_list.Goals as goal
 
 pub returns-in-Faulty : goal.returns-in-Faulty

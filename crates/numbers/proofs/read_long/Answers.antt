@@ -1,10 +1,7 @@
 -- The digits passed, and those from here on, have the value of them all. Assumes nothing.
 use borrow.Author.Rules.{rules}
-use native.Mathlib.Omega.{arith}
-use Prim.Native.Nat.{◌-◌, ◌/◌, ◌≤◌}
-use mathlib.Core.Path.{◌≡◌, refl}
-use lib.ListN.{length, drop}
-use Rattle.numbers.specs.Numbers.{value, value_from}
+use mathlib.Core.Path.{refl}
+use Rattle.numbers.specs.Numbers.{value}
 use Rattle.numbers.proofs.NumberLaws.{not_spelt, value_more, tens_large, digit_large, value_small, value_done}
 use Rattle.numbers.proofs.read_long.Goals as goal
 

@@ -1,11 +1,8 @@
 -- The digits passed, and those from here on, have the value of them all. Assumes nothing.
-use borrow.Author.Rules.{rules}
-use native.Mathlib.Omega.{arith}
-use Prim.Native.Nat.{◌-◌, ◌/◌, ◌≤◌}
-use mathlib.Core.Path.{◌≡◌, refl}
+use Prim.Native.Nat.{◌-◌, ◌≤◌}
+use mathlib.Core.Path.{◌≡◌}
 use lib.ListN.{length, drop}
 use Rattle.numbers.specs.Numbers.{value, value_from}
-use Rattle.numbers.proofs.NumberLaws.{not_spelt, value_more, tens_large, digit_large, value_small, value_done}
 use Rattle.numbers.proofs.read_long.Given as goal
 
 abbrev pub invariant-loop-i : goal.invariant-loop-i

@@ -1,5 +1,4 @@
 -- The item is what stands before the next comma. Assumes nothing.
-use borrow.Author.Rules.{rules}
 use Rattle.numbers.proofs.ItemLaws.{piece_found}
 use Rattle.numbers.proofs.read_long_item.Goals as goal
 

@@ -1,5 +1,4 @@
 -- A short word by its digits, a longer one digit by digit. Assumes nothing.
-use borrow.Author.Rules.{rules}
 use Rattle.numbers.proofs.DigitLaws.{word_bad, word_digits}
 use Rattle.numbers.proofs.read_number.Goals as goal
 

@@ -1,5 +1,4 @@
 -- None past the end, else nineteen or as many as are left. Assumes nothing.
-use borrow.Author.Rules.{rules}
 use Rattle.numbers.proofs.DigitLaws.{digits_none, digits_short}
 use Rattle.numbers.proofs.short_digits.Goals as goal
 

@@ -1,11 +1,9 @@
 -- The items from here on, tested and stored, give what the whole list gives. Assumes nothing.
-use borrow.Author.Rules.{rules}
 use Prim.Native.Nat.{◌+◌, ◌-◌, ◌≤◌}
-use mathlib.Core.Path.{◌≡◌, refl}
+use mathlib.Core.Path.{◌≡◌}
 use lib.ListN.{length, drop}
 use lib.Seq.{sets}
 use Rattle.numbers.specs.Lists.{items_of, test_items, good_values}
-use Rattle.numbers.proofs.ListLaws.{list_bad, list_more, list_done, stored_more, stored_bad, stored_done}
 use Rattle.numbers.proofs.store_items.Given as goal
 
 abbrev pub invariant-loop-i : goal.invariant-loop-i

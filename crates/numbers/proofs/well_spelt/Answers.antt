@@ -1,7 +1,6 @@
 use Rattle.numbers.proofs.NumberLaws.{spelt_is}
 use Rattle.numbers.specs.Numbers.{well_spelt}
-use borrow.Author.Tests.{eq-eqb, ne_eqb}
-use borrow.Author.Rules.{rules}
+use borrow.Author.Tests.{eq-eqb}
 use Rattle.numbers.proofs.well_spelt.Goals as goal
 
 pub returns-then-n-eq0 : goal.returns-then-n-eq0

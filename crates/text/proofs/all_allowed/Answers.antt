@@ -1,13 +1,7 @@
 -- The bytes passed and those from here on are allowed exactly when all are. Assumes nothing.
 use Rattle.text.proofs.Laws.{all_more, all_done}
 use borrow.Author.Rules.{rules}
-use Prim.Native.Nat.{◌-◌, ◌≤◌}
-use mathlib.Core.Path.{◌≡◌, refl}
-use mathlib.Core.Bool.{◌&&◌}
-use lib.ListN.{length}
-use lib.Dec.{leb}
-use Rattle.text.specs.declared.Class.TheVariants.{Allowed}
-use Rattle.text.specs.Scan.{end_of}
+use mathlib.Core.Path.{refl}
 use Rattle.text.proofs.all_allowed.Goals as goal
 
 pub loop-i-init : goal.loop-i-init

@@ -1,12 +1,7 @@
 -- The bytes passed and those from here on are of the class exactly when all are. Assumes nothing.
 use Rattle.text.proofs.Laws.{all_more, all_done}
 use borrow.Author.Rules.{rules}
-use Prim.Native.Nat.{◌-◌, ◌≤◌}
-use mathlib.Core.Path.{◌≡◌, refl}
-use mathlib.Core.Bool.{◌&&◌}
-use lib.ListN.{length}
-use lib.Dec.{leb}
-use Rattle.text.specs.Scan.{end_of}
+use mathlib.Core.Path.{refl}
 use Rattle.text.proofs.all_in.Goals as goal
 
 pub loop-i-init : goal.loop-i-init

@@ -1,8 +1,6 @@
 -- The bytes passed and those from here on are of the class exactly when all are. Assumes nothing.
-use Rattle.text.proofs.Laws.{all_more, all_done}
-use borrow.Author.Rules.{rules}
 use Prim.Native.Nat.{◌-◌, ◌≤◌}
-use mathlib.Core.Path.{◌≡◌, refl}
+use mathlib.Core.Path.{◌≡◌}
 use mathlib.Core.Bool.{◌&&◌}
 use lib.ListN.{length}
 use lib.Dec.{leb}

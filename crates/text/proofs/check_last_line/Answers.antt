@@ -1,6 +1,5 @@
 -- A line after the last one begins inside the text. Assumes nothing.
 use Rattle.text.proofs.Laws.{line_surplus, line_last}
-use borrow.Author.Rules.{rules}
 use Rattle.text.proofs.check_last_line.Goals as goal
 
 pub returns-then-next-text : goal.returns-then-next-text

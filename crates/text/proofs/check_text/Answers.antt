@@ -1,5 +1,4 @@
 -- `text::check_text` meets its contract: each return is one answer of the check's definition. Assumes nothing.
-use borrow.Author.Rules.{rules}
 use Rattle.text.proofs.Laws.{text_long, text_allowed, text_refused}
 use Rattle.text.proofs.check_text.Goals as goal
 

@@ -1,6 +1,5 @@
 -- The two tests in the ledger's order. Assumes nothing.
 use Rattle.text.proofs.CheckLaws.{words_many, words_good, words_bad}
-use borrow.Author.Rules.{rules}
 use Rattle.text.proofs.check_words.Goals as goal
 
 pub returns-then-most-n : goal.returns-then-most-n

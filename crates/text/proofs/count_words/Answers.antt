@@ -1,9 +1,5 @@
 -- `text::count_words` meets its contract: the words counted, and those from the word in hand on, are all the line's. Assumes nothing.
-use Prim.Native.Nat.{◌+◌, ◌-◌, ◌≤◌, max}
-use mathlib.Core.Path.{◌≡◌}
-use lib.ListN.{length}
 use borrow.Author.Rules.{rules}
-use Rattle.text.specs.Words.{next_word, word_count}
 use Rattle.text.proofs.PieceLaws.{word_again, count_first, count_next, count_done}
 use Rattle.text.proofs.count_words.Goals as goal
 

@@ -2,9 +2,7 @@
 use Prim.Native.Nat.{◌+◌, ◌-◌, ◌≤◌, max}
 use mathlib.Core.Path.{◌≡◌}
 use lib.ListN.{length}
-use borrow.Author.Rules.{rules}
 use Rattle.text.specs.Words.{next_word, word_count}
-use Rattle.text.proofs.PieceLaws.{word_again, count_first, count_next, count_done}
 use Rattle.text.proofs.count_words.Given as goal
 
 abbrev pub invariant-loop-w : goal.invariant-loop-w

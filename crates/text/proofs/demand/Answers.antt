@@ -1,6 +1,5 @@
 -- A test that does not hold stops, by the refusal of a call without a text. Assumes nothing.
 use Rattle.text.proofs.StageLaws.{demand_stops}
-use borrow.Author.Rules.{rules}
 use Rattle.text.proofs.demand.Goals as goal
 
 pub returns : goal.returns

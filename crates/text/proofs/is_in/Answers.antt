@@ -1,5 +1,4 @@
 -- `text::is_in` meets its contract: each arm is the clause of its class. Assumes nothing.
-use borrow.Author.Rules.{rules}
 use Rattle.text.proofs.is_in.Goals as goal
 
 pub returns-in-Blank : goal.returns-in-Blank

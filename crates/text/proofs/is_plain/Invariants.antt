@@ -1,6 +1,5 @@
 -- What is laid from here on is laid from the start; the last word ends the line. Assumes nothing.
-use Rattle.text.proofs.PlainLaws.{Onward, onward_more, onward_fed, onward_last, not_plain}
-use borrow.Author.Rules.{rules}
+use Rattle.text.proofs.PlainLaws.{Onward}
 use Prim.Native.Nat.{◌-◌, ◌≤◌}
 use lib.ListN.{length}
 use Rattle.text.proofs.is_plain.Given as goal

@@ -1,10 +1,7 @@
 -- The scan from here on ends where the scan from the start ends. Assumes nothing.
 use Rattle.text.proofs.Laws.{stride_more}
 use borrow.Author.Rules.{rules}
-use Prim.Native.Nat.{◌-◌, ◌≤◌, max}
-use mathlib.Core.Path.{◌≡◌, refl}
-use lib.ListN.{length}
-use Rattle.text.specs.Scan.{end_of}
+use mathlib.Core.Path.{refl}
 use Rattle.text.proofs.leap.Goals as goal
 
 pub loop-i-init : goal.loop-i-init

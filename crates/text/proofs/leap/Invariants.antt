@@ -1,8 +1,6 @@
 -- The scan from here on ends where the scan from the start ends. Assumes nothing.
-use Rattle.text.proofs.Laws.{stride_more}
-use borrow.Author.Rules.{rules}
 use Prim.Native.Nat.{◌-◌, ◌≤◌, max}
-use mathlib.Core.Path.{◌≡◌, refl}
+use mathlib.Core.Path.{◌≡◌}
 use lib.ListN.{length}
 use Rattle.text.specs.Scan.{end_of}
 use Rattle.text.proofs.leap.Given as goal

@@ -1,5 +1,4 @@
 -- `text::next_line` meets its contract: its two returns are the two cases of the definition. Assumes nothing.
-use borrow.Author.Rules.{rules}
 use Rattle.text.proofs.Laws.{next_fed, next_none}
 use Rattle.text.proofs.next_line.Goals as goal
 

@@ -1,5 +1,4 @@
 -- The test decides. Assumes nothing.
-use borrow.Author.Rules.{rules}
 use Rattle.text.proofs.require.Goals as goal
 
 pub returns-then-test : goal.returns-then-test

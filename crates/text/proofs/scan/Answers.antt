@@ -1,10 +1,7 @@
 -- `text::scan` meets its contract: the place where a scan from here ends is that of the scan from the start. Assumes nothing.
 use Rattle.text.proofs.Laws.{scan_found, scan_more, scan_past}
 use borrow.Author.Rules.{rules}
-use Prim.Native.Nat.{◌-◌, ◌≤◌, max}
-use mathlib.Core.Path.{◌≡◌, refl}
-use lib.ListN.{length}
-use Rattle.text.specs.Scan.{end_of}
+use mathlib.Core.Path.{refl}
 use Rattle.text.proofs.scan.Goals as goal
 
 pub loop-i-init : goal.loop-i-init

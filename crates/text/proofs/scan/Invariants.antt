@@ -1,8 +1,6 @@
 -- `text::scan` meets its contract: the place where a scan from here ends is that of the scan from the start. Assumes nothing.
-use Rattle.text.proofs.Laws.{scan_found, scan_more, scan_past}
-use borrow.Author.Rules.{rules}
 use Prim.Native.Nat.{◌-◌, ◌≤◌, max}
-use mathlib.Core.Path.{◌≡◌, refl}
+use mathlib.Core.Path.{◌≡◌}
 use lib.ListN.{length}
 use Rattle.text.specs.Scan.{end_of}
 use Rattle.text.proofs.scan.Given as goal

@@ -1,7 +1,4 @@
 -- `text::word_at` meets its contract: after i turns the word in hand is word i, and an empty word is every later one too. Assumes nothing.
-use Prim.Native.Nat.{◌-◌, ◌≤◌, max}
-use mathlib.Core.Path.{◌≡◌}
-use lib.ListN.{length}
 use borrow.Author.Rules.{rules}
 use borrow.Author.Tests.{eqb-true}
 use Rattle.text.specs.Words.{word_at}

@@ -2,10 +2,7 @@
 use Prim.Native.Nat.{◌-◌, ◌≤◌, max}
 use mathlib.Core.Path.{◌≡◌}
 use lib.ListN.{length}
-use borrow.Author.Rules.{rules}
-use borrow.Author.Tests.{eqb-true}
 use Rattle.text.specs.Words.{word_at}
-use Rattle.text.proofs.Laws.{word_next, word_there, word_stays}
 use Rattle.text.proofs.word_at.Given as goal
 
 abbrev pub invariant-loop-i : goal.invariant-loop-i

@@ -1,11 +1,7 @@
 -- The bytes of the word from here on end where those from the start do. Assumes nothing.
 use Rattle.text.proofs.Laws.{near_found, near_more}
 use borrow.Author.Rules.{rules}
-use Prim.Native.Nat.{◌-◌, ◌≤◌, max}
-use mathlib.Core.Path.{◌≡◌, refl, ◌∙◌}
-use lib.ListN.{length}
-use Rattle.text.specs.declared.Class.TheVariants.{Word}
-use Rattle.text.specs.Scan.{end_of}
+use mathlib.Core.Path.{refl, ◌∙◌}
 use Rattle.text.proofs.word_end.Goals as goal
 
 pub loop-i-init : goal.loop-i-init

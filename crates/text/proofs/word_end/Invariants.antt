@@ -1,8 +1,6 @@
 -- The bytes of the word from here on end where those from the start do. Assumes nothing.
-use Rattle.text.proofs.Laws.{near_found, near_more}
-use borrow.Author.Rules.{rules}
 use Prim.Native.Nat.{◌-◌, ◌≤◌, max}
-use mathlib.Core.Path.{◌≡◌, refl, ◌∙◌}
+use mathlib.Core.Path.{◌≡◌}
 use lib.ListN.{length}
 use Rattle.text.specs.declared.Class.TheVariants.{Word}
 use Rattle.text.specs.Scan.{end_of}

@@ -1,10 +1,7 @@
 -- Whatever stores the bytes from here on completes the whole. Assumes nothing.
 use borrow.Author.Rules.{rules}
-use Prim.Native.Nat.{◌-◌, ◌≤◌}
-use mathlib.Core.Path.{◌≡◌, refl}
-use lib.ListN.{length, drop}
-use Rattle.ledger.specs.Limits.{largest_place}
-use Rattle.writing.proofs.PutLaws.{Completes, completes_all, bytes_step, bytes_done}
+use mathlib.Core.Path.{refl}
+use Rattle.writing.proofs.PutLaws.{completes_all, bytes_step, bytes_done}
 use Rattle.writing.proofs.put_each.Goals as goal
 
 pub loop-i-init : goal.loop-i-init

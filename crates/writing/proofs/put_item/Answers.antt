@@ -1,6 +1,5 @@
 -- The digits, then the comma. Assumes nothing.
 use Rattle.writing.proofs.ListLaws.{put_item_is}
-use borrow.Author.Rules.{rules}
 use Rattle.writing.proofs.put_item.Goals as goal
 
 pub returns : goal.returns

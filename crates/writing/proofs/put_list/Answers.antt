@@ -1,11 +1,7 @@
 -- Whatever stores the list from here on completes the whole. Assumes nothing.
 use borrow.Author.Rules.{rules}
-use Prim.Native.Nat.{◌-◌, ◌≤◌}
-use mathlib.Core.Path.{◌≡◌, refl}
-use lib.ListN.{length, drop}
-use Rattle.ledger.specs.Limits.{largest_place}
-use Rattle.writing.specs.Digits.{list_text}
-use Rattle.writing.proofs.PutLaws.{Completes, completes_all}
+use mathlib.Core.Path.{refl}
+use Rattle.writing.proofs.PutLaws.{completes_all}
 use Rattle.writing.proofs.ListLaws.{list_step, list_done}
 use Rattle.writing.proofs.put_list.Goals as goal
 

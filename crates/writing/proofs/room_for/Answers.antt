@@ -1,6 +1,5 @@
 -- The tests in the ledger's order. Assumes nothing.
 use Rattle.writing.proofs.PutLaws.{room_long, room_short, room_enough}
-use borrow.Author.Rules.{rules}
 use Rattle.writing.proofs.room_for.Goals as goal
 
 pub returns-then-n-gt-TEXT_LIMIT : goal.returns-then-n-gt-TEXT_LIMIT

@@ -1,8 +1,5 @@
 -- Storing the bytes that are left makes the whole. Assumes nothing.
-use borrow.Author.Rules.{rules}
-use Prim.Native.Nat.{◌-◌}
-use lib.ListN.{length}
-use Rattle.writing.proofs.StoreLaws.{Storing, storing_starts, storing_step, storing_ends}
+use Rattle.writing.proofs.StoreLaws.{storing_starts, storing_step, storing_ends}
 use Rattle.writing.proofs.store_bytes.Goals as goal
 
 pub loop-i-init : goal.loop-i-init

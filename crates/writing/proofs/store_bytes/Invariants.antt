@@ -1,8 +1,7 @@
 -- Storing the bytes that are left makes the whole. Assumes nothing.
-use borrow.Author.Rules.{rules}
 use Prim.Native.Nat.{◌-◌}
 use lib.ListN.{length}
-use Rattle.writing.proofs.StoreLaws.{Storing, storing_starts, storing_step, storing_ends}
+use Rattle.writing.proofs.StoreLaws.{Storing}
 use Rattle.writing.proofs.store_bytes.Given as goal
 
 abbrev pub invariant-loop-i : goal.invariant-loop-i

@@ -1,6 +1,5 @@
 -- A refusal leaves the buffer; else the bytes are put at its front. Assumes nothing.
 use Rattle.writing.proofs.PutLaws.{write_refused, write_put}
-use borrow.Author.Rules.{rules}
 use Rattle.writing.proofs.write_bytes.Goals as goal
 
 pub returns-in-Refused : goal.returns-in-Refused

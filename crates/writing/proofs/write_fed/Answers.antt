@@ -1,6 +1,5 @@
 -- A refusal leaves the buffer; else the bytes and the feed are put at its front. Assumes nothing.
 use Rattle.writing.proofs.PutLaws.{fed_refused, fed_put}
-use borrow.Author.Rules.{rules}
 use Rattle.writing.proofs.write_fed.Goals as goal
 
 pub returns-in-Refused : goal.returns-in-Refused
