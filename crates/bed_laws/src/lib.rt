@@ -1,3 +1,2 @@
 // No code: what is true of BED's definitions and of no one function stands in proofs/.
 #![tactic(auto)]
-

@@ -9,11 +9,9 @@ use native.Mathlib.Omega.{arith}
 use lib.Dec.{eqb}
 use borrow.Author.Tests.{eq-eqb, ne_eqb, eqb-true}
 use Rattle.ledger.specs.declared.Row.{Row}
-use Rattle.ledger.specs.declared.Strand.{Strand}
-use Rattle.ledger.specs.declared.Strand.TheVariants.{Minus}
 use Rattle.blocks.specs.Rows.{target_end, query_end}
 use Rattle.lift.specs.declared.Partner.TheVariants.{Base, Alone}
-use Rattle.lift.specs.Pairs.{Pair, pair, forward_on, block_pairs, pairs_of, or_else, partner_of}
+use Rattle.lift.specs.Pairs.{Pair, pair, block_pairs, pairs_of, or_else, partner_of}
 use Rattle.lift.proofs.RunLaws.{either, Run}
 
 -- looking up: before a block, past it, in it

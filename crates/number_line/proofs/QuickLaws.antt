@@ -18,7 +18,7 @@ use Rattle.text.proofs.TextLaws.{All, digit_graphic, graphic_word, graphic_line,
 use Rattle.text.proofs.PieceLaws.{pieces_step}
 use Rattle.numbers.specs.declared.Digits.{Digits}
 use Rattle.numbers.specs.declared.Spelt.TheVariants.{Means}
-use Rattle.numbers.specs.Numbers.{value, is_led, number_of, DigitsRead}
+use Rattle.numbers.specs.Numbers.{is_led, number_of, DigitsRead}
 use Rattle.numbers.specs.Lists.{good_values}
 use Rattle.numbers.proofs.DigitLaws.{value_most, part_in_lem, part_length, digits_high, digits_pass, digits_ended, judged_good, judged_part}
 use Rattle.number_line.specs.declared.Quick.{Quick}

@@ -12,12 +12,12 @@ use Rattle.text.specs.declared.Check.TheVariants as check
 use Rattle.region.specs.declared.Tally.{Tally}
 use Rattle.region.specs.Steps.{no_room}
 use Rattle.ledger.specs.declared.Reason.TheVariants.{NoRoom, NoPair}
-use Rattle.lift.specs.Pairs.{Pair, block_pairs, pairs}
+use Rattle.lift.specs.Pairs.{Pair, block_pairs}
 use Rattle.lift.proofs.RunLaws.{either}
 use Rattle.region.specs.declared.Reach.{Reach}
 use Rattle.region.specs.declared.RegionAnswer.{RegionAnswer}
 use Rattle.region.specs.declared.RegionAnswer.TheVariants.{Lifted}
-use Rattle.region.specs.Regions.{kept, dropped, cons_if, partners_in, not_lifted}
+use Rattle.region.specs.Regions.{cons_if, partners_in, not_lifted}
 use Rattle.region.specs.Reaches.{lap, answer_of}
 
 -- ---- the answer

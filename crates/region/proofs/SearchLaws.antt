@@ -18,11 +18,11 @@ use Rattle.blocks.specs.Rows.{table_of, target_end, query_end, no_row, row_at}
 use Rattle.blocks.proofs.TableLaws.{taken, taken_length, taken_at}
 use Rattle.chain.specs.declared.Chain.{Chain}
 use Rattle.lift.specs.declared.Partner.TheVariants.{Base}
-use Rattle.lift.specs.Accepted.{accepted, Ready}
+use Rattle.lift.specs.Accepted.{Ready}
 use Rattle.lift.specs.Pairs.{Pair, pair, forward_on, forward, block_pairs, pairs_of, pairs, partner_of}
 use Rattle.lift.proofs.RunLaws.{either, Run}
 use Rattle.lift.proofs.PairLaws.{block_in, block_after, in_block_lem, found_mem}
-use Rattle.lift.proofs.AcceptLaws.{accepted_rules, ready, ready_if}
+use Rattle.lift.proofs.AcceptLaws.{accepted_rules}
 use Rattle.region.specs.Regions.{kept, dropped, one, partners_in, least, bound, inside}
 use Rattle.region.specs.declared.Reach.{Reach}
 use Rattle.region.specs.Reaches.{lap, covered, Reached, no_reach, Found}

@@ -1,6 +1,5 @@
 -- All of it written, or too little room. Assumes nothing.
 use Rattle.answers.proofs.AnswerLaws.{record_short, record_put}
-use borrow.Author.Rules.{rules}
 use Rattle.answers.proofs.answer_record.Goals as goal
 
 pub returns-then-record_fits : goal.returns-then-record_fits

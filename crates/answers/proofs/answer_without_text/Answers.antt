@@ -1,6 +1,5 @@
 -- Too little room, or all of it written. Assumes nothing.
 use Rattle.answers.proofs.AnswerLaws.{numbers_short, numbers_put}
-use borrow.Author.Rules.{rules}
 use Rattle.answers.proofs.answer_without_text.Goals as goal
 
 pub returns-then-out-vs : goal.returns-then-out-vs

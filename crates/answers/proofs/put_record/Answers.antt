@@ -1,6 +1,5 @@
 -- The rows after the fields. Assumes nothing.
 use Rattle.answers.proofs.AnswerLaws.{part_count, record_stored}
-use borrow.Author.Rules.{rules}
 use Rattle.answers.proofs.put_record.Goals as goal
 
 pub slice_bounds-put_rows-end : goal.slice_bounds-put_rows-end

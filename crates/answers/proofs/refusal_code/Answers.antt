@@ -1,6 +1,5 @@
 -- The reason's number fits below the place. Assumes nothing.
 use Rattle.answers.proofs.AnswerLaws.{code_fits}
-use borrow.Author.Rules.{rules}
 use Rattle.answers.proofs.refusal_code.Goals as goal
 
 pub overflow_add-result : goal.overflow_add-result

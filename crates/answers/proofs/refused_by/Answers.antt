@@ -1,6 +1,5 @@
 -- The code of the refusal that was made. Assumes nothing.
 use Rattle.answers.proofs.AnswerLaws.{code_of}
-use borrow.Author.Rules.{rules}
 use Rattle.answers.proofs.refused_by.Goals as goal
 
 pub returns : goal.returns

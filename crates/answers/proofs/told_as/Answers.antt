@@ -1,5 +1,4 @@
 -- Over the most that is told, or not. Assumes nothing.
-use borrow.Author.Rules.{rules}
 use Rattle.answers.proofs.AnswerLaws.{told_most, told_itself}
 use Rattle.answers.proofs.told_as.Goals as goal
 

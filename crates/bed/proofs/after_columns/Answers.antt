@@ -1,6 +1,5 @@
 -- Each check decides, and the next stage goes on. Assumes nothing.
 use Rattle.bed.proofs.ReadLaws.{listed_as, columns_stop, lines_stop, lines_on}
-use borrow.Author.Rules.{rules}
 use Rattle.bed.proofs.after_columns.Goals as goal
 
 pub after_spans-requires : goal.after_spans-requires

@@ -1,6 +1,5 @@
 -- The walk over all columns decides, or the stage for any line does. Assumes nothing.
 use Rattle.bed.proofs.ColumnLaws.{long_listed, long_line, long_on, long_stop}
-use borrow.Author.Rules.{rules}
 use Rattle.bed.proofs.after_long.Goals as goal
 
 pub after_columns-requires : goal.after_columns-requires

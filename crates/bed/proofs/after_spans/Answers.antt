@@ -1,6 +1,5 @@
 -- The working room holds the record's blocks, and the check decides. Assumes nothing.
 use Rattle.bed.proofs.ReadLaws.{block_held, spans_stop, spans_read}
-use borrow.Author.Rules.{rules}
 use Rattle.bed.proofs.after_spans.Goals as goal
 
 pub check_blocks-requires : goal.check_blocks-requires

@@ -1,6 +1,5 @@
 -- The number of words decides, and the next stage goes on. Assumes nothing.
 use Rattle.bed.proofs.ColumnLaws.{words_counted, text_stop, text_on}
-use borrow.Author.Rules.{rules}
 use Rattle.bed.proofs.after_text.Goals as goal
 
 pub after_words-requires : goal.after_words-requires

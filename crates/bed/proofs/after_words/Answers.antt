@@ -1,6 +1,5 @@
 -- The table's columns are BED's first n, and what they hold gives the record and its blocks. Assumes nothing.
 use Rattle.bed.proofs.ColumnLaws.{words_few, words_length, words_listed, words_line, words_stop, words_on}
-use borrow.Author.Rules.{rules}
 use Rattle.bed.proofs.after_words.Goals as goal
 
 pub slice_bounds-table-end : goal.slice_bounds-table-end

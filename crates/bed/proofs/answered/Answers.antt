@@ -1,6 +1,5 @@
 -- A record as accepted, and a fault as refused. Assumes nothing.
 use Rattle.bed.proofs.ReadLaws.{tells_read, tells_fault}
-use borrow.Author.Rules.{rules}
 use Rattle.bed.proofs.answered.Goals as goal
 
 pub returns-in-Read : goal.returns-in-Read

@@ -1,6 +1,5 @@
 -- The test decides. Assumes nothing.
 use Rattle.bed.specs.Write.{record_check}
-use borrow.Author.Rules.{rules}
 use Rattle.bed.proofs.check_bed.Goals as goal
 
 pub returns : goal.returns

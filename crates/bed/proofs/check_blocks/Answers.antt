@@ -1,6 +1,5 @@
 -- The starts stand after the sizes in the working room. Assumes nothing.
 use Rattle.bed.proofs.ReadLaws.{blocks_checked}
-use borrow.Author.Rules.{rules}
 use Rattle.bed.proofs.check_blocks.Goals as goal
 
 pub returns : goal.returns

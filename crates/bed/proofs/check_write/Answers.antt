@@ -1,6 +1,5 @@
 -- The tests in their order, the last one innermost. Assumes nothing.
 use Rattle.bed.specs.Write.{write_check}
-use borrow.Author.Rules.{rules}
 use Rattle.bed.proofs.check_write.Goals as goal
 
 pub returns : goal.returns

@@ -1,6 +1,5 @@
 -- Two stores, where the block columns are left out. Assumes nothing.
 use Rattle.bed.proofs.ReadLaws.{block_given, block_default}
-use borrow.Author.Rules.{rules}
 use Rattle.bed.proofs.default_block.Goals as goal
 
 pub returns-then-r : goal.returns-then-r

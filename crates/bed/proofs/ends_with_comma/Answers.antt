@@ -1,6 +1,5 @@
 -- The word's last byte. Assumes nothing.
 use Rattle.bed.proofs.StandardLaws.{comma_last}
-use borrow.Author.Rules.{rules}
 use Rattle.bed.proofs.ends_with_comma.Goals as goal
 
 pub returns-then-word : goal.returns-then-word

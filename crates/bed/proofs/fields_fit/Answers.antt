@@ -1,6 +1,5 @@
 -- Each test by its own function. Assumes nothing.
 use Rattle.bed.specs.Tests.{fields_fit}
-use borrow.Author.Rules.{rules}
 use Rattle.bed.proofs.fields_fit.Goals as goal
 
 pub returns : goal.returns

@@ -1,6 +1,5 @@
 -- The answer as it is, or the rows. Assumes nothing.
 use Rattle.bed.proofs.StoreLaws.{hand_fault, hand_ready, hand_stored}
-use borrow.Author.Rules.{rules}
 use Rattle.bed.proofs.hand_over.Goals as goal
 
 pub store_rows-requires : goal.store_rows-requires

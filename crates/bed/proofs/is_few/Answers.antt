@@ -1,6 +1,5 @@
 -- Two tests. Assumes nothing.
 use Rattle.bed.proofs.ColumnLaws.{few_is}
-use borrow.Author.Rules.{rules}
 use Rattle.bed.proofs.is_few.Goals as goal
 
 pub returns : goal.returns

@@ -3,7 +3,6 @@ use mathlib.Core.Path.{◌≡◌}
 use Prim.Native.Nat.{ℕ}
 use native.Mathlib.Omega.{arith}
 use Rattle.bed.proofs.StandardLaws.{accepted_as, standard_of}
-use borrow.Author.Rules.{rules}
 use Rattle.bed.proofs.is_standard.Goals as goal
 
 pub is_tidy-requires : goal.is_tidy-requires

@@ -1,7 +1,6 @@
 -- The words one after the other. Assumes nothing.
 use Rattle.bed.proofs.StandardLaws.{name_fits, tidy_nine, tidy_twelve}
 use native.Mathlib.Omega.{arith}
-use borrow.Author.Rules.{rules}
 use Rattle.bed.proofs.is_tidy.Goals as goal
 
 pub overflow_add-name_end : goal.overflow_add-name_end

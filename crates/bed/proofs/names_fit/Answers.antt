@@ -1,6 +1,5 @@
 -- Each test by its own function. Assumes nothing.
 use Rattle.bed.specs.Tests.{names_fit}
-use borrow.Author.Rules.{rules}
 use Rattle.bed.proofs.names_fit.Goals as goal
 
 pub returns : goal.returns

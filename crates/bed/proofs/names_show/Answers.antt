@@ -1,6 +1,5 @@
 -- Each test by its own function. Assumes nothing.
 use Rattle.bed.specs.Write.{names_show}
-use borrow.Author.Rules.{rules}
 use Rattle.bed.proofs.names_show.Goals as goal
 
 pub returns : goal.returns

@@ -1,6 +1,5 @@
 -- A column past the number of words has its default. Assumes nothing.
 use Rattle.bed.proofs.ReadLaws.{place_there, place_left}
-use borrow.Author.Rules.{rules}
 use Rattle.bed.proofs.place_or.Goals as goal
 
 pub returns-then-k-n : goal.returns-then-k-n

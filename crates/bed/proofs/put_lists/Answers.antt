@@ -1,6 +1,5 @@
 -- The starts are stored past the sizes. Assumes nothing.
 use Rattle.bed.proofs.WriteLaws.{lists_put}
-use borrow.Author.Rules.{rules}
 use Rattle.bed.proofs.put_lists.Goals as goal
 
 pub returns : goal.returns

@@ -1,6 +1,5 @@
 -- A short text that may hold its bytes. Assumes nothing.
 use Rattle.bed.proofs.ColumnLaws.{quick_unsure, quick_text}
-use borrow.Author.Rules.{rules}
 use Rattle.bed.proofs.quick.Goals as goal
 
 pub returns-then-text-gt-LONG : goal.returns-then-text-gt-LONG

@@ -1,7 +1,6 @@
 -- The quick reading where it is sure, and its rows, as the caller is told. Assumes nothing.
 use Rattle.bed.proofs.ColumnLaws.{quick_staged}
 use Rattle.bed.proofs.StoreLaws.{read_told}
-use borrow.Author.Rules.{rules}
 use Rattle.bed.proofs.read_bed.Goals as goal
 
 pub hand_over-requires : goal.hand_over-requires

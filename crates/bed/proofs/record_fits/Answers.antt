@@ -1,6 +1,5 @@
 -- Each test by its own function. Assumes nothing.
 use Rattle.bed.specs.Tests.{bed_valid}
-use borrow.Author.Rules.{rules}
 use Rattle.bed.proofs.record_fits.Goals as goal
 
 pub returns : goal.returns

@@ -1,6 +1,5 @@
 -- Each field by its column. Assumes nothing.
 use Rattle.bed.proofs.ReadLaws.{record_is}
-use borrow.Author.Rules.{rules}
 use Rattle.bed.proofs.record_of.Goals as goal
 
 pub returns : goal.returns

@@ -1,6 +1,5 @@
 -- Each test by its own function. Assumes nothing.
 use Rattle.bed.specs.Tests.{rows_fit}
-use borrow.Author.Rules.{rules}
 use Rattle.bed.proofs.rows_fit.Goals as goal
 
 pub returns : goal.returns

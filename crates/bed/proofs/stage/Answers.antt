@@ -1,6 +1,5 @@
 -- Each check decides, and the next stage goes on. Assumes nothing.
 use Rattle.bed.proofs.ColumnLaws.{check_stop, check_on}
-use borrow.Author.Rules.{rules}
 use Rattle.bed.proofs.stage.Goals as goal
 
 pub returns-then-text-gt-LONG : goal.returns-then-text-gt-LONG

@@ -1,6 +1,5 @@
 -- The room decides; the rows are the starts moved up, the sums, and the sizes. Assumes nothing.
 use Rattle.bed.proofs.StoreLaws.{store_short, store_rows}
-use borrow.Author.Rules.{rules}
 use Rattle.bed.proofs.store_rows.Goals as goal
 
 pub returns-then-room-count : goal.returns-then-room-count

@@ -1,6 +1,5 @@
 -- A strand left out is the dot. Assumes nothing.
 use Rattle.bed.specs.Tests.{strand_fits}
-use borrow.Author.Rules.{rules}
 use Rattle.bed.proofs.strand_fits.Goals as goal
 
 pub returns : goal.returns

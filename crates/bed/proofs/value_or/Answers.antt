@@ -1,6 +1,5 @@
 -- A column past the number of words has its default. Assumes nothing.
 use Rattle.bed.proofs.ReadLaws.{value_there, value_left}
-use borrow.Author.Rules.{rules}
 use Rattle.bed.proofs.value_or.Goals as goal
 
 pub returns-then-k-n : goal.returns-then-k-n

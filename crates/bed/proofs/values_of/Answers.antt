@@ -1,6 +1,5 @@
 -- The columns one after the other. Assumes nothing.
 use Rattle.bed.specs.Steps.{bed_values}
-use borrow.Author.Rules.{rules}
 use Rattle.bed.proofs.values_of.Goals as goal
 
 pub returns : goal.returns

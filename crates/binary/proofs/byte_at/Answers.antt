@@ -1,5 +1,4 @@
 -- Past the end there is no byte. Assumes nothing.
-use borrow.Author.Rules.{rules}
 use Rattle.binary.proofs.ByteLaws.{byte_past, byte_far}
 use Rattle.binary.proofs.byte_at.Goals as goal
 

@@ -1,5 +1,4 @@
 use Rattle.binary.proofs.ByteLaws.{word_loaded}
-use borrow.Author.Rules.{rules}
 use Rattle.binary.proofs.load_word.Goals as goal
 
 pub returns : goal.returns

@@ -1,6 +1,5 @@
 -- From the highest byte down. Assumes nothing.
-use borrow.Author.Rules.{rules}
-use Rattle.binary.proofs.ByteLaws.{Reading, reading_step, times_fits, sum_fits, reading_starts, reading_ends}
+use Rattle.binary.proofs.ByteLaws.{Reading}
 use Rattle.binary.proofs.low_at.Given as goal
 
 abbrev pub invariant-loop-left : goal.invariant-loop-left

@@ -1,11 +1,7 @@
 -- Whatever stores the numbers from here on completes the whole. Assumes nothing.
 use borrow.Author.Rules.{rules}
-use Prim.Native.Nat.{◌-◌, ◌≤◌}
-use mathlib.Core.Path.{◌≡◌, refl}
-use lib.ListN.{length, drop}
-use Rattle.ledger.specs.Limits.{largest_place}
-use Rattle.writing.proofs.PutLaws.{Completes, completes_all}
-use Rattle.binary.specs.Bytes.{words_bytes}
+use mathlib.Core.Path.{refl}
+use Rattle.writing.proofs.PutLaws.{completes_all}
 use Rattle.binary.proofs.ByteLaws.{words_step, words_done}
 use Rattle.binary.proofs.put_each.Goals as goal
 

@@ -1,12 +1,10 @@
 -- Whatever stores the numbers from here on completes the whole. Assumes nothing.
-use borrow.Author.Rules.{rules}
 use Prim.Native.Nat.{◌-◌, ◌≤◌}
-use mathlib.Core.Path.{◌≡◌, refl}
+use mathlib.Core.Path.{◌≡◌}
 use lib.ListN.{length, drop}
 use Rattle.ledger.specs.Limits.{largest_place}
-use Rattle.writing.proofs.PutLaws.{Completes, completes_all}
+use Rattle.writing.proofs.PutLaws.{Completes}
 use Rattle.binary.specs.Bytes.{words_bytes}
-use Rattle.binary.proofs.ByteLaws.{words_step, words_done}
 use Rattle.binary.proofs.put_each.Given as goal
 
 abbrev pub invariant-loop-i : goal.invariant-loop-i

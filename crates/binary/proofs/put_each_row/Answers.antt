@@ -1,12 +1,7 @@
 -- Whatever stores the rows from here on completes the whole. Assumes nothing.
 use borrow.Author.Rules.{rules}
-use Prim.Native.Nat.{◌-◌, ◌≤◌}
-use mathlib.Core.Path.{◌≡◌, refl}
-use lib.ListN.{length, drop}
-use Rattle.ledger.specs.Limits.{largest_place}
-use Rattle.blocks.specs.Rows.{table_of}
-use Rattle.writing.proofs.PutLaws.{Completes, completes_all}
-use Rattle.binary.specs.Bytes.{words_bytes, rows_numbers}
+use mathlib.Core.Path.{refl}
+use Rattle.writing.proofs.PutLaws.{completes_all}
 use Rattle.binary.proofs.ByteLaws.{rows_step, rows_done}
 use Rattle.binary.proofs.put_each_row.Goals as goal
 

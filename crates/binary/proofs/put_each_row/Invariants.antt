@@ -1,13 +1,11 @@
 -- Whatever stores the rows from here on completes the whole. Assumes nothing.
-use borrow.Author.Rules.{rules}
 use Prim.Native.Nat.{◌-◌, ◌≤◌}
-use mathlib.Core.Path.{◌≡◌, refl}
+use mathlib.Core.Path.{◌≡◌}
 use lib.ListN.{length, drop}
 use Rattle.ledger.specs.Limits.{largest_place}
 use Rattle.blocks.specs.Rows.{table_of}
-use Rattle.writing.proofs.PutLaws.{Completes, completes_all}
+use Rattle.writing.proofs.PutLaws.{Completes}
 use Rattle.binary.specs.Bytes.{words_bytes, rows_numbers}
-use Rattle.binary.proofs.ByteLaws.{rows_step, rows_done}
 use Rattle.binary.proofs.put_each_row.Given as goal
 
 abbrev pub invariant-loop-i : goal.invariant-loop-i

@@ -1,11 +1,7 @@
 -- Whatever stores the bytes that are left completes the number. Assumes nothing.
 use borrow.Author.Rules.{rules}
-use Prim.Native.Nat.{◌≤◌}
-use mathlib.Core.Path.{◌≡◌, refl}
-use lib.ListN.{length}
-use Rattle.ledger.specs.Limits.{largest_place}
-use Rattle.writing.proofs.PutLaws.{Completes, completes_all}
-use Rattle.binary.specs.Bytes.{low_bytes}
+use mathlib.Core.Path.{refl}
+use Rattle.writing.proofs.PutLaws.{completes_all}
 use Rattle.binary.proofs.ByteLaws.{low_step, low_done}
 use Rattle.binary.proofs.put_low.Goals as goal
 

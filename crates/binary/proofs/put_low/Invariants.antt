@@ -1,12 +1,10 @@
 -- Whatever stores the bytes that are left completes the number. Assumes nothing.
-use borrow.Author.Rules.{rules}
 use Prim.Native.Nat.{◌≤◌}
-use mathlib.Core.Path.{◌≡◌, refl}
+use mathlib.Core.Path.{◌≡◌}
 use lib.ListN.{length}
 use Rattle.ledger.specs.Limits.{largest_place}
-use Rattle.writing.proofs.PutLaws.{Completes, completes_all}
+use Rattle.writing.proofs.PutLaws.{Completes}
 use Rattle.binary.specs.Bytes.{low_bytes}
-use Rattle.binary.proofs.ByteLaws.{low_step, low_done}
 use Rattle.binary.proofs.put_low.Given as goal
 
 abbrev pub invariant-loop-left : goal.invariant-loop-left

@@ -1,6 +1,5 @@
 -- Three numbers one after the other. Assumes nothing.
 use Rattle.binary.proofs.ByteLaws.{row_put}
-use borrow.Author.Rules.{rules}
 use Rattle.binary.proofs.put_row.Goals as goal
 
 pub returns : goal.returns

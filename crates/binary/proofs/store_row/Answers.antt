@@ -1,5 +1,4 @@
 -- Three words one after the other. Assumes nothing.
-use borrow.Author.Rules.{rules}
 use Rattle.binary.proofs.WordLaws.{row_stored}
 use Rattle.binary.proofs.store_row.Goals as goal
 

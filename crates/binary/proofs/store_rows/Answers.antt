@@ -1,7 +1,5 @@
 -- Storing the rows that are left makes the whole. Assumes nothing.
-use borrow.Author.Rules.{rules}
-use Prim.Native.Nat.{◌-◌}
-use Rattle.binary.proofs.WordLaws.{RowsStoring, rows_start, rows_store, rows_stored}
+use Rattle.binary.proofs.WordLaws.{rows_start, rows_store, rows_stored}
 use Rattle.binary.proofs.store_rows.Goals as goal
 
 pub loop-i-init : goal.loop-i-init

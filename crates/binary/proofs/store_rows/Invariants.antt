@@ -1,7 +1,6 @@
 -- Storing the rows that are left makes the whole. Assumes nothing.
-use borrow.Author.Rules.{rules}
 use Prim.Native.Nat.{◌-◌}
-use Rattle.binary.proofs.WordLaws.{RowsStoring, rows_start, rows_store, rows_stored}
+use Rattle.binary.proofs.WordLaws.{RowsStoring}
 use Rattle.binary.proofs.store_rows.Given as goal
 
 abbrev pub invariant-loop-i : goal.invariant-loop-i

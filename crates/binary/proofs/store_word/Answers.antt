@@ -2,7 +2,6 @@
 use native.Mathlib.Omega.{arith}
 use lib.ListN.{length-set}
 use Rattle.binary.proofs.WordLaws.{word_stored}
-use borrow.Author.Rules.{rules}
 use Rattle.binary.proofs.store_word.Goals as goal
 
 pub bounds-buf-at-2 : goal.bounds-buf-at-2

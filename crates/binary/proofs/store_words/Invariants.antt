@@ -1,8 +1,7 @@
 -- Storing the numbers that are left makes the whole. Assumes nothing.
-use borrow.Author.Rules.{rules}
 use Prim.Native.Nat.{◌-◌}
 use lib.ListN.{length}
-use Rattle.binary.proofs.WordLaws.{Storing, storing_starts, storing_step, storing_ends}
+use Rattle.binary.proofs.WordLaws.{Storing}
 use Rattle.binary.proofs.store_words.Given as goal
 
 abbrev pub invariant-loop-i : goal.invariant-loop-i

@@ -1,7 +1,5 @@
 -- Past the end a byte reads as 0. Assumes nothing.
 use Rattle.columns.proofs.LineLaws.{value_none}
-use borrow.Author.Rules.{rules}
-use Rattle.cases.proofs.byte_at.Reads as reads
 use Rattle.cases.proofs.byte_at.Goals as goal
 
 pub returns-else-i-s : goal.returns-else-i-s

@@ -1,6 +1,5 @@
 -- The first byte is the one that is tested. Assumes nothing.
 use Rattle.cases.proofs.CaseLaws.{case_told}
-use borrow.Author.Rules.{rules}
 use Rattle.cases.proofs.is_case.Goals as goal
 
 pub returns : goal.returns

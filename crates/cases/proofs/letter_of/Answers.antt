@@ -1,6 +1,5 @@
 -- What follows the letter decides. Assumes nothing.
 use Rattle.cases.proofs.CaseLaws.{letter_told, letter_none}
-use borrow.Author.Rules.{rules}
 use Rattle.cases.proofs.letter_of.Goals as goal
 
 pub returns-then-line-byte_at : goal.returns-then-line-byte_at

@@ -1,6 +1,5 @@
 -- The spans decide, and the next stage goes on. Assumes nothing.
 use Rattle.chain.proofs.StageLaws.{columns_faulty, columns_on}
-use borrow.Author.Rules.{rules}
 use Rattle.chain.proofs.after_columns.Goals as goal
 
 pub returns-in-Faulty : goal.returns-in-Faulty

@@ -1,6 +1,5 @@
 -- The blocks decide. Assumes nothing.
 use Rattle.chain.proofs.StageLaws.{last_faulty, last_read}
-use borrow.Author.Rules.{rules}
 use Rattle.chain.proofs.after_last.Goals as goal
 
 pub returns-in-Faulty : goal.returns-in-Faulty

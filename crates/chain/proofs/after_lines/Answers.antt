@@ -1,6 +1,5 @@
 -- A surplus line decides, and the next stage goes on. Assumes nothing.
 use Rattle.chain.proofs.StageLaws.{lines_faulty, lines_on}
-use borrow.Author.Rules.{rules}
 use Rattle.chain.proofs.after_lines.Goals as goal
 
 pub returns-in-Faulty : goal.returns-in-Faulty

@@ -1,6 +1,5 @@
 -- The walk decides, and the last stages go on. Assumes nothing.
 use Rattle.chain.proofs.StageLaws.{spans_faulty, spans_on}
-use borrow.Author.Rules.{rules}
 use Rattle.chain.proofs.after_spans.Goals as goal
 
 pub returns-in-Faulty : goal.returns-in-Faulty

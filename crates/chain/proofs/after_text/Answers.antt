@@ -1,6 +1,5 @@
 -- The header taken in one pass, or its table's columns; and the next stage goes on. Assumes nothing.
 use Rattle.chain.proofs.StageLaws.{head_headed, head_on, words_headed, words_faulty, words_on}
-use borrow.Author.Rules.{rules}
 use Rattle.chain.proofs.after_text.Goals as goal
 
 pub after_columns-requires : goal.after_columns-requires

@@ -1,6 +1,5 @@
 -- A fault is told as a refusal, a record as it is. Assumes nothing.
 use Rattle.chain.proofs.AnswerLaws.{told_faulty, told_accepted}
-use borrow.Author.Rules.{rules}
 use Rattle.chain.proofs.answered.Goals as goal
 
 pub returns-in-Faulty : goal.returns-in-Faulty

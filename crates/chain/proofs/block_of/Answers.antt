@@ -1,6 +1,5 @@
 -- A size alone is the last. Assumes nothing.
 use Rattle.chain.proofs.ReadLaws.{block_last, block_gap}
-use borrow.Author.Rules.{rules}
 use Rattle.chain.proofs.block_of.Goals as goal
 
 pub returns-then-n-eq-LAST_COLUMNS : goal.returns-then-n-eq-LAST_COLUMNS

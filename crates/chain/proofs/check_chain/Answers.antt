@@ -1,6 +1,5 @@
 -- The test decides. Assumes nothing.
 use Rattle.chain.specs.Write.{record_check}
-use borrow.Author.Rules.{rules}
 use Rattle.chain.proofs.check_chain.Goals as goal
 
 pub returns : goal.returns

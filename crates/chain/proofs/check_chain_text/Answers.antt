@@ -1,6 +1,5 @@
 -- What the stages find is told. Assumes nothing.
 use Rattle.chain.proofs.StageLaws.{check_told}
-use borrow.Author.Rules.{rules}
 use Rattle.chain.proofs.check_chain_text.Goals as goal
 
 pub returns : goal.returns

@@ -1,6 +1,5 @@
 -- The last block's ends. Assumes nothing.
 use Rattle.chain.specs.Read.{fill_check}
-use borrow.Author.Rules.{rules}
 use Rattle.chain.proofs.check_fill.Goals as goal
 
 pub returns : goal.returns

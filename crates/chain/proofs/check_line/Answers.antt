@@ -1,6 +1,5 @@
 -- The limit comes before the number of words. Assumes nothing.
 use Rattle.chain.proofs.BlockLaws.{line_checked}
-use borrow.Author.Rules.{rules}
 use Rattle.chain.proofs.check_line.Goals as goal
 
 pub returns : goal.returns

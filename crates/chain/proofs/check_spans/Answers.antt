@@ -1,6 +1,5 @@
 -- The target's span before the query's. Assumes nothing.
 use Rattle.chain.specs.Read.{span_check}
-use borrow.Author.Rules.{rules}
 use Rattle.chain.proofs.check_spans.Goals as goal
 
 pub returns : goal.returns

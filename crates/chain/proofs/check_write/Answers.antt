@@ -1,6 +1,5 @@
 -- The tests in the writers' order. Assumes nothing.
 use Rattle.chain.specs.Write.{write_check}
-use borrow.Author.Rules.{rules}
 use Rattle.chain.proofs.check_write.Goals as goal
 
 pub returns : goal.returns

@@ -1,6 +1,5 @@
 -- Each number in its range. Assumes nothing.
 use Rattle.chain.proofs.TestLaws.{fields_are}
-use borrow.Author.Rules.{rules}
 use Rattle.chain.proofs.fields_fit.Goals as goal
 
 pub returns : goal.returns

@@ -2,7 +2,6 @@
 use Rattle.text.specs.declared.Stage.TheVariants as stage
 use Rattle.text.proofs.StageLaws.{stops}
 use Rattle.chain.proofs.BlockLaws.{first_passes}
-use borrow.Author.Rules.{rules}
 use Rattle.chain.proofs.first_of.Goals as goal
 
 pub returns-in-Faulty : goal.returns-in-Faulty

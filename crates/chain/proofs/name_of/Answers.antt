@@ -1,6 +1,5 @@
 -- Where the word starts, and its length. Assumes nothing.
 use Rattle.chain.proofs.ReadLaws.{name_is}
-use borrow.Author.Rules.{rules}
 use Rattle.chain.proofs.name_of.Goals as goal
 
 pub returns : goal.returns

@@ -1,6 +1,5 @@
 -- Both names. Assumes nothing.
 use Rattle.chain.proofs.TestLaws.{names_are}
-use borrow.Author.Rules.{rules}
 use Rattle.chain.proofs.names_fit.Goals as goal
 
 pub returns : goal.returns

@@ -1,6 +1,5 @@
 -- Lengths, then bytes. Assumes nothing.
 use Rattle.chain.proofs.TestLaws.{shown_are}
-use borrow.Author.Rules.{rules}
 use Rattle.chain.proofs.names_show.Goals as goal
 
 pub returns : goal.returns

@@ -1,7 +1,6 @@
 -- The table's columns are a block line's first n. Assumes nothing.
 use Rattle.chain.proofs.BlockLaws.{codes_length}
 use Rattle.chain.proofs.WriteLaws.{block_put}
-use borrow.Author.Rules.{rules}
 use Rattle.chain.proofs.put_block.Goals as goal
 
 pub slice_bounds-put_line-end : goal.slice_bounds-put_line-end

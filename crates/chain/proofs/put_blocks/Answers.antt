@@ -1,7 +1,5 @@
 -- The lines from row i on complete the text. Assumes nothing.
-use Rattle.chain.proofs.WriteLaws.{Lining, lines_start, lines_step, lines_done}
-use Prim.Native.Nat.{◌-◌}
-use borrow.Author.Rules.{rules}
+use Rattle.chain.proofs.WriteLaws.{lines_start, lines_step, lines_done}
 use Rattle.chain.proofs.put_blocks.Goals as goal
 
 pub loop-i-init : goal.loop-i-init

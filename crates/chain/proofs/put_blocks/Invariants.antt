@@ -1,7 +1,6 @@
 -- The lines from row i on complete the text. Assumes nothing.
-use Rattle.chain.proofs.WriteLaws.{Lining, lines_start, lines_step, lines_done}
+use Rattle.chain.proofs.WriteLaws.{Lining}
 use Prim.Native.Nat.{◌-◌}
-use borrow.Author.Rules.{rules}
 use Rattle.chain.proofs.put_blocks.Given as goal
 
 abbrev pub invariant-loop-i : goal.invariant-loop-i

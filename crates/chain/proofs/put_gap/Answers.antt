@@ -1,6 +1,5 @@
 -- The size and the two gaps. Assumes nothing.
 use Rattle.chain.proofs.WriteLaws.{gap_put}
-use borrow.Author.Rules.{rules}
 use Rattle.chain.proofs.put_gap.Goals as goal
 
 pub returns : goal.returns

@@ -1,6 +1,5 @@
 -- Three stores, one after the other. Assumes nothing.
 use Rattle.chain.proofs.ReadLaws.{row_put}
-use borrow.Author.Rules.{rules}
 use Rattle.chain.proofs.put_row.Goals as goal
 
 pub returns : goal.returns

@@ -1,6 +1,5 @@
 -- One line after the other. Assumes nothing.
 use Rattle.chain.proofs.WriteLaws.{text_put}
-use borrow.Author.Rules.{rules}
 use Rattle.chain.proofs.put_text.Goals as goal
 
 pub returns : goal.returns

@@ -1,6 +1,5 @@
 -- Three numbers and no word after them. Assumes nothing.
 use Rattle.chain.proofs.QuickLaws.{gap_taken}
-use borrow.Author.Rules.{rules}
 use Rattle.chain.proofs.quick_gap.Goals as goal
 
 pub returns : goal.returns

@@ -1,7 +1,6 @@
 -- Thirteen columns and no word after them. Assumes nothing.
 use mathlib.Core.Path.{refl}
 use Rattle.chain.proofs.QuickLaws.{head_taken}
-use borrow.Author.Rules.{rules}
 use Rattle.chain.proofs.quick_head.Goals as goal
 
 pub returns : goal.returns

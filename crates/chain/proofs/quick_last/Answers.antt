@@ -1,6 +1,5 @@
 -- One number and no word after it. Assumes nothing.
 use Rattle.chain.proofs.QuickLaws.{last_taken}
-use borrow.Author.Rules.{rules}
 use Rattle.chain.proofs.quick_last.Goals as goal
 
 pub returns : goal.returns

@@ -1,6 +1,5 @@
 -- The number of words decides, and the numbers go on. Assumes nothing.
 use Rattle.chain.proofs.BlockLaws.{line_counted, line_refused, line_read_lem}
-use borrow.Author.Rules.{rules}
 use Rattle.chain.proofs.read_block.Goals as goal
 
 pub read_numbers-requires : goal.read_numbers-requires

@@ -1,6 +1,5 @@
 -- The checks, then the rows. Assumes nothing.
 use Rattle.chain.proofs.StageLaws.{read_faulty, read_staged, read_stored}
-use borrow.Author.Rules.{rules}
 use Rattle.chain.proofs.read_blocks.Goals as goal
 
 pub store_rows-requires : goal.store_rows-requires

@@ -1,6 +1,5 @@
 -- The table's columns are a block line's first n. Assumes nothing.
 use Rattle.chain.proofs.BlockLaws.{numbers_few, numbers_length, numbers_refused, numbers_read_lem}
-use borrow.Author.Rules.{rules}
 use Rattle.chain.proofs.read_numbers.Goals as goal
 
 pub slice_bounds-table-end : goal.slice_bounds-table-end

@@ -1,6 +1,5 @@
 -- The text checker, or the stages. Assumes nothing.
 use Rattle.chain.proofs.StageLaws.{room_other, room_told}
-use borrow.Author.Rules.{rules}
 use Rattle.chain.proofs.read_rows.Goals as goal
 
 pub returns-then-rows-ne-ROOM : goal.returns-then-rows-ne-ROOM

@@ -1,6 +1,5 @@
 -- All tests. Assumes nothing.
 use Rattle.chain.specs.Tests.{chain_valid}
-use borrow.Author.Rules.{rules}
 use Rattle.chain.proofs.record_fits.Goals as goal
 
 pub returns : goal.returns

@@ -1,6 +1,5 @@
 -- Each field by its column. Assumes nothing.
 use Rattle.chain.proofs.ReadLaws.{record_is}
-use borrow.Author.Rules.{rules}
 use Rattle.chain.proofs.record_of.Goals as goal
 
 pub returns : goal.returns

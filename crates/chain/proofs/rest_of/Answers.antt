@@ -1,6 +1,5 @@
 -- The rest of the line ends with the text, or by a feed. Assumes nothing.
 use Rattle.chain.proofs.QuickLaws.{rest_end, rest_feed}
-use borrow.Author.Rules.{rules}
 use Rattle.chain.proofs.rest_of.Goals as goal
 
 pub returns-then-text-e : goal.returns-then-text-e

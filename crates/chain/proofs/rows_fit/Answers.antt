@@ -1,6 +1,5 @@
 -- Both sides. Assumes nothing.
 use Rattle.chain.proofs.TestLaws.{rows_are}
-use borrow.Author.Rules.{rules}
 use Rattle.chain.proofs.rows_fit.Goals as goal
 
 pub returns : goal.returns

@@ -1,6 +1,5 @@
 -- The text's check decides, and the next stage goes on. Assumes nothing.
 use Rattle.chain.proofs.StageLaws.{text_faulty, text_on}
-use borrow.Author.Rules.{rules}
 use Rattle.chain.proofs.stage.Goals as goal
 
 pub returns-in-Faulty : goal.returns-in-Faulty

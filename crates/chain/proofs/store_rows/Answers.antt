@@ -1,6 +1,5 @@
 -- The room decides; the rows stand one column after the other. Assumes nothing.
 use Rattle.chain.proofs.StageLaws.{store_short, store_all}
-use borrow.Author.Rules.{rules}
 use Rattle.chain.proofs.store_rows.Goals as goal
 
 pub returns-then-room-count : goal.returns-then-room-count

@@ -1,6 +1,5 @@
 -- The number at the word's first byte. Assumes nothing.
 use Rattle.chain.proofs.QuickLaws.{word_taken}
-use borrow.Author.Rules.{rules}
 use Rattle.chain.proofs.take_number.Goals as goal
 
 pub returns : goal.returns

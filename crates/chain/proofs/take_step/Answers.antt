@@ -1,6 +1,5 @@
 -- A plain line, or any other. Assumes nothing.
 use Rattle.chain.proofs.QuickLaws.{step_gap, step_last}
-use borrow.Author.Rules.{rules}
 use Rattle.chain.proofs.take_step.Goals as goal
 
 pub returns-then-x : goal.returns-then-x

@@ -1,6 +1,5 @@
 -- The letter's byte. Assumes nothing.
 use Rattle.chain.specs.Steps.{chain_values}
-use borrow.Author.Rules.{rules}
 use Rattle.chain.proofs.values_of.Goals as goal
 
 pub returns : goal.returns

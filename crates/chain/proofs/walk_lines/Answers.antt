@@ -1,6 +1,5 @@
 -- The walk from here is the walk from the start, and the rows so far are those of the lines before. What is left falls. Assumes nothing.
-use Rattle.chain.proofs.WalkLaws.{Walking, walk_start, walk_past, walk_refused, walk_last, walk_more, last_target_fits, last_query_fits, gap_target_fits, gap_query_fits, next_target_fits, next_query_fits, last_some, last_index, gap_some, gap_index, gap_less}
-use borrow.Author.Rules.{rules}
+use Rattle.chain.proofs.WalkLaws.{walk_start, walk_past, walk_refused, walk_last, walk_more, last_target_fits, last_query_fits, gap_target_fits, gap_query_fits, next_target_fits, next_query_fits, last_some, last_index, gap_some, gap_index, gap_less}
 use Rattle.chain.proofs.walk_lines.Goals as goal
 
 pub loop-line-init : goal.loop-line-init

@@ -1,6 +1,5 @@
 -- The checks, then the text. Assumes nothing.
 use Rattle.chain.proofs.WriteLaws.{write_refused, write_ready, write_wrote}
-use borrow.Author.Rules.{rules}
 use Rattle.chain.proofs.write_chain.Goals as goal
 
 pub write_text-requires : goal.write_text-requires

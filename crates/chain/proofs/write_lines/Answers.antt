@@ -1,6 +1,5 @@
 -- The text is measured, then written. Assumes nothing.
 use Rattle.writing.proofs.PutLaws.{write_measured_refused, write_measured_put}
-use borrow.Author.Rules.{rules}
 use Rattle.chain.proofs.write_lines.Goals as goal
 
 pub returns-in-Refused : goal.returns-in-Refused

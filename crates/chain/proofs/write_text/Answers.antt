@@ -1,6 +1,5 @@
 -- The names and the values, then the lines. Assumes nothing.
 use Rattle.chain.proofs.WriteLaws.{names_there, text_wrote}
-use borrow.Author.Rules.{rules}
 use Rattle.chain.proofs.write_text.Goals as goal
 
 pub returns : goal.returns

@@ -1,5 +1,4 @@
 -- The scan reaches the end. Assumes nothing.
-use borrow.Author.Rules.{rules}
 use Rattle.columns.proofs.all_graphic.Goals as goal
 
 pub returns : goal.returns

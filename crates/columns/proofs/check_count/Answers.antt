@@ -1,6 +1,5 @@
 -- The line's own number of words. Assumes nothing.
 use Rattle.columns.proofs.OneLineLaws.{count_checked}
-use borrow.Author.Rules.{rules}
 use Rattle.columns.proofs.check_count.Goals as goal
 
 pub returns : goal.returns

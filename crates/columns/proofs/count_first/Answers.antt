@@ -1,6 +1,5 @@
 -- The count's refusal, or what was found. Assumes nothing.
 use Rattle.columns.proofs.OneLineLaws.{first_refused, first_good}
-use borrow.Author.Rules.{rules}
 use Rattle.columns.proofs.count_first.Goals as goal
 
 pub returns-in-Faulty : goal.returns-in-Faulty

@@ -1,6 +1,5 @@
 -- The text's end, or a line feed. Assumes nothing.
 use Rattle.columns.proofs.QuickLaws.{line_over, line_feeds}
-use borrow.Author.Rules.{rules}
 use Rattle.columns.proofs.is_line_end.Goals as goal
 
 pub returns-then-text-at : goal.returns-then-text-at

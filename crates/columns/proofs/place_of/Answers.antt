@@ -1,6 +1,5 @@
 -- Past the end a number reads as 0. Assumes nothing.
 use Rattle.columns.proofs.LineLaws.{place_past, place_short, place_is}
-use borrow.Author.Rules.{rules}
 use Rattle.columns.proofs.place_of.Goals as goal
 
 pub returns-then-n-k : goal.returns-then-n-k

@@ -1,14 +1,13 @@
 -- Whatever stores the columns from here on completes the line. Assumes nothing.
-use borrow.Author.Rules.{rules}
-use Prim.Native.Nat.{◌+◌, ◌-◌, ◌*◌, ◌≤◌}
-use mathlib.Core.Path.{◌≡◌, refl}
+use Prim.Native.Nat.{◌-◌, ◌*◌, ◌≤◌}
+use mathlib.Core.Path.{◌≡◌}
 use mathlib.Core.List.{map}
 use lib.ListN.{length}
 use Rattle.ledger.specs.Limits.{block_limit, largest_place}
 use Rattle.kinds.specs.Kinds.{kind_of}
-use Rattle.writing.proofs.PutLaws.{Completes, completes_all}
+use Rattle.writing.proofs.PutLaws.{Completes}
 use Rattle.columns.specs.Lines.{line_text}
-use Rattle.columns.proofs.LineLaws.{rest, line_step, line_done}
+use Rattle.columns.proofs.LineLaws.{rest}
 use Rattle.columns.proofs.put_columns.Given as goal
 
 abbrev pub invariant-loop-k : goal.invariant-loop-k

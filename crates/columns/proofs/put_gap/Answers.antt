@@ -1,7 +1,6 @@
 -- Nothing before the first column, the separator before any other. Assumes nothing.
 use Rattle.columns.proofs.LineLaws.{gap_none, gap_some}
 use native.Mathlib.Omega.{arith}
-use borrow.Author.Rules.{rules}
 use Rattle.columns.proofs.put_gap.Goals as goal
 
 pub returns-then-k-eq0 : goal.returns-then-k-eq0

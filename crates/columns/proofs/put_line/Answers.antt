@@ -1,7 +1,6 @@
 -- The columns, then the line feed. Assumes nothing.
 use Rattle.columns.proofs.ReadLaws.{codes_length, codes_few}
 use Rattle.columns.proofs.LineLaws.{line_fed}
-use borrow.Author.Rules.{rules}
 use Rattle.columns.proofs.put_line.Goals as goal
 
 pub slice_bounds-put_columns-end : goal.slice_bounds-put_columns-end

@@ -1,6 +1,5 @@
 -- The second name is stored past the first. Assumes nothing.
 use Rattle.columns.proofs.NameLaws.{names_stored}
-use borrow.Author.Rules.{rules}
 use Rattle.columns.proofs.put_names.Goals as goal
 
 pub returns : goal.returns

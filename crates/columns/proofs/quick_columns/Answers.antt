@@ -1,10 +1,7 @@
 -- The columns passed so far, and what they stored. Assumes nothing.
 use borrow.Author.Rules.{rules}
-use Prim.Native.Nat.{◌-◌, ◌*◌, ◌≤◌}
-use mathlib.Core.Path.{◌≡◌, refl, sym, ◌∙◌}
-use lib.ListN.{length}
-use Rattle.columns.specs.Columns.{few_blocks}
-use Rattle.columns.proofs.QuickLaws.{Passed, passed_none, passed_more, passed_all, not_good}
+use mathlib.Core.Path.{refl, sym, ◌∙◌}
+use Rattle.columns.proofs.QuickLaws.{passed_none, passed_more, passed_all, not_good}
 use Rattle.columns.proofs.quick_columns.Goals as goal
 
 pub loop-k-init : goal.loop-k-init
@@ -18,12 +15,12 @@ returns-then-not-x c = not_good _ _ _ _ _ _ _ _ _ _
 
 pub loop-k-preserved : goal.loop-k-preserved
 loop-k-preserved c = let l = c.loop-k in (
-      search rules,
-      search rules,
-      search rules,
-      search rules,
-      passed_more _ _ _ _ _ _ _ _ _ _ _ l.invariant.4 c.loop-k-test.true _ c.scan-start.ensures _ c.kind_of-kind.ensures _ _ c.quick_field-x.ensures c.if-not-x.false _ c.store_pair.ensures _ c.count_after-count.ensures _ c.few_after-base.ensures.0,
-    )
+  search rules,
+  search rules,
+  search rules,
+  search rules,
+  passed_more _ _ _ _ _ _ _ _ _ _ _ l.invariant.4 c.loop-k-test.true _ c.scan-start.ensures _ c.kind_of-kind.ensures _ _ c.quick_field-x.ensures c.if-not-x.false _ c.store_pair.ensures _ c.count_after-count.ensures _ c.few_after-base.ensures.0,
+)
 
 pub returns : goal.returns
 returns c = let l = c.loop-k in passed_all _ _ _ _ _ _ _ _ _ _ _ l.invariant.4 l.invariant.0 _ c.scan-end.ensures _ c.is_line_end-2.ensures

@@ -1,10 +1,9 @@
 -- The columns passed so far, and what they stored. Assumes nothing.
-use borrow.Author.Rules.{rules}
 use Prim.Native.Nat.{◌-◌, ◌*◌, ◌≤◌}
-use mathlib.Core.Path.{◌≡◌, refl, sym, ◌∙◌}
+use mathlib.Core.Path.{◌≡◌}
 use lib.ListN.{length}
 use Rattle.columns.specs.Columns.{few_blocks}
-use Rattle.columns.proofs.QuickLaws.{Passed, passed_none, passed_more, passed_all, not_good}
+use Rattle.columns.proofs.QuickLaws.{Passed}
 use Rattle.columns.proofs.quick_columns.Given as goal
 
 abbrev pub invariant-loop-k : goal.invariant-loop-k

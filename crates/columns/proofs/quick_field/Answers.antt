@@ -1,6 +1,5 @@
 -- A number in one pass, any other word as it is read. Assumes nothing.
 use Rattle.columns.proofs.QuickLaws.{word_number, word_from}
-use borrow.Author.Rules.{rules}
 use Rattle.columns.proofs.quick_field.Goals as goal
 
 pub returns-in-Number : goal.returns-in-Number

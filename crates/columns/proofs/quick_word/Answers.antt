@@ -1,6 +1,5 @@
 -- The field as it is read. Assumes nothing.
 use Rattle.columns.proofs.QuickLaws.{word_good, word_bad}
-use borrow.Author.Rules.{rules}
 use Rattle.columns.proofs.quick_word.Goals as goal
 
 pub returns-in-Good : goal.returns-in-Good

@@ -1,7 +1,6 @@
 -- The quick way by the first codes of the table. Assumes nothing.
 use Rattle.columns.proofs.ReadLaws.{codes_length, codes_few}
 use Rattle.columns.proofs.QuickLaws.{quick_line}
-use borrow.Author.Rules.{rules}
 use Rattle.columns.proofs.quick_words.Goals as goal
 
 pub slice_bounds-quick_columns-end : goal.slice_bounds-quick_columns-end

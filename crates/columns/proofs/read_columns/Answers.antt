@@ -1,6 +1,5 @@
 -- The first walk stores nothing and gives the answer; where it is good, the second walk stores. Assumes nothing.
 use Rattle.columns.proofs.ReadLaws.{codes_length, codes_few, read_refused, read_walked}
-use borrow.Author.Rules.{rules}
 use Rattle.columns.proofs.read_columns.Goals as goal
 
 pub slice_bounds-walk_columns-end : goal.slice_bounds-walk_columns-end

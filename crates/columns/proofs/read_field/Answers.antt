@@ -1,7 +1,6 @@
 -- What the word spells, at its place in the text. Assumes nothing.
 use native.Mathlib.Omega.{arith}
 use Rattle.columns.proofs.ReadLaws.{field_good, field_bad, field_near}
-use borrow.Author.Rules.{rules}
 use Rattle.columns.proofs.read_field.Goals as goal
 
 pub overflow_add-result : goal.overflow_add-result

@@ -1,6 +1,5 @@
 -- The word is cut off where the text ends. Assumes nothing.
 use Rattle.columns.proofs.ReadLaws.{spell_cut}
-use borrow.Author.Rules.{rules}
 use Rattle.columns.proofs.spell_in.Goals as goal
 
 pub returns : goal.returns

@@ -1,6 +1,5 @@
 -- Two stores. Assumes nothing.
 use Rattle.columns.proofs.ReadLaws.{pair_stored}
-use borrow.Author.Rules.{rules}
 use Rattle.columns.proofs.store_pair.Goals as goal
 
 pub returns : goal.returns

@@ -1,6 +1,5 @@
 -- The field as it is read. Assumes nothing.
 use Rattle.columns.proofs.WalkLaws.{taken_good, taken_bad}
-use borrow.Author.Rules.{rules}
 use Rattle.columns.proofs.take_field.Goals as goal
 
 pub returns-in-Good : goal.returns-in-Good

@@ -1,6 +1,5 @@
 -- The number at the word's first byte. Assumes nothing.
 use Rattle.columns.proofs.WalkLaws.{taken_number}
-use borrow.Author.Rules.{rules}
 use Rattle.columns.proofs.take_number.Goals as goal
 
 pub returns : goal.returns

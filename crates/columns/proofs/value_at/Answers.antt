@@ -1,7 +1,5 @@
 -- Past the end a value reads as 0. Assumes nothing.
 use Rattle.columns.proofs.LineLaws.{value_none}
-use borrow.Author.Rules.{rules}
-use Rattle.columns.proofs.value_at.Reads as reads
 use Rattle.columns.proofs.value_at.Goals as goal
 
 pub returns-else-i-values : goal.returns-else-i-values

@@ -1,6 +1,5 @@
 -- Past the end a number reads as 0. Assumes nothing.
 use Rattle.columns.proofs.LineLaws.{value_past, value_short, value_is}
-use borrow.Author.Rules.{rules}
 use Rattle.columns.proofs.value_of.Goals as goal
 
 pub returns-then-n-k : goal.returns-then-n-k

@@ -1,13 +1,6 @@
 -- The columns from here on, and what they store, give what the whole table gives. Assumes nothing.
 use borrow.Author.Rules.{rules}
-use Prim.Native.Nat.{◌+◌, ◌-◌, ◌*◌, ◌≤◌}
-use mathlib.Core.Path.{◌≡◌, refl}
-use mathlib.Core.List.{map}
-use lib.ListN.{length, drop}
-use lib.Seq.{sets}
-use Rattle.ledger.specs.Limits.{block_limit}
-use Rattle.kinds.specs.Kinds.{kind_of}
-use Rattle.columns.specs.Columns.{columns_from, values_from, lists_from}
+use mathlib.Core.Path.{refl}
 use Rattle.columns.proofs.ReadLaws.{columns_done, columns_bad, columns_more, values_done, values_more, lists_done, lists_more}
 use Rattle.columns.proofs.walk_columns.Goals as goal
 
@@ -19,14 +12,14 @@ returns-in-Bad c = record { result = columns_bad _ _ _ _ _ _ c.loop-k-test.true 
 
 pub loop-k-preserved : goal.loop-k-preserved
 loop-k-preserved c = let l = c.loop-k in (
-      search rules,
-      search rules,
-      search rules,
-      search rules,
-      columns_more _ _ _ _ _ _ c.loop-k-test.true _ c.kind_of-kind.ensures _ c.read_field.ensures.result _ _ c.in-Good.is _ c.count_after-count.ensures l.invariant.4,
-      values_more _ _ _ _ _ _ c.loop-k-test.true _ c.kind_of-kind.ensures _ c.read_field.ensures.result _ _ c.in-Good.is _ c.count_after-count.ensures _ _ _ c.store_pair.ensures l.invariant.5,
-      lists_more _ _ _ _ _ _ c.loop-k-test.true _ c.kind_of-kind.ensures _ c.read_field.ensures.result _ _ c.in-Good.is _ c.count_after-count.ensures _ _ _ _ _ c.base_after-base.ensures.0 c.read_field.ensures.stored l.invariant.6,
-    )
+  search rules,
+  search rules,
+  search rules,
+  search rules,
+  columns_more _ _ _ _ _ _ c.loop-k-test.true _ c.kind_of-kind.ensures _ c.read_field.ensures.result _ _ c.in-Good.is _ c.count_after-count.ensures l.invariant.4,
+  values_more _ _ _ _ _ _ c.loop-k-test.true _ c.kind_of-kind.ensures _ c.read_field.ensures.result _ _ c.in-Good.is _ c.count_after-count.ensures _ _ _ c.store_pair.ensures l.invariant.5,
+  lists_more _ _ _ _ _ _ c.loop-k-test.true _ c.kind_of-kind.ensures _ c.read_field.ensures.result _ _ c.in-Good.is _ c.count_after-count.ensures _ _ _ _ _ c.base_after-base.ensures.0 c.read_field.ensures.stored l.invariant.6,
+)
 
 pub returns : goal.returns
 returns c = record { result = search columns_done; stored = λ m q. search values_done; held = λ m q. search lists_done }

@@ -1,14 +1,12 @@
 -- The columns from here on, and what they store, give what the whole table gives. Assumes nothing.
-use borrow.Author.Rules.{rules}
-use Prim.Native.Nat.{◌+◌, ◌-◌, ◌*◌, ◌≤◌}
-use mathlib.Core.Path.{◌≡◌, refl}
+use Prim.Native.Nat.{◌-◌, ◌*◌, ◌≤◌}
+use mathlib.Core.Path.{◌≡◌}
 use mathlib.Core.List.{map}
 use lib.ListN.{length, drop}
 use lib.Seq.{sets}
 use Rattle.ledger.specs.Limits.{block_limit}
 use Rattle.kinds.specs.Kinds.{kind_of}
 use Rattle.columns.specs.Columns.{columns_from, values_from, lists_from}
-use Rattle.columns.proofs.ReadLaws.{columns_done, columns_bad, columns_more, values_done, values_more, lists_done, lists_more}
 use Rattle.columns.proofs.walk_columns.Given as goal
 
 abbrev pub invariant-loop-k : goal.invariant-loop-k

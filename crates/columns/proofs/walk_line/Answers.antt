@@ -1,6 +1,5 @@
 -- One walk by the first codes of the table. Assumes nothing.
 use Rattle.columns.proofs.ReadLaws.{codes_length, codes_few, walked_line}
-use borrow.Author.Rules.{rules}
 use Rattle.columns.proofs.walk_line.Goals as goal
 
 pub slice_bounds-walk_columns-end : goal.slice_bounds-walk_columns-end

@@ -1,6 +1,5 @@
 -- Each answer is one of the definition. Assumes nothing.
 use Rattle.columns.proofs.OneLineLaws.{texts}
-use borrow.Author.Rules.{rules}
 use Rattle.columns.proofs.walk_text.Goals as goal
 
 pub returns-in-Faulty : goal.returns-in-Faulty

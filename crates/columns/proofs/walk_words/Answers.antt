@@ -1,6 +1,5 @@
 -- The walk first, then what the count says. Assumes nothing.
 use Rattle.columns.proofs.OneLineLaws.{words}
-use borrow.Author.Rules.{rules}
 use Rattle.columns.proofs.walk_words.Goals as goal
 
 pub returns-then-w : goal.returns-then-w

@@ -1,6 +1,5 @@
 -- A refusal leaves the buffer; else the line is put at its front. Assumes nothing.
 use Rattle.writing.proofs.PutLaws.{write_measured_refused, write_measured_put}
-use borrow.Author.Rules.{rules}
 use Rattle.columns.proofs.write_line.Goals as goal
 
 pub returns-in-Refused : goal.returns-in-Refused

@@ -1,5 +1,4 @@
 use Rattle.lift.proofs.ConversionLaws.{out_of_range, no_span, past_size, span_turned}
-use borrow.Author.Rules.{rules}
 use Rattle.lift.proofs.convert.Goals as goal
 
 pub returns-then-not-start-most : goal.returns-then-not-start-most

@@ -1,5 +1,4 @@
 use Rattle.lift.proofs.PositionLaws.{drift_fits, drift_is}
-use borrow.Author.Rules.{rules}
 use Rattle.lift.proofs.drift_of.Goals as goal
 
 pub overflow_sub-result : goal.overflow_sub-result

@@ -1,10 +1,6 @@
-use Prim.Native.Nat.{◌-◌, ◌≤◌, ◌<◌}
-use mathlib.Core.Path.{refl}
-use lib.ListN.{get_or}
-use native.Mathlib.Omega.{arith}
-use borrow.Author.Rules.{rules}
-use Rattle.lift.specs.Pairs.{forward_on, pairs}
-use Rattle.lift.proofs.FindLaws.{held, Seeking, seek_on, seek_found, seek_past, told_low}
+use Prim.Native.Nat.{◌-◌}
+use Rattle.lift.specs.Pairs.{forward_on}
+use Rattle.lift.proofs.FindLaws.{Seeking}
 use Rattle.lift.proofs.find_partner.Given as goal
 
 abbrev pub invariant-loop-i : goal.invariant-loop-i

@@ -1,5 +1,4 @@
 use Rattle.lift.proofs.AcceptLaws.{accepted_if, not_accepted_if}
-use borrow.Author.Rules.{rules}
 use Rattle.lift.proofs.is_accepted.Goals as goal
 
 pub returns-in-Holds : goal.returns-in-Holds

@@ -1,6 +1,5 @@
 -- Each way out is one of the definition. Assumes nothing.
 use Rattle.lift.proofs.PositionLaws.{past_target, by_partner, small_target, small_query, lift_at, lift_none}
-use borrow.Author.Rules.{rules}
 use Rattle.lift.proofs.position_ready.Goals as goal
 
 pub returns-then-c-p : goal.returns-then-c-p

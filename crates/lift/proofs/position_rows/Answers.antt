@@ -1,6 +1,5 @@
 -- The rows are those of the text. Assumes nothing.
 use Rattle.lift.proofs.TextLaws.{rows_count, rows_ready, rows_lifted}
-use borrow.Author.Rules.{rules}
 use Rattle.lift.proofs.position_rows.Goals as goal
 
 pub slice_bounds-position_ready-end : goal.slice_bounds-position_ready-end

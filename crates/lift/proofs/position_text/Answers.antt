@@ -1,6 +1,5 @@
 -- The text is refused, or its chain is accepted. Assumes nothing.
 use Rattle.lift.proofs.TextLaws.{text_held, text_refused, text_lifted_lem}
-use borrow.Author.Rules.{rules}
 use Rattle.lift.proofs.position_text.Goals as goal
 
 pub position_rows-requires : goal.position_rows-requires

@@ -1,6 +1,5 @@
 -- Either answer as it is told. Assumes nothing.
 use Rattle.number_line.proofs.ReadLaws.{counted_told, faulty_told}
-use borrow.Author.Rules.{rules}
 use Rattle.number_line.proofs.answered.Goals as goal
 
 pub returns-in-Counted : goal.returns-in-Counted

@@ -1,6 +1,5 @@
 -- The walk's refusal, a surplus line, or neither. Assumes nothing.
 use Rattle.number_line.proofs.ReadLaws.{line_bad, line_surplus, line_good}
-use borrow.Author.Rules.{rules}
 use Rattle.number_line.proofs.check_line.Goals as goal
 
 pub returns-in-Faulty : goal.returns-in-Faulty

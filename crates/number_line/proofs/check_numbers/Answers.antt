@@ -1,6 +1,5 @@
 -- As a caller is told. Assumes nothing.
 use Rattle.number_line.proofs.ReadLaws.{check_told}
-use borrow.Author.Rules.{rules}
 use Rattle.number_line.proofs.check_numbers.Goals as goal
 
 pub returns : goal.returns

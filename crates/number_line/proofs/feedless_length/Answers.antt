@@ -1,6 +1,5 @@
 -- No byte, a line feed at the end, or none. Assumes nothing.
 use Rattle.number_line.proofs.ReadLaws.{feedless_none, feedless_fed, feedless_open}
-use borrow.Author.Rules.{rules}
 use Rattle.number_line.proofs.feedless_length.Goals as goal
 
 pub returns-then-n-eq0 : goal.returns-then-n-eq0

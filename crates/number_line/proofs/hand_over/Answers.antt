@@ -1,6 +1,5 @@
 -- All of them, or too little room. Assumes nothing.
 use Rattle.number_line.proofs.ReadLaws.{handed_put, handed_full}
-use borrow.Author.Rules.{rules}
 use Rattle.number_line.proofs.hand_over.Goals as goal
 
 pub returns-then-numbers_fit : goal.returns-then-numbers_fit

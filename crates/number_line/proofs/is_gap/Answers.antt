@@ -1,6 +1,5 @@
 -- The line's end, or a blank. Assumes nothing.
 use Rattle.number_line.proofs.ReadLaws.{gap_past, gap_byte}
-use borrow.Author.Rules.{rules}
 use Rattle.number_line.proofs.is_gap.Goals as goal
 
 pub returns-then-line-i : goal.returns-then-line-i

@@ -1,5 +1,4 @@
 -- Eight bytes a number. Assumes nothing.
-use borrow.Author.Rules.{rules}
 use Rattle.number_line.proofs.ReadLaws.{fit_is}
 use Rattle.number_line.proofs.numbers_fit.Goals as goal
 

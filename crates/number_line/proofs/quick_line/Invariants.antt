@@ -1,15 +1,12 @@
 -- The words passed are plain, and their values stand in the room. Assumes nothing.
-use borrow.Author.Rules.{rules}
 use Prim.Native.Nat.{◌+◌, ◌-◌, ◌≤◌, min}
-use mathlib.Core.Path.{◌≡◌, refl}
+use mathlib.Core.Path.{◌≡◌}
 use mathlib.Core.List.{◌++◌}
 use lib.ListN.{length, take, drop}
 use Rattle.text.specs.declared.Class.TheVariants.{Line, Allowed}
 use Rattle.text.specs.Scan.{end_of}
 use Rattle.text.specs.Pieces.{words_of}
 use Rattle.number_line.specs.Walks.{good_in}
-use native.Mathlib.Omega.{arith}
-use Rattle.number_line.proofs.QuickLaws.{quick_unsure, class_first, allowed_on, line_on, end_high, few_on, count_on, values_on, plain_line}
 use Rattle.number_line.proofs.quick_line.Given as goal
 
 abbrev pub invariant-loop-at : goal.invariant-loop-at

@@ -1,6 +1,5 @@
 -- A text over the limit, or its line. Assumes nothing.
 use Rattle.number_line.proofs.ReadLaws.{feedless_count, quick_long, quick_whole}
-use borrow.Author.Rules.{rules}
 use Rattle.number_line.proofs.quick_text.Goals as goal
 
 pub returns-then-text-gt-TEXT_LIMIT : goal.returns-then-text-gt-TEXT_LIMIT

@@ -1,6 +1,5 @@
 -- The quick way where it is good, else the walk. Assumes nothing.
 use Rattle.number_line.proofs.ReadLaws.{quick_count, handed_read}
-use borrow.Author.Rules.{rules}
 use Rattle.number_line.proofs.read_by.Goals as goal
 
 pub slice_bounds-hand_over-end-then-q : goal.slice_bounds-hand_over-end-then-q

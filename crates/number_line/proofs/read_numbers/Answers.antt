@@ -1,6 +1,5 @@
 -- As a caller is told. Assumes nothing.
 use Rattle.number_line.proofs.ReadLaws.{numbers_told}
-use borrow.Author.Rules.{rules}
 use Rattle.number_line.proofs.read_numbers.Goals as goal
 
 pub returns : goal.returns

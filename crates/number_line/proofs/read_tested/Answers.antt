@@ -1,6 +1,5 @@
 -- Refused, all stored, or too little room. Assumes nothing.
 use Rattle.number_line.proofs.ReadLaws.{tested_bad, tested_read, tested_full}
-use borrow.Author.Rules.{rules}
 use Rattle.number_line.proofs.read_tested.Goals as goal
 
 pub returns-then-numbers_fit : goal.returns-then-numbers_fit

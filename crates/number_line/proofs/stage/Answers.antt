@@ -1,6 +1,5 @@
 -- The text's own checks, then those of its line. Assumes nothing.
 use Rattle.number_line.proofs.ReadLaws.{text_bad, text_good}
-use borrow.Author.Rules.{rules}
 use Rattle.number_line.proofs.stage.Goals as goal
 
 pub returns-in-Faulty : goal.returns-in-Faulty

@@ -1,14 +1,12 @@
 -- The words from the word in hand on are tested and stored as all words are. Assumes nothing.
-use borrow.Author.Rules.{rules}
 use Prim.Native.Nat.{◌+◌, ◌-◌, ◌≤◌}
-use mathlib.Core.Path.{◌≡◌, refl}
+use mathlib.Core.Path.{◌≡◌}
 use lib.ListN.{length}
 use Rattle.ledger.specs.Limits.{largest_place}
 use Rattle.text.specs.Words.{next_word, word_count}
-use Rattle.text.proofs.PieceLaws.{word_again, count_first, count_next}
 use Rattle.writing.proofs.PutLaws.{Completes}
 use Rattle.number_line.specs.Numbers.{words_from}
-use Rattle.number_line.proofs.WalkLaws.{rest_of, good_from, tested_from, completes_first, tested_good, stored_good, walked_bad, walked_all}
+use Rattle.number_line.proofs.WalkLaws.{rest_of, good_from}
 use Rattle.number_line.proofs.walk_numbers.Given as goal
 
 abbrev pub invariant-loop-w : goal.invariant-loop-w

@@ -1,6 +1,5 @@
 -- Each check decides. Assumes nothing.
 use Rattle.psl.proofs.ReadLaws.{ready_as, spans_stop, rows_stop, line_reads}
-use borrow.Author.Rules.{rules}
 use Rattle.psl.proofs.after_line.Goals as goal
 
 pub check_rows-requires : goal.check_rows-requires

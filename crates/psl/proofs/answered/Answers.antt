@@ -1,6 +1,5 @@
 -- Each reading by its case. Assumes nothing.
 use Rattle.psl.proofs.AnswerLaws.{answered_read, answered_fault}
-use borrow.Author.Rules.{rules}
 use Rattle.psl.proofs.answered.Goals as goal
 
 pub returns-in-Read : goal.returns-in-Read

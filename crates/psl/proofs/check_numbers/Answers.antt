@@ -1,6 +1,5 @@
 -- Counts in range are compared exactly; the tests in their order, the last one innermost. Assumes nothing.
 use Rattle.psl.proofs.CheckLaws.{numbers_bad, fields_good, numbers_range}
-use borrow.Author.Rules.{rules}
 use Rattle.psl.proofs.check_numbers.Goals as goal
 
 pub returns-then-not-fields_fit : goal.returns-then-not-fields_fit

@@ -1,6 +1,5 @@
 -- The test decides. Assumes nothing.
 use Rattle.psl.specs.Write.{record_check}
-use borrow.Author.Rules.{rules}
 use Rattle.psl.proofs.check_psl.Goals as goal
 
 pub returns : goal.returns

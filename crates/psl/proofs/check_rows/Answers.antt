@@ -1,6 +1,5 @@
 -- The two tests in the ledger's order, the last one innermost, on the lists in the working room. Assumes nothing.
 use Rattle.psl.proofs.ReadLaws.{rows_checked}
-use borrow.Author.Rules.{rules}
 use Rattle.psl.proofs.check_rows.Goals as goal
 
 pub returns : goal.returns

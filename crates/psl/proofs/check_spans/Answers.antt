@@ -1,6 +1,5 @@
 -- The two tests in the ledger's order, the last one innermost. Assumes nothing.
 use Rattle.psl.specs.Read.{span_check}
-use borrow.Author.Rules.{rules}
 use Rattle.psl.proofs.check_spans.Goals as goal
 
 pub returns : goal.returns

@@ -1,6 +1,5 @@
 -- The tests in their order. Assumes nothing.
 use Rattle.psl.specs.Write.{write_check}
-use borrow.Author.Rules.{rules}
 use Rattle.psl.proofs.check_write.Goals as goal
 
 pub returns : goal.returns

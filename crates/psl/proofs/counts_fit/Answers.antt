@@ -1,6 +1,5 @@
 -- Counts in range are compared exactly, though the sums are capped. Assumes nothing.
 use Rattle.psl.proofs.ReadLaws.{counts_are}
-use borrow.Author.Rules.{rules}
 use Rattle.psl.proofs.counts_fit.Goals as goal
 
 pub returns : goal.returns

@@ -1,6 +1,5 @@
 -- Each count by its column. Assumes nothing.
 use Rattle.psl.specs.Records.{counts_of}
-use borrow.Author.Rules.{rules}
 use Rattle.psl.proofs.counts_of.Goals as goal
 
 pub returns : goal.returns

@@ -1,6 +1,5 @@
 -- Each part by its own test. Assumes nothing.
 use Rattle.psl.specs.Tests.{fields_fit}
-use borrow.Author.Rules.{rules}
 use Rattle.psl.proofs.fields_fit.Goals as goal
 
 pub returns : goal.returns

@@ -1,6 +1,5 @@
 -- Each part by its own test. Assumes nothing.
 use Rattle.psl.specs.Steps.{head_fits}
-use borrow.Author.Rules.{rules}
 use Rattle.psl.proofs.head_fits.Goals as goal
 
 pub returns : goal.returns

@@ -1,7 +1,6 @@
 -- Each list is stored past the one before. Assumes nothing.
 use mathlib.Core.Path.{refl}
 use Rattle.psl.proofs.WriteLaws.{lists_put}
-use borrow.Author.Rules.{rules}
 use Rattle.psl.proofs.put_lists.Goals as goal
 
 pub returns : goal.returns

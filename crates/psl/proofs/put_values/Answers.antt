@@ -1,10 +1,6 @@
 -- Storing the rest from here on completes storing all of them. Assumes nothing.
 use borrow.Author.Rules.{rules}
-use Prim.Native.Nat.{◌-◌, ◌*◌, ◌≤◌}
-use mathlib.Core.Path.{◌≡◌, refl}
-use lib.ListN.{length, drop}
-use Rattle.columns.specs.Columns.{column_limit}
-use Rattle.psl.specs.Steps.{values_put}
+use mathlib.Core.Path.{refl}
 use Rattle.psl.proofs.WriteLaws.{value_more, values_done}
 use Rattle.psl.proofs.put_values.Goals as goal
 

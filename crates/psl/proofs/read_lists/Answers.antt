@@ -1,6 +1,5 @@
 -- The text checker, or the stages. Assumes nothing.
 use Rattle.psl.proofs.ReadLaws.{room_other, room_read}
-use borrow.Author.Rules.{rules}
 use Rattle.psl.proofs.read_lists.Goals as goal
 
 pub returns-then-lists-ne-ROOM : goal.returns-then-lists-ne-ROOM

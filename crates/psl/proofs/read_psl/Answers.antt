@@ -1,6 +1,5 @@
 -- What was read, as it is told. Assumes nothing.
 use Rattle.psl.proofs.StoreLaws.{read_told}
-use borrow.Author.Rules.{rules}
 use Rattle.psl.proofs.read_psl.Goals as goal
 
 pub returns : goal.returns

@@ -1,6 +1,5 @@
 -- The checks, then the rows. Assumes nothing.
 use Rattle.psl.proofs.StoreLaws.{read_stops, read_held, read_stored}
-use borrow.Author.Rules.{rules}
 use Rattle.psl.proofs.read_rows.Goals as goal
 
 pub store_rows-requires : goal.store_rows-requires

@@ -1,6 +1,5 @@
 -- What is tested first keeps the counts in range for the rest. Assumes nothing.
 use Rattle.psl.proofs.CheckLaws.{head_bad, head_range, record_is}
-use borrow.Author.Rules.{rules}
 use Rattle.psl.proofs.record_fits.Goals as goal
 
 pub returns-then-not-head_fits : goal.returns-then-not-head_fits

@@ -1,6 +1,5 @@
 -- Each part by its columns. Assumes nothing.
 use Rattle.psl.specs.Records.{psl_record}
-use borrow.Author.Rules.{rules}
 use Rattle.psl.proofs.record_of.Goals as goal
 
 pub returns : goal.returns

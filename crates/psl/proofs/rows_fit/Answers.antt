@@ -1,6 +1,5 @@
 -- Each side by one test. Assumes nothing.
 use Rattle.psl.specs.Rows.{rows_fit}
-use borrow.Author.Rules.{rules}
 use Rattle.psl.proofs.rows_fit.Goals as goal
 
 pub returns : goal.returns

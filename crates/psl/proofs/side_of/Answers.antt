@@ -1,6 +1,5 @@
 -- Each field by its column. Assumes nothing.
 use Rattle.psl.specs.Records.{side_of}
-use borrow.Author.Rules.{rules}
 use Rattle.psl.proofs.side_of.Goals as goal
 
 pub returns : goal.returns

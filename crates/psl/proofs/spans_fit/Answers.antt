@@ -1,6 +1,5 @@
 -- Each side by one test. Assumes nothing.
 use Rattle.psl.specs.Tests.{spans_fit}
-use borrow.Author.Rules.{rules}
 use Rattle.psl.proofs.spans_fit.Goals as goal
 
 pub returns : goal.returns

@@ -1,6 +1,5 @@
 -- The line read gives the record and its lists, and the next stage goes on. Assumes nothing.
 use Rattle.psl.proofs.ColumnLaws.{stage_ready, stage_stops, stage_on}
-use borrow.Author.Rules.{rules}
 use Rattle.psl.proofs.stage.Goals as goal
 
 pub after_line-requires : goal.after_line-requires

@@ -1,6 +1,5 @@
 -- The values by column, then the place of the second name. Assumes nothing.
 use Rattle.psl.specs.Steps.{psl_values}
-use borrow.Author.Rules.{rules}
 use Rattle.psl.proofs.values_of.Goals as goal
 
 pub returns : goal.returns

@@ -1,6 +1,5 @@
 -- Each test by its own function. Assumes nothing.
 use Rattle.psl.specs.Write.{words_show}
-use borrow.Author.Rules.{rules}
 use Rattle.psl.proofs.words_show.Goals as goal
 
 pub returns : goal.returns

@@ -1,6 +1,5 @@
 -- The checks decide; a record that passes them is written. Assumes nothing.
 use Rattle.psl.proofs.WriteLaws.{write_refused, write_ready, write_wrote}
-use borrow.Author.Rules.{rules}
 use Rattle.psl.proofs.write_psl.Goals as goal
 
 pub write_text-requires : goal.write_text-requires

@@ -1,6 +1,5 @@
 -- The values, names and lists make the standard text, and the line writer writes it. Assumes nothing.
 use Rattle.psl.proofs.WriteLaws.{names_there, rows_there, text_wrote}
-use borrow.Author.Rules.{rules}
 use Rattle.psl.proofs.write_text.Goals as goal
 
 pub put_lists-requires : goal.put_lists-requires

@@ -1,7 +1,6 @@
 -- The tests from the left. Assumes nothing.
 use Rattle.region.proofs.TallyLaws.{asked_below, admit_outside, admit_bad, admit_full, admit_good}
 use Rattle.region.proofs.SearchLaws.{inside_order}
-use borrow.Author.Rules.{rules}
 use Rattle.region.proofs.admit.Goals as goal
 
 pub returns-then-outside : goal.returns-then-outside

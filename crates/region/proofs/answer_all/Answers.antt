@@ -1,15 +1,10 @@
 -- Rows up to i are written, and the tally is that after them. Assumes nothing.
-use mathlib.Core.Path.{◌≡◌, ◌∙◌}
-use mathlib.Core.List.{◌++◌, map}
-use Prim.Native.Nat.{◌-◌, ◌≤◌, ◌<◌}
+use mathlib.Core.Path.{◌∙◌}
+use Prim.Native.Nat.{◌≤◌, ◌<◌}
 use native.Mathlib.Omega.{arith}
-use lib.ListN.{length, take, drop, length-set}
-use borrow.Author.Rules.{scaled_Fits}
+use lib.ListN.{length, length-set}
 use Rattle.blocks.specs.Rows.{table_of}
-use Rattle.region.specs.Tallies.{sent_through}
-use Rattle.region.specs.Batches.{answer_rows, sent_as}
 use Rattle.region.proofs.BatchLaws.{tally_next, rows_next, all_answered}
-use borrow.Author.Rules.{rules}
 use Rattle.region.proofs.answer_all.Goals as goal
 
 pub loop-i-preserved : goal.loop-i-preserved

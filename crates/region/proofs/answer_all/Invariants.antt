@@ -1,15 +1,11 @@
 -- Rows up to i are written, and the tally is that after them. Assumes nothing.
-use mathlib.Core.Path.{◌≡◌, ◌∙◌}
+use mathlib.Core.Path.{◌≡◌}
 use mathlib.Core.List.{◌++◌, map}
-use Prim.Native.Nat.{◌-◌, ◌≤◌, ◌<◌}
-use native.Mathlib.Omega.{arith}
-use lib.ListN.{length, take, drop, length-set}
-use borrow.Author.Rules.{scaled_Fits}
+use Prim.Native.Nat.{◌-◌, ◌≤◌}
+use lib.ListN.{length, take, drop}
 use Rattle.blocks.specs.Rows.{table_of}
 use Rattle.region.specs.Tallies.{sent_through}
 use Rattle.region.specs.Batches.{answer_rows, sent_as}
-use Rattle.region.proofs.BatchLaws.{tally_next, rows_next, all_answered}
-use borrow.Author.Rules.{rules}
 use Rattle.region.proofs.answer_all.Given as goal
 
 abbrev pub invariant-loop-i : goal.invariant-loop-i

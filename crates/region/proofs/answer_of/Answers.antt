@@ -1,5 +1,4 @@
 use Rattle.region.proofs.ReachLaws.{answer_none, answer_some}
-use borrow.Author.Rules.{rules}
 use Rattle.region.proofs.answer_of.Goals as goal
 
 pub returns-then-r-eq0 : goal.returns-then-r-eq0

@@ -1,5 +1,4 @@
 use Rattle.region.proofs.BatchLaws.{row_lifted, row_refused}
-use borrow.Author.Rules.{rules}
 use Rattle.region.proofs.answer_row.Goals as goal
 
 pub returns-in-Lifted : goal.returns-in-Lifted

@@ -1,7 +1,6 @@
 -- Each way out is one of the definition. Assumes nothing.
 use Rattle.lift.proofs.TextLaws.{text_held}
 use Rattle.region.proofs.ByteLaws.{room_there, text_no_room, text_refused, text_answered}
-use borrow.Author.Rules.{rules}
 use Rattle.region.proofs.batch_text.Goals as goal
 
 pub returns-then-not-rows_fit : goal.returns-then-not-rows_fit

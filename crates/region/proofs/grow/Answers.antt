@@ -1,6 +1,5 @@
 -- Assumes nothing.
 use Rattle.region.proofs.TallyLaws.{grow_is}
-use borrow.Author.Rules.{rules}
 use Rattle.region.proofs.grow.Goals as goal
 
 pub returns : goal.returns

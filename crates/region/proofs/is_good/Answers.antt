@@ -1,5 +1,4 @@
 use Rattle.region.proofs.TallyLaws.{kept_over, dropped_over, asked_tested}
-use borrow.Author.Rules.{rules}
 use Rattle.region.proofs.is_good.Goals as goal
 
 pub returns-then-most-t : goal.returns-then-most-t

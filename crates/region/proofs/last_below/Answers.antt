@@ -1,7 +1,6 @@
 -- The place lies from low on, before low + width. Assumes nothing.
 use native.Mathlib.Omega.{arith}
-use Rattle.region.proofs.SearchLaws.{Halving, halving_all, halving_step, halving_mid, halving_low, halving_small, halving_done}
-use borrow.Author.Rules.{rules}
+use Rattle.region.proofs.SearchLaws.{halving_all, halving_step, halving_mid, halving_low, halving_small, halving_done}
 use Rattle.region.proofs.last_below.Goals as goal
 
 pub loop-width-init : goal.loop-width-init

@@ -1,7 +1,5 @@
 -- The place lies from low on, before low + width. Assumes nothing.
-use native.Mathlib.Omega.{arith}
-use Rattle.region.proofs.SearchLaws.{Halving, halving_all, halving_step, halving_mid, halving_low, halving_small, halving_done}
-use borrow.Author.Rules.{rules}
+use Rattle.region.proofs.SearchLaws.{Halving}
 use Rattle.region.proofs.last_below.Given as goal
 
 abbrev pub invariant-loop-width : goal.invariant-loop-width

@@ -1,9 +1,6 @@
 -- The column is laid as far as i. Assumes nothing.
 use Prim.Native.Nat.{◌-◌, ◌≤◌}
-use native.Mathlib.Omega.{arith}
 use Rattle.region.specs.Searches.{Laid}
-use Rattle.region.proofs.SearchLaws.{lay_none, lay_more, lay_done}
-use borrow.Author.Rules.{rules}
 use Rattle.region.proofs.lay_starts.Given as goal
 
 abbrev pub invariant-loop-i : goal.invariant-loop-i

@@ -1,7 +1,6 @@
 -- Each way out is one of the definition. Assumes nothing.
 use Rattle.region.proofs.RegionLaws.{region_outside, region_carried}
 use Rattle.region.proofs.SearchLaws.{inside_order}
-use borrow.Author.Rules.{rules}
 use Rattle.region.proofs.lift_ready.Goals as goal
 
 pub returns-then-outside : goal.returns-then-outside

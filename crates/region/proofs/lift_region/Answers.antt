@@ -1,7 +1,6 @@
 -- The test fails, or the rows are ready. Assumes nothing.
 use Rattle.lift.proofs.AcceptLaws.{ready_if}
 use Rattle.region.proofs.RegionLaws.{region_not_accepted}
-use borrow.Author.Rules.{rules}
 use Rattle.region.proofs.lift_region.Goals as goal
 
 pub returns-then-not-is_accepted : goal.returns-then-not-is_accepted

@@ -1,7 +1,6 @@
 -- The rows are those of the text. Assumes nothing.
 use Rattle.lift.proofs.TextLaws.{rows_count, rows_ready}
 use Rattle.region.proofs.TextLaws.{rows_lifted}
-use borrow.Author.Rules.{rules}
 use Rattle.region.proofs.lift_rows.Goals as goal
 
 pub slice_bounds-lift_ready-end : goal.slice_bounds-lift_ready-end

@@ -1,7 +1,6 @@
 -- The text is refused, or its chain is accepted. Assumes nothing.
 use Rattle.lift.proofs.TextLaws.{text_held}
 use Rattle.region.proofs.TextLaws.{text_refused, text_lifted_lem}
-use borrow.Author.Rules.{rules}
 use Rattle.region.proofs.lift_text.Goals as goal
 
 pub lift_rows-requires : goal.lift_rows-requires

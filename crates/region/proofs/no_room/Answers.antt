@@ -1,6 +1,5 @@
 -- 11, and the tally as it was. Assumes nothing.
 use Rattle.region.proofs.ReachLaws.{room_none}
-use borrow.Author.Rules.{rules}
 use Rattle.region.proofs.no_room.Goals as goal
 
 pub returns : goal.returns

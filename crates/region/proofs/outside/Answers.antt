@@ -1,6 +1,5 @@
 -- Assumes nothing.
 use Rattle.region.proofs.SearchLaws.{outside_is}
-use borrow.Author.Rules.{rules}
 use Rattle.region.proofs.outside.Goals as goal
 
 pub returns : goal.returns

@@ -1,6 +1,5 @@
 -- A part of the bytes. Assumes nothing.
 use Rattle.region.proofs.ByteLaws.{part_row}
-use borrow.Author.Rules.{rules}
 use Rattle.region.proofs.put_row.Goals as goal
 
 pub returns : goal.returns

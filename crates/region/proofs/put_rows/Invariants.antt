@@ -1,17 +1,13 @@
 -- Whatever stores the rows of the regions from here on completes the whole. Assumes nothing.
-use mathlib.Core.Path.{◌≡◌, refl, ap}
-use mathlib.Core.List.{List, map}
-use Prim.Native.Nat.{ℕ, ◌+◌, ◌-◌, ◌*◌, ◌/◌, ◌≤◌}
-use native.Mathlib.Omega.{arith}
-use lib.ListN.{length, get_or}
+use mathlib.Core.Path.{◌≡◌}
+use mathlib.Core.List.{map}
+use Prim.Native.Nat.{◌-◌, ◌*◌, ◌≤◌}
+use lib.ListN.{length}
 use Rattle.ledger.specs.Limits.{largest_place}
 use Rattle.blocks.specs.Rows.{table_of}
 use Rattle.writing.proofs.PutLaws.{Completes}
-use Rattle.binary.specs.Bytes.{words_bytes}
 use Rattle.region.specs.Tallies.{sent_through}
 use Rattle.region.specs.Batches.{answer_rows, sent_as, region_size, row_size, regions_from, rows_bytes}
-use Rattle.region.proofs.ByteLaws.{sent_first, put_first, region_there, row_there, row_put, row_kept, sent_next, put_next, all_put}
-use borrow.Author.Rules.{rules}
 use Rattle.region.proofs.put_rows.Given as goal
 
 abbrev pub invariant-loop-i : goal.invariant-loop-i

@@ -1,7 +1,6 @@
 -- The rows are those of the text. Assumes nothing.
 use Rattle.lift.proofs.TextLaws.{rows_count, rows_ready}
 use Rattle.region.proofs.ByteLaws.{rows_put}
-use borrow.Author.Rules.{rules}
 use Rattle.region.proofs.put_text.Goals as goal
 
 pub slice_bounds-put_ready-end : goal.slice_bounds-put_ready-end

@@ -1,7 +1,6 @@
 -- The blocks that halving finds in the column of starts. Assumes nothing.
 use native.Mathlib.Omega.{arith}
 use Rattle.region.proofs.SearchLaws.{meets_if, found_none, column_order, column_inner, outside_found, inside_some, inside_last, start_fits, start_small, end_small, quick_start, quick_end, indexed_rise, reached_found, few}
-use borrow.Author.Rules.{rules}
 use Rattle.region.proofs.quick_reach.Goals as goal
 
 pub returns-then-outside : goal.returns-then-outside

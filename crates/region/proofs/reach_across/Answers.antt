@@ -1,6 +1,5 @@
 -- From the first kept base to the last. Assumes nothing.
 use Rattle.region.proofs.SearchLaws.{first_fits, last_fits, inner_fits, from_below, reached_across}
-use borrow.Author.Rules.{rules}
 use Rattle.region.proofs.reach_across.Goals as goal
 
 pub overflow_add-first : goal.overflow_add-first

@@ -1,9 +1,4 @@
 -- Rows up to i are written. Assumes nothing.
-use mathlib.Core.Path.{◌≡◌}
-use mathlib.Core.List.{◌++◌}
-use Prim.Native.Nat.{◌-◌, ◌≤◌}
-use lib.ListN.{length, take, drop, length-set}
-use Rattle.region.specs.Steps.{refused_rows}
 use Rattle.region.proofs.BatchLaws.{refused_first, refused_row, refused_next, refused_done}
 use borrow.Author.Rules.{rules}
 use Rattle.region.proofs.refuse_all.Goals as goal

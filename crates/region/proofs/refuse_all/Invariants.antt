@@ -2,10 +2,8 @@
 use mathlib.Core.Path.{◌≡◌}
 use mathlib.Core.List.{◌++◌}
 use Prim.Native.Nat.{◌-◌, ◌≤◌}
-use lib.ListN.{length, take, drop, length-set}
+use lib.ListN.{length, take, drop}
 use Rattle.region.specs.Steps.{refused_rows}
-use Rattle.region.proofs.BatchLaws.{refused_first, refused_row, refused_next, refused_done}
-use borrow.Author.Rules.{rules}
 use Rattle.region.proofs.refuse_all.Given as goal
 
 abbrev pub invariant-loop-i : goal.invariant-loop-i

@@ -1,7 +1,5 @@
 -- The blocks that halving finds in the starts. Assumes nothing.
-use native.Mathlib.Omega.{arith}
 use Rattle.region.proofs.SearchLaws.{starts_rise, meets_if, found_none, summable_to, outside_found, inside_some, inside_last, start_fits, start_small, end_small, found_few, found_end, reached_found}
-use borrow.Author.Rules.{rules}
 use Rattle.region.proofs.region_reach.Goals as goal
 
 pub returns-then-outside : goal.returns-then-outside

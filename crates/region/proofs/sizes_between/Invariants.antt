@@ -1,8 +1,6 @@
 -- The sizes up to block k are summed. Assumes nothing.
 use Prim.Native.Nat.{◌-◌, ◌≤◌}
 use Rattle.region.specs.Searches.{SizesFrom}
-use Rattle.region.proofs.SearchLaws.{from_none, from_more, from_fits, from_done}
-use borrow.Author.Rules.{rules}
 use Rattle.region.proofs.sizes_between.Given as goal
 
 abbrev pub invariant-loop-k : goal.invariant-loop-k

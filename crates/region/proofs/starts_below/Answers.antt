@@ -1,6 +1,5 @@
 -- Assumes nothing.
 use Rattle.region.proofs.SearchLaws.{below_is}
-use borrow.Author.Rules.{rules}
 use Rattle.region.proofs.starts_below.Goals as goal
 
 pub returns : goal.returns

@@ -1,6 +1,5 @@
 -- Refused, or grown by its reach. Assumes nothing.
 use Rattle.region.proofs.TallyLaws.{step_order, step_growable, step_stays, step_grows}
-use borrow.Author.Rules.{rules}
 use Rattle.region.proofs.step_ready.Goals as goal
 
 pub overflow_sub-end : goal.overflow_sub-end

@@ -1,10 +1,7 @@
 -- The sums before the blocks up to i are there. Assumes nothing.
-use mathlib.Core.Path.{◌≡◌, sym, ◌∙◌}
-use Prim.Native.Nat.{ℕ, ◌-◌, ◌≤◌, ◌<◌}
+use mathlib.Core.Path.{sym, ◌∙◌}
 use native.Mathlib.Omega.{arith}
-use lib.ListN.{length, get_or, length-set}
-use Rattle.ledger.specs.Limits.{block_limit}
-use Rattle.region.specs.Searches.{sizes_before}
+use lib.ListN.{length-set}
 use Rattle.region.proofs.SearchLaws.{sizes_none, sum_fits, sum_next, sum_more}
 use borrow.Author.Rules.{rules}
 use Rattle.region.proofs.sum_sizes.Goals as goal

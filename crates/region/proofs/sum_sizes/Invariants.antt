@@ -1,12 +1,9 @@
 -- The sums before the blocks up to i are there. Assumes nothing.
-use mathlib.Core.Path.{◌≡◌, sym, ◌∙◌}
+use mathlib.Core.Path.{◌≡◌}
 use Prim.Native.Nat.{ℕ, ◌-◌, ◌≤◌, ◌<◌}
-use native.Mathlib.Omega.{arith}
-use lib.ListN.{length, get_or, length-set}
+use lib.ListN.{length, get_or}
 use Rattle.ledger.specs.Limits.{block_limit}
 use Rattle.region.specs.Searches.{sizes_before}
-use Rattle.region.proofs.SearchLaws.{sizes_none, sum_fits, sum_next, sum_more}
-use borrow.Author.Rules.{rules}
 use Rattle.region.proofs.sum_sizes.Given as goal
 
 abbrev pub invariant-loop-i : goal.invariant-loop-i

@@ -1,7 +1,6 @@
 -- The test, then the step. Assumes nothing.
 use Rattle.lift.proofs.AcceptLaws.{ready_if}
 use Rattle.region.proofs.TallyLaws.{step_not_accepted, step_ready_lem}
-use borrow.Author.Rules.{rules}
 use Rattle.region.proofs.tally_step.Goals as goal
 
 pub returns-then-not-is_accepted : goal.returns-then-not-is_accepted

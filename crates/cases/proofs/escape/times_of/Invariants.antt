@@ -1,5 +1,4 @@
 -- The index stays inside the digits. Assumes nothing.
-use borrow.Author.Rules.{rules}
 use Prim.Native.Nat.{◌-◌, ◌≤◌}
 use lib.ListN.{length}
 use Rattle.cases.proofs.escape.times_of.Given as goal

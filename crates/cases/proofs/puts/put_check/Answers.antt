@@ -1,6 +1,5 @@
 -- The two answers of a checker. Assumes nothing.
 use Rattle.cases.proofs.CaseLaws.{check_holds, check_refused}
-use borrow.Author.Rules.{rules}
 use Rattle.cases.proofs.puts.put_check.Goals as goal
 
 pub returns-in-Holds : goal.returns-in-Holds

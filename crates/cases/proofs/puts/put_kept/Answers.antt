@@ -1,6 +1,5 @@
 -- Nothing is told of room that was kept. Assumes nothing.
 use Rattle.cases.proofs.CaseLaws.{kept_true, kept_false}
-use borrow.Author.Rules.{rules}
 use Rattle.cases.proofs.puts.put_kept.Goals as goal
 
 pub shape_of-out-then-kept : goal.shape_of-out-then-kept

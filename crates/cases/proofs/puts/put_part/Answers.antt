@@ -1,6 +1,5 @@
 -- The place, then the length. Assumes nothing.
 use Rattle.writing.proofs.PutLaws.{put_then}
-use borrow.Author.Rules.{rules}
 use Rattle.cases.proofs.puts.put_part.Goals as goal
 
 pub returns : goal.returns

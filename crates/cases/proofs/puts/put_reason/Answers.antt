@@ -1,6 +1,5 @@
 -- The label and the number. Assumes nothing.
 use Rattle.cases.proofs.CaseLaws.{reason_put}
-use borrow.Author.Rules.{rules}
 use Rattle.cases.proofs.puts.put_reason.Goals as goal
 
 pub returns : goal.returns

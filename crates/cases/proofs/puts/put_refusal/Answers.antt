@@ -1,6 +1,5 @@
 -- The reason, then the place. Assumes nothing.
 use Rattle.writing.proofs.PutLaws.{put_then}
-use borrow.Author.Rules.{rules}
 use Rattle.cases.proofs.puts.put_refusal.Goals as goal
 
 pub returns : goal.returns

@@ -1,6 +1,5 @@
 -- The three numbers. Assumes nothing.
 use Rattle.writing.proofs.PutLaws.{put_then}
-use borrow.Author.Rules.{rules}
 use Rattle.cases.proofs.puts.put_row.Goals as goal
 
 pub returns : goal.returns

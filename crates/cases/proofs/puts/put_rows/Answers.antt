@@ -1,10 +1,5 @@
 -- Whatever puts the rows from here on completes the whole. Assumes nothing.
-use Prim.Native.Nat.{◌-◌, ◌≤◌}
-use mathlib.Core.Path.{◌≡◌, refl}
-use lib.ListN.{length}
-use Rattle.ledger.specs.Limits.{largest_place}
-use Rattle.writing.proofs.PutLaws.{Completes}
-use Rattle.cases.specs.Texts.{rows_text}
+use mathlib.Core.Path.{refl}
 use Rattle.cases.proofs.CaseLaws.{rows_start, rows_step, rows_done}
 use borrow.Author.Rules.{rules}
 use Rattle.cases.proofs.puts.put_rows.Goals as goal

@@ -1,12 +1,10 @@
 -- Whatever puts the rows from here on completes the whole. Assumes nothing.
 use Prim.Native.Nat.{◌-◌, ◌≤◌}
-use mathlib.Core.Path.{◌≡◌, refl}
+use mathlib.Core.Path.{◌≡◌}
 use lib.ListN.{length}
 use Rattle.ledger.specs.Limits.{largest_place}
 use Rattle.writing.proofs.PutLaws.{Completes}
 use Rattle.cases.specs.Texts.{rows_text}
-use Rattle.cases.proofs.CaseLaws.{rows_start, rows_step, rows_done}
-use borrow.Author.Rules.{rules}
 use Rattle.cases.proofs.puts.put_rows.Given as goal
 
 abbrev pub invariant-loop-i : goal.invariant-loop-i

@@ -1,6 +1,5 @@
 -- A tab, a line feed, any other byte. Assumes nothing.
 use Rattle.cases.proofs.CaseLaws.{shown_tab, shown_feed, shown_self}
-use borrow.Author.Rules.{rules}
 use Rattle.cases.proofs.puts.put_shown_byte.Goals as goal
 
 pub returns-then-b-eq9 : goal.returns-then-b-eq9

@@ -1,10 +1,6 @@
 -- Whatever puts the numbers from here on completes the whole. Assumes nothing.
-use Prim.Native.Nat.{◌-◌, ◌≤◌}
-use mathlib.Core.Path.{◌≡◌, refl}
-use lib.ListN.{length, drop}
-use Rattle.ledger.specs.Limits.{largest_place}
-use Rattle.writing.proofs.PutLaws.{Completes, completes_all}
-use Rattle.cases.specs.Texts.{spaced_text}
+use mathlib.Core.Path.{refl}
+use Rattle.writing.proofs.PutLaws.{completes_all}
 use Rattle.cases.proofs.CaseLaws.{spaced_step, spaced_done}
 use borrow.Author.Rules.{rules}
 use Rattle.cases.proofs.puts.put_spaced.Goals as goal

@@ -1,12 +1,10 @@
 -- Whatever puts the numbers from here on completes the whole. Assumes nothing.
 use Prim.Native.Nat.{◌-◌, ◌≤◌}
-use mathlib.Core.Path.{◌≡◌, refl}
+use mathlib.Core.Path.{◌≡◌}
 use lib.ListN.{length, drop}
 use Rattle.ledger.specs.Limits.{largest_place}
-use Rattle.writing.proofs.PutLaws.{Completes, completes_all}
+use Rattle.writing.proofs.PutLaws.{Completes}
 use Rattle.cases.specs.Texts.{spaced_text}
-use Rattle.cases.proofs.CaseLaws.{spaced_step, spaced_done}
-use borrow.Author.Rules.{rules}
 use Rattle.cases.proofs.puts.put_spaced.Given as goal
 
 abbrev pub invariant-loop-i : goal.invariant-loop-i

@@ -1,6 +1,5 @@
 -- The space, then the letter. Assumes nothing.
 use Rattle.cases.proofs.CaseLaws.{strand_put}
-use borrow.Author.Rules.{rules}
 use Rattle.cases.proofs.puts.put_strand.Goals as goal
 
 pub returns : goal.returns

@@ -1,6 +1,5 @@
 -- The two answers of a writer. Assumes nothing.
 use Rattle.cases.proofs.CaseLaws.{written_length, text_refused, text_written}
-use borrow.Author.Rules.{rules}
 use Rattle.cases.proofs.puts.put_text.Goals as goal
 
 pub slice_bounds-put_shown-end : goal.slice_bounds-put_shown-end

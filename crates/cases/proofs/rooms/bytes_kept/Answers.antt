@@ -1,8 +1,5 @@
 -- The marks from here on are all there exactly when those from the start are. Assumes nothing.
-use Prim.Native.Nat.{◌-◌, ◌≤◌}
-use mathlib.Core.Path.{◌≡◌, refl}
-use lib.ListN.{length, drop}
-use Rattle.cases.specs.Marks.{all_marked}
+use mathlib.Core.Path.{refl}
 use Rattle.cases.proofs.CaseLaws.{mark_kept, mark_lost, marks_end}
 use borrow.Author.Rules.{rules}
 use Rattle.cases.proofs.rooms.bytes_kept.Goals as goal

@@ -1,10 +1,8 @@
 -- The marks from here on are all there exactly when those from the start are. Assumes nothing.
 use Prim.Native.Nat.{◌-◌, ◌≤◌}
-use mathlib.Core.Path.{◌≡◌, refl}
+use mathlib.Core.Path.{◌≡◌}
 use lib.ListN.{length, drop}
 use Rattle.cases.specs.Marks.{all_marked}
-use Rattle.cases.proofs.CaseLaws.{mark_kept, mark_lost, marks_end}
-use borrow.Author.Rules.{rules}
 use Rattle.cases.proofs.rooms.numbers_kept.Given as goal
 
 abbrev pub invariant-loop-i : goal.invariant-loop-i

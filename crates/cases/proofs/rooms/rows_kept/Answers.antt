@@ -1,6 +1,5 @@
 -- The three tables. Assumes nothing.
 use Rattle.cases.proofs.CaseLaws.{marks_three}
-use borrow.Author.Rules.{rules}
 use Rattle.cases.proofs.rooms.rows_kept.Goals as goal
 
 pub returns : goal.returns

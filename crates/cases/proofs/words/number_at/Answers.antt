@@ -1,6 +1,5 @@
 -- The word's bytes are read as a number. Assumes nothing.
 use Rattle.cases.proofs.CaseLaws.{number_means, number_faulty}
-use borrow.Author.Rules.{rules}
 use Rattle.cases.proofs.words.number_at.Goals as goal
 
 pub returns-in-Means : goal.returns-in-Means

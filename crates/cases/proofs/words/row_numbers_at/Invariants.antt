@@ -2,7 +2,6 @@
 use Prim.Native.Nat.{◌-◌, ◌≤◌, max}
 use mathlib.Core.Path.{◌≡◌}
 use lib.ListN.{length}
-use borrow.Author.Rules.{rules}
 use Rattle.cases.proofs.words.row_numbers_at.Given as goal
 
 abbrev pub invariant-loop-w : goal.invariant-loop-w

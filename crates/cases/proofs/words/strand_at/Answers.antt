@@ -1,6 +1,5 @@
 -- The word's first byte is read as a strand. Assumes nothing.
 use Rattle.cases.proofs.CaseLaws.{strand_is_lem, strand_none}
-use borrow.Author.Rules.{rules}
 use Rattle.cases.proofs.words.strand_at.Goals as goal
 
 pub returns-in-Is : goal.returns-in-Is
