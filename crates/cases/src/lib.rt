@@ -3,6 +3,7 @@
 #![tactic(auto)]
 
 mod escape;
+mod input;
 mod puts;
 mod rooms;
 mod words;
@@ -11,13 +12,14 @@ ghost use Rattle.std.specs.Prelude.{◌≡◌, min, length, get_or};
 ghost use Rattle.cases.specs.Lines.{is_case, case_letter};
 
 pub use escape::unescape;
+pub use input::read_full;
 pub use puts::{
     put_check, put_kept, put_labelled, put_part, put_refusal, put_rows, put_shown, put_spaced,
     put_strand, put_text,
 };
 pub use rooms::{
-    bytes_kept, length_of, marked_bytes, marked_rows, page, row_mark, row_numbers, rows_kept,
-    table_rows,
+    bytes_kept, length_of, marked_bytes, marked_rows, name_room, page, row_mark, row_numbers,
+    rows_kept, table_rows,
 };
 pub use words::{name_at, number_at, row_numbers_at, strand_at};
 

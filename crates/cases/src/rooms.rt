@@ -45,6 +45,13 @@ pub fn marked_bytes() -> [u8; ledger::TEXT_LIMIT]
     [MARK_BYTE; ledger::TEXT_LIMIT]
 }
 
+// Room for a name that a word spells.
+pub fn name_room() -> [u8; 4096]
+    ensures { 4096 ≡ length result }
+{
+    [0; 4096]
+}
+
 // Room for the rows of a table, which may be more than a record's blocks.
 pub fn row_numbers() -> [u64; 2 * ROWS]
     ensures { 2 * block_limit ≡ length result }

@@ -10,6 +10,8 @@ use columns::Columns;
 use ledger::{Fault, Position, Reason, Refusal};
 use number_line::NumbersAnswer;
 use numbers::Spelt;
+use std::io;
+use std::io::Write;
 use text::Stage;
 use writing::Writing;
 
@@ -319,6 +321,13 @@ fn put_first_line(out: &mut [u8], at: usize, buf: &[u8], n: usize) -> usize {
     cases::put_shown(out, at, &buf[0..e])
 }
 
+// Room for a line.
+fn line_room() -> [u8; 65536]
+    ensures { 65536 ≡ length result }
+{
+    [0; 65536]
+}
+
 // The standard line of what was read.
 fn put_standard(
     out: &mut [u8],
@@ -329,7 +338,7 @@ fn put_standard(
     values: &[u64],
     lists: &[u64],
 ) -> usize {
-    let mut space = io::large_buffer();
+    let mut space = line_room();
     match columns::write_line(&mut space, table, sep, line, values, lists) {
         Writing::Refused(x) => cases::put_refusal(out, at, x),
         Writing::Written(n) => put_first_line(out, at, &space, n),
@@ -393,10 +402,10 @@ fn answer_lines(input: &[u8], out: &mut [u8]) -> usize {
     p
 }
 
-fn main() {
+fn main(rt: HostRuntime) -> io::Result<()> {
     let mut input = cases::page();
-    let n = io::read_full(0, &mut input);
+    let n = cases::read_full(&mut rt.stdin(), &mut input)?;
     let mut out = cases::page();
     let m = ledger::least(answer_lines(&input[..n], &mut out), out.len());
-    io::write_all(1, &out[0..m]);
+    rt.stdout().write_all(&out[0..m])
 }

@@ -5,6 +5,9 @@
 mod lines;
 mod records;
 
+use std::io;
+use std::io::Write;
+
 // The answer of a case by its letter, from its payload as it stands and unescaped.
 fn answer(letter: u8, escaped: &[u8], payload: &[u8], out: &mut [u8], at: usize) -> usize {
     match letter {
@@ -50,10 +53,10 @@ fn answer_lines(input: &[u8], out: &mut [u8]) -> usize {
     p
 }
 
-fn main() {
+fn main(rt: HostRuntime) -> io::Result<()> {
     let mut input = cases::page();
-    let n = io::read_full(0, &mut input);
+    let n = cases::read_full(&mut rt.stdin(), &mut input)?;
     let mut out = cases::page();
     let m = ledger::least(answer_lines(&input[..n], &mut out), out.len());
-    io::write_all(1, &out[0..m]);
+    rt.stdout().write_all(&out[0..m])
 }

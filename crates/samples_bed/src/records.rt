@@ -130,7 +130,7 @@ fn names_case(line: &[u8], chrom: &mut [u8], name: &mut [u8], out: &mut [u8], at
 }
 
 pub(crate) fn record_case(line: &[u8], out: &mut [u8], at: usize) -> usize {
-    let mut chrom = io::buffer();
-    let mut name = io::buffer();
+    let mut chrom = cases::name_room();
+    let mut name = cases::name_room();
     names_case(line, &mut chrom, &mut name, out, at)
 }

@@ -13,7 +13,7 @@ pub(crate) enum Given {
 
 // Puts the name that a word spells into a page: its length.
 fn put_name(words: &[u8], k: usize, page: &mut [u8], at: usize) -> usize {
-    let mut name = io::buffer();
+    let mut name = cases::name_room();
     let n = cases::name_at(words, k, &mut name);
     writing::put_bytes(page, at, &name[0..n]);
     n

@@ -12,6 +12,8 @@ mod drifts;
 mod tallies;
 
 use chains::Given;
+use std::io;
+use std::io::Write;
 
 // How many words a case's question has.
 fn question_words(letter: u8, line: &[u8]) -> usize {
@@ -112,11 +114,11 @@ fn answer_lines(input: &[u8], tally: &mut [u64], out: &mut [u8]) -> usize {
     p
 }
 
-fn main() {
+fn main(rt: HostRuntime) -> io::Result<()> {
     let mut input = cases::page();
-    let n = io::read_full(0, &mut input);
+    let n = cases::read_full(&mut rt.stdin(), &mut input)?;
     let mut out = cases::page();
     let mut tally = [0u64; 3];
     let m = ledger::least(answer_lines(&input[..n], &mut tally, &mut out), out.len());
-    io::write_all(1, &out[0..m]);
+    rt.stdout().write_all(&out[0..m])
 }

@@ -151,7 +151,7 @@ fn names_case(
 }
 
 pub(crate) fn record_case(line: &[u8], out: &mut [u8], at: usize) -> usize {
-    let mut query = io::buffer();
-    let mut target = io::buffer();
+    let mut query = cases::name_room();
+    let mut target = cases::name_room();
     names_case(line, &mut query, &mut target, out, at)
 }
