@@ -11,7 +11,7 @@ use Rattle.ledger.specs.declared.Reason.{Reason}
 use Rattle.ledger.specs.declared.Reason.TheVariants.{TextTooLong, WrongCount, ByteNotAllowed, NumberMisspelt, NumberOutOfRange, BadWord, ListLength}
 use Rattle.ledger.specs.Limits.{text_limit, name_limit, colour_limit}
 use Rattle.text.specs.declared.Class.{Class}
-use Rattle.text.specs.declared.Class.TheVariants.{Blank, Word, Line, Allowed, Item}
+use Rattle.text.specs.declared.Class.TheVariants.{Word, Line, Allowed, Item}
 use Rattle.text.specs.declared.Stage.{Stage}
 use Rattle.text.specs.declared.Stage.TheVariants.{Passes}
 use Rattle.text.specs.declared.Stage.TheVariants as stage
@@ -21,7 +21,7 @@ use Rattle.text.specs.declared.Check.TheVariants as check
 use Rattle.text.specs.declared.Extent.{Extent}
 use Rattle.text.specs.Scan.{is_in, end_of}
 use Rattle.text.specs.Pieces.{onto, pieces_of, non_empty, words_of}
-use Rattle.text.specs.Words.{line_end, next_line, next_word, word_at, bytes_of}
+use Rattle.text.specs.Words.{line_end, next_line, next_word, bytes_of}
 use Rattle.ledger.specs.declared.Fault.{Fault}
 use Rattle.ledger.specs.Refusals.{require}
 use Rattle.text.specs.Checks.{fault, refused, then_check, text_check, words_check, last_line_check}

@@ -5,7 +5,6 @@ use mathlib.Core.List.{List}
 use Prim.Native.Nat.{ℕ, ◌≤◌}
 use lib.ListN.{length, take}
 use Rattle.ledger.specs.declared.Row.{Row}
-use Rattle.ledger.specs.Parts.{part_at}
 use Rattle.ledger.specs.Limits.{text_limit}
 use Rattle.text.specs.declared.Check.TheVariants.{Holds}
 use Rattle.text.specs.declared.Class.TheVariants.{Graphic}
@@ -15,7 +14,7 @@ use Rattle.text.specs.Pieces.{line_of, words_of}
 use Rattle.text.specs.Parts.{part_bytes}
 use Rattle.text.proofs.TextLaws.{All, both}
 use Rattle.writing.specs.Answers.{room_answer}
-use Rattle.blocks.specs.Blocks.{blocks_fill, count_fits, rows_of, row_numbers_fit}
+use Rattle.blocks.specs.Blocks.{count_fits, rows_of, row_numbers_fit}
 use Rattle.blocks.specs.Rows.{table_of, targets_of, queries_of, sizes_of}
 use Rattle.psl.specs.declared.Psl.{Psl}
 use Rattle.psl.specs.declared.PslAnswer.TheVariants.{Accepted}

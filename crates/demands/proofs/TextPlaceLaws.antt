@@ -9,10 +9,8 @@ use lib.Dec.{leb, ltb, eqb}
 use Rattle.ledger.specs.Refusals.{fault_at, require}
 use Rattle.ledger.specs.declared.Reason.TheVariants.{WrongCount, SpanDisagrees, BlockRules, CountsDisagree, NoRoom}
 use Rattle.ledger.specs.Limits.{text_limit, block_limit}
-use Rattle.ledger.specs.declared.Fault.{Fault}
 use Rattle.text.specs.declared.Stage.{Stage}
 use Rattle.text.specs.declared.Stage.TheVariants.{Passes}
-use Rattle.text.specs.declared.Stage.TheVariants as stage
 use Rattle.text.specs.Pieces.{line_of, words_of}
 use Rattle.text.specs.Words.{next_line, next_word, word_count}
 use Rattle.text.specs.Checks.{then_check, room_check, text_check, words_check, last_line_check}

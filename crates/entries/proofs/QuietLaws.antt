@@ -49,7 +49,7 @@ use Rattle.region.specs.Batches.{region_size, text_batch_check}
 use Rattle.turn.specs.declared.TurnAnswer.{TurnAnswer}
 use Rattle.turn.specs.declared.TurnAnswer.TheVariants as turn
 use Rattle.turn.specs.Turns as turns
-use Rattle.answers.specs.Answers.{Outcome, gives, refuses, refuses_by, Answered, refusal_code, roomed, numbered, recorded, no_room_at}
+use Rattle.answers.specs.Answers.{Outcome, gives, refuses, Answered, refusal_code, roomed, numbered, recorded, no_room_at}
 use Rattle.answers.proofs.AnswerLaws.{accepted_reason, refused_reason}
 use Rattle.entries.specs.Entries.{by_kind, of_bed, of_psl, of_chain, of_numbers, of_span, of_position, of_region, of_turn, of_tallied, at_end, name_bytes, written, bed_written, psl_written, chain_written, parsed_bed, parsed_psl, parsed_chain, parsed, numbers_given, formatted_bed, formatted_psl, formatted_chain, formatted, converted_numbers, position_lifted, region_lifted, turn_written, turned_text, tally_in, tally_bytes, tallied, on_check, batch_lifted, tally_after, BatchTold, Refusing}
 

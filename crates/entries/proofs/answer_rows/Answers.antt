@@ -1,7 +1,6 @@
 -- The parts of the working room. Assumes nothing.
 use Rattle.answers.proofs.AnswerLaws.{part_count}
 use Rattle.entries.proofs.StageLaws.{room_front}
-use borrow.Author.Rules.{rules}
 use Rattle.entries.proofs.answer_rows.Goals as goal
 
 pub slice_bounds-answer_record-end : goal.slice_bounds-answer_record-end

@@ -1,6 +1,5 @@
 -- Written where the region was lifted or has no pair, else left. Assumes nothing.
 use Rattle.entries.proofs.TallyLaws.{tally_lifted, tally_alone, tally_left}
-use borrow.Author.Rules.{rules}
 use Rattle.entries.proofs.answer_tallied.Goals as goal
 
 pub returns-then-number : goal.returns-then-number

@@ -1,7 +1,6 @@
 -- The tally's step. Assumes nothing.
 use Rattle.answers.proofs.AnswerLaws.{part_count}
 use Rattle.entries.proofs.TallyLaws.{tally_room, tally_step_lem}
-use borrow.Author.Rules.{rules}
 use Rattle.entries.proofs.answer_tally.Goals as goal
 
 pub slice_bounds-tally_step-end : goal.slice_bounds-tally_step-end

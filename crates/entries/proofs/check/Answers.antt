@@ -1,7 +1,6 @@
 -- By kind. Assumes nothing.
 use Rattle.entries.specs.Entries.{checked}
 use Rattle.entries.proofs.KindLaws.{code_bed, code_psl, code_chain, code_other}
-use borrow.Author.Rules.{rules}
 use Rattle.entries.proofs.check.Goals as goal
 
 pub returns-in-1 : goal.returns-in-1

@@ -1,6 +1,5 @@
 -- Refused, or accepted with a count. Assumes nothing.
 use Rattle.entries.proofs.EntryLaws.{check_bed_refused, check_bed_accepted}
-use borrow.Author.Rules.{rules}
 use Rattle.entries.proofs.check_bed.Goals as goal
 
 pub returns-in-Refused : goal.returns-in-Refused

@@ -1,6 +1,5 @@
 -- Refused, or accepted with a count. Assumes nothing.
 use Rattle.entries.proofs.EntryLaws.{check_chain_refused, check_chain_accepted}
-use borrow.Author.Rules.{rules}
 use Rattle.entries.proofs.check_chain.Goals as goal
 
 pub returns-in-Refused : goal.returns-in-Refused

@@ -1,6 +1,5 @@
 -- Refused, or accepted with a count. Assumes nothing.
 use Rattle.entries.proofs.EntryLaws.{check_psl_refused, check_psl_accepted}
-use borrow.Author.Rules.{rules}
 use Rattle.entries.proofs.check_psl.Goals as goal
 
 pub returns-in-Refused : goal.returns-in-Refused

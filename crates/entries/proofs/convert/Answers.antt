@@ -1,6 +1,5 @@
 -- Refused, or two numbers. Assumes nothing.
 use Rattle.entries.proofs.EntryLaws.{convert_refused, convert_accepted}
-use borrow.Author.Rules.{rules}
 use Rattle.entries.proofs.convert.Goals as goal
 
 pub returns-in-Refused : goal.returns-in-Refused

@@ -1,6 +1,5 @@
 -- Below 0, or not. Assumes nothing.
 use Rattle.entries.proofs.LiftLaws.{drift_below, drift_above}
-use borrow.Author.Rules.{rules}
 use Rattle.entries.proofs.drift_word.Goals as goal
 
 pub returns-then-partner-position : goal.returns-then-partner-position

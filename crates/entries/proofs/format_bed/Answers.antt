@@ -1,6 +1,5 @@
 -- The text itself, or the long way. Assumes nothing.
 use Rattle.entries.proofs.QuickLaws.{format_copied}
-use borrow.Author.Rules.{rules}
 use Rattle.entries.proofs.format_bed.Goals as goal
 
 pub returns-then-is_standard : goal.returns-then-is_standard

@@ -1,7 +1,6 @@
 -- Refused, or the standard text of the record. Assumes nothing.
 use Rattle.entries.specs.Entries.{formatted_chain}
 use Rattle.entries.proofs.EntryLaws.{chain_refused, chain_wide, format_chain_accepted}
-use borrow.Author.Rules.{rules}
 use Rattle.entries.proofs.format_chain.Goals as goal
 
 pub write_chain-requires : goal.write_chain-requires

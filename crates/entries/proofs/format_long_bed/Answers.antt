@@ -1,7 +1,6 @@
 -- Refused, or the standard text of the record. Assumes nothing.
 use Rattle.entries.specs.Entries.{formatted_bed}
 use Rattle.entries.proofs.EntryLaws.{bed_refused, bed_wide, format_bed_accepted}
-use borrow.Author.Rules.{rules}
 use Rattle.entries.proofs.format_long_bed.Goals as goal
 
 pub write_bed-requires : goal.write_bed-requires

@@ -1,7 +1,6 @@
 -- Refused, or the standard text of the record. Assumes nothing.
 use Rattle.entries.specs.Entries.{formatted_psl}
 use Rattle.entries.proofs.EntryLaws.{psl_refused, psl_wide, format_psl_accepted}
-use borrow.Author.Rules.{rules}
 use Rattle.entries.proofs.format_psl.Goals as goal
 
 pub write_psl-requires : goal.write_psl-requires

@@ -1,6 +1,5 @@
 -- Too few bytes, or three numbers written. Assumes nothing.
 use Rattle.entries.proofs.BatchLaws.{tally_none, tally_some}
-use borrow.Author.Rules.{rules}
 use Rattle.entries.proofs.keep_tally.Goals as goal
 
 pub returns-then-lent : goal.returns-then-lent

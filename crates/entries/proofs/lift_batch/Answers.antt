@@ -1,6 +1,5 @@
 -- Refused, or answered with the tally kept. Assumes nothing.
 use Rattle.entries.proofs.BatchLaws.{batch_refused, batch_told}
-use borrow.Author.Rules.{rules}
 use Rattle.entries.proofs.lift_batch.Goals as goal
 
 pub returns-in-Refused : goal.returns-in-Refused

@@ -1,6 +1,5 @@
 -- A chain's text, then the lift. Assumes nothing.
 use Rattle.entries.proofs.LiftLaws.{region_refused, region_lifted_lem}
-use borrow.Author.Rules.{rules}
 use Rattle.entries.proofs.lift_region.Goals as goal
 
 pub returns-in-Refused : goal.returns-in-Refused

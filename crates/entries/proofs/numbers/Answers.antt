@@ -1,6 +1,5 @@
 -- Refused, or so many numbers. Assumes nothing.
 use Rattle.entries.proofs.NumberLaws.{numbers_refused, numbers_accepted}
-use borrow.Author.Rules.{rules}
 use Rattle.entries.proofs.numbers.Goals as goal
 
 pub returns-in-Refused : goal.returns-in-Refused

@@ -1,7 +1,6 @@
 -- By kind. Assumes nothing.
 use Rattle.entries.specs.Entries.{parsed}
 use Rattle.entries.proofs.KindLaws.{by_bed, by_psl, by_chain, by_other}
-use borrow.Author.Rules.{rules}
 use Rattle.entries.proofs.parse.Goals as goal
 
 pub returns-in-1 : goal.returns-in-1

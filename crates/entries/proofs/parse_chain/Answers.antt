@@ -1,7 +1,6 @@
 -- Refused, or the record's numbers and its rows. Assumes nothing.
 use Rattle.entries.proofs.EntryLaws.{parse_chain_refused, parse_chain_accepted}
 use Rattle.entries.proofs.StageLaws.{chain_parts}
-use borrow.Author.Rules.{rules}
 use Rattle.entries.proofs.parse_chain.Goals as goal
 
 pub returns-in-Refused : goal.returns-in-Refused

@@ -1,7 +1,6 @@
 -- Refused, or the record's numbers and its rows. Assumes nothing.
 use Rattle.entries.proofs.EntryLaws.{bed_refused, parse_bed_accepted}
 use Rattle.entries.specs.Entries.{parsed_bed}
-use borrow.Author.Rules.{rules}
 use Rattle.entries.proofs.parse_long_bed.Goals as goal
 
 pub returns-in-Refused : goal.returns-in-Refused

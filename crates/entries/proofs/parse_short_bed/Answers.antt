@@ -1,6 +1,5 @@
 -- The rows of few blocks, or the long way. Assumes nothing.
 use Rattle.entries.proofs.QuickLaws.{parse_few_accepted}
-use borrow.Author.Rules.{rules}
 use Rattle.entries.proofs.parse_short_bed.Goals as goal
 
 pub returns-in-Accepted : goal.returns-in-Accepted

@@ -1,6 +1,5 @@
 -- The numbers one after the other. Assumes nothing.
 use Rattle.entries.specs.Records.{psl_numbers}
-use borrow.Author.Rules.{rules}
 use Rattle.entries.proofs.psl_fields.Goals as goal
 
 pub returns : goal.returns

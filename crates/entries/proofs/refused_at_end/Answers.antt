@@ -1,6 +1,5 @@
 -- Want of room stands at the end. Assumes nothing.
 use Rattle.entries.proofs.WriteLaws.{moved, not_moved}
-use borrow.Author.Rules.{rules}
 use Rattle.entries.proofs.refused_at_end.Goals as goal
 
 pub returns-then-number : goal.returns-then-number

@@ -1,6 +1,5 @@
 -- The reader with room for any record's blocks. Assumes nothing.
 use Rattle.entries.proofs.StageLaws.{psl_staged}
-use borrow.Author.Rules.{rules}
 use Rattle.entries.proofs.stage_psl.Goals as goal
 
 pub returns : goal.returns

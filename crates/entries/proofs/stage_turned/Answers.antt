@@ -1,7 +1,6 @@
 -- The turn with room for any record's blocks. Assumes nothing.
 use Rattle.answers.proofs.AnswerLaws.{part_count}
 use Rattle.entries.proofs.TurnLaws.{turned_staged}
-use borrow.Author.Rules.{rules}
 use Rattle.entries.proofs.stage_turned.Goals as goal
 
 pub slice_bounds-turn_chain-end : goal.slice_bounds-turn_chain-end

@@ -2,7 +2,6 @@
 use Rattle.entries.specs.Entries.{tallied}
 use Rattle.entries.proofs.EntryLaws.{chain_refused, chain_wide}
 use Rattle.entries.proofs.TallyLaws.{tally_answered}
-use borrow.Author.Rules.{rules}
 use Rattle.entries.proofs.tally.Goals as goal
 
 pub answer_tally-requires : goal.answer_tally-requires

@@ -1,6 +1,5 @@
 -- Fewer than three numbers, or three. Assumes nothing.
 use Rattle.entries.proofs.TallyLaws.{tally_short, tally_read}
-use borrow.Author.Rules.{rules}
 use Rattle.entries.proofs.tally_of.Goals as goal
 
 pub returns-then-lent : goal.returns-then-lent

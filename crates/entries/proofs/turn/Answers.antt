@@ -2,7 +2,6 @@
 use Rattle.entries.specs.Entries.{turned_text}
 use Rattle.entries.proofs.EntryLaws.{chain_refused, chain_wide}
 use Rattle.entries.proofs.TurnLaws.{turn_answered}
-use borrow.Author.Rules.{rules}
 use Rattle.entries.proofs.turn.Goals as goal
 
 pub write_turned-requires : goal.write_turned-requires

@@ -1,7 +1,6 @@
 -- The writer's text and its answer. Assumes nothing.
 use Rattle.answers.proofs.AnswerLaws.{part_count}
 use Rattle.entries.proofs.WriteLaws.{bed_written_lem}
-use borrow.Author.Rules.{rules}
 use Rattle.entries.proofs.write_bed.Goals as goal
 
 pub slice_bounds-write_bed-end : goal.slice_bounds-write_bed-end

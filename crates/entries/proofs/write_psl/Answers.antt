@@ -1,7 +1,6 @@
 -- The writer's text and its answer. Assumes nothing.
 use Rattle.answers.proofs.AnswerLaws.{part_count}
 use Rattle.entries.proofs.WriteLaws.{psl_written_lem}
-use borrow.Author.Rules.{rules}
 use Rattle.entries.proofs.write_psl.Goals as goal
 
 pub slice_bounds-write_psl-end : goal.slice_bounds-write_psl-end

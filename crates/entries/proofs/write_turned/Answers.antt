@@ -1,6 +1,5 @@
 -- Refused, or the standard text of the turned record. Assumes nothing.
 use Rattle.entries.proofs.TurnLaws.{turned_wide, turned_written, turned_refused}
-use borrow.Author.Rules.{rules}
 use Rattle.entries.proofs.write_turned.Goals as goal
 
 pub write_chain-requires : goal.write_chain-requires

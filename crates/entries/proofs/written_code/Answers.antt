@@ -1,6 +1,5 @@
 -- Written, or refused. Assumes nothing.
 use Rattle.entries.proofs.WriteLaws.{code_written, code_refused}
-use borrow.Author.Rules.{rules}
 use Rattle.entries.proofs.written_code.Goals as goal
 
 pub returns-in-Written : goal.returns-in-Written
