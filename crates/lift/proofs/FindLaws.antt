@@ -6,7 +6,7 @@ use Prim.Native.Nat.{ℕ, ◌+◌, ◌-◌, ◌≤◌, ◌<◌}
 use native.Mathlib.Omega.{arith}
 use lib.ListN.{length, drop, get_or}
 use lib.Dec.{leb, ltb}
-use borrow.Author.Tests.{lt-leb, le-leb, lt-ltb, le-ltb, leb-true, ltb-true}
+use borrow.Author.Tests.{le-leb, lt-ltb, leb-true, ltb-true}
 use Rattle.blocks.proofs.RuleLaws.{both}
 use Rattle.blocks.proofs.TableLaws.{taken, taken_cons, taken_end}
 use Rattle.lift.specs.declared.Partner.TheVariants.{Base, Alone}
@@ -14,14 +14,6 @@ use Rattle.lift.specs.Accepted.{Wide}
 use Rattle.lift.specs.Pairs.{InBlock, in_block, pairs_of, partner_of}
 use Rattle.lift.proofs.RunLaws.{either}
 use Rattle.lift.proofs.PairLaws.{block_before, block_after, block_in}
-
-pub outside_low : (x z p : ℕ) → p < x → false ≡ in_block x z p
-outside_low x z p h = rw (lt-leb x p h)
-
-pub inside_is : (x z p : ℕ) → x ≤ p → ltb (p - x) z ≡ in_block x z p
-inside_is x z p h = rw (le-leb x p h) (either (x + z) p _
-    (λ k. let l : z ≤ p - x = omega arith in le-ltb _ _ l ∙ sym (le-ltb _ _ k))
-    (λ k. let l : p - x < z = omega arith in lt-ltb _ _ l ∙ sym (lt-ltb _ _ k)))
 
 pub held : (x z p : ℕ) (u : Bool) → u ≡ in_block x z p → u ≡ true → (x ≤ p) × (p < x + z)
 held x z p u e k = let h = both (leb x p) (ltb p (x + z)) (sym e ∙ k) in (leb-true _ _ h.0, ltb-true _ _ h.1)

@@ -1,6 +1,7 @@
 pub mod RunLaws
 pub mod PairLaws
 pub mod AcceptLaws
+pub mod InsideLaws
 pub mod FindLaws
 pub mod PositionLaws
 pub mod TextLaws

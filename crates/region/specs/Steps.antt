@@ -1,5 +1,5 @@
 -- What private functions promise. A tally's step through an accepted chain, in two: what refuses a region, and what the tally grows by; where the reach is found, the two
--- together are `tallyStep` (proofs/TallyLaws.antt). And the loops of a batch.
+-- together are `tally_step` (proofs/TallyLaws.antt). And the loops of a batch.
 use Rattle.std.specs.Prelude.{ℕ, zero, suc, ◌+◌, ◌-◌, ◌≤◌, ◌≡◌, Bool, true, false, ◌&&◌, List, [], ◌∷◌, ◌++◌, map, length, drop, leb, ltb}
 use Rattle.std.proofs.lemmas.List.Edits.{sets}
 use Rattle.ledger.specs.declared.Row.{Row}

@@ -1,4 +1,4 @@
-use Rattle.lift.proofs.FindLaws.{outside_low, inside_is}
+use Rattle.lift.proofs.InsideLaws.{outside_low, inside_is}
 use Rattle.lift.proofs.in_block.Goals as goal
 
 pub returns-then-p-start : goal.returns-then-p-start
