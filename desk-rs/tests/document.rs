@@ -7,8 +7,8 @@ use std::fs;
 
 use common::{root, run, Folder};
 
-/// The commands of a document, each with what it writes.
-fn examples(document: &str) -> Vec<(String, String)> {
+/// The commands of a document, each with what it writes. Where only examples stand indented, there is nothing else.
+fn examples(document: &str, only: bool) -> Vec<(String, String)> {
     let mut examples: Vec<(String, String)> = Vec::new();
     let mut open = false;
     for line in document.lines() {
@@ -23,6 +23,7 @@ fn examples(document: &str) -> Vec<(String, String)> {
                     written.push_str(code);
                     written.push('\n');
                 }
+                _ if only => panic!("no command before {code}"),
                 // What a user is to run, without an answer.
                 _ => (),
             },
@@ -32,10 +33,10 @@ fn examples(document: &str) -> Vec<(String, String)> {
 }
 
 /// Runs the examples of a document, of which there must be so many, in a folder beside the sample files.
-fn are_right(name: &str, document: &str, least: usize) {
+fn are_right(name: &str, document: &str, least: usize, only: bool) {
     let folder = Folder::new(&format!("document-{name}"));
     folder.sh("ln -s $E examples");
-    let examples = examples(document);
+    let examples = examples(document, only);
     assert!(examples.len() >= least, "{name}");
     for (command, written) in examples {
         let ran = folder.sh(&format!(
@@ -51,12 +52,12 @@ fn document(name: &str) -> String {
 
 #[test]
 fn the_examples_of_the_first_page_are_right() {
-    are_right("readme", &document("README.md"), 3);
+    are_right("readme", &document("README.md"), 3, false);
 }
 
 #[test]
 fn the_examples_of_the_document_are_right() {
-    are_right("command", &document("docs/COMMAND.md"), 6);
+    are_right("command", &document("docs/COMMAND.md"), 6, true);
 }
 
 #[test]
@@ -64,7 +65,7 @@ fn the_examples_of_the_help_are_right() {
     for command in COMMANDS {
         let help = run(&[command, "--help"]).out;
         let (_, example) = help.split_once("\nExample.\n").expect("an example");
-        are_right(command, example, 1);
+        are_right(command, example, 1, false);
     }
 }
 
