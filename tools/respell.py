@@ -3,7 +3,8 @@
 
 usage: tools/respell.py [--check]
 
-It was run once, on what port.py had made of the crates, and is kept for a comparison with what stood before (docs/PORT.md).
+It brings what port.py makes of the crates, in one run, to the names that stand today, and is kept for a comparison with
+what stood before (docs/PORT.md).
 A name is turned where a module of specs/ or proofs/ declares it, and in each file that imports it from there. Names from the
 sources (functions, structs, fields) keep their spelling.
 """

@@ -3,8 +3,8 @@
 
 usage: tools/turn_proofs.py CRATE NAMES.json [FUNCTION..]
 
-NAMES.json is what `rt check --generated FOLDER --old-names` wrote. It was run once on each crate of the port (docs/PORT.md); what
-it leaves is for a check to name. An answer that is `search rules` is left out, since the check tries that by itself.
+NAMES.json is what `rt check --generated FOLDER --old-names` wrote. It was used on each crate of the port (docs/PORT.md), and
+grew with them; what it leaves is for a check to name. An answer that is `search rules` is left out, since the check tries that by itself.
 """
 import json
 import pathlib
