@@ -10,9 +10,6 @@ use lib.Dec.{leb, eqb}
 use borrow.Author.Tests.{lt-ltb, le-ltb, le-leb, leb-true, eqb-true, not-false}
 use Rattle.ledger.specs.Limits.{block_limit, largest_position}
 use Rattle.ledger.specs.declared.Fault.{Fault}
-use Rattle.text.specs.declared.Stage.{Stage}
-use Rattle.text.specs.declared.Stage.TheVariants.{Passes}
-use Rattle.text.specs.declared.Stage.TheVariants as stage
 use Rattle.text.specs.Checks.{then_check, text_check, words_check}
 use Rattle.text.specs.Steps.{Staged}
 use Rattle.text.specs.Words.{line_end, word_at, word_count, bytes_of}
@@ -27,10 +24,7 @@ use Rattle.kinds.specs.declared.Range.TheVariants.{Coordinate, Size}
 use Rattle.kinds.specs.Kinds.{kind_of, items_in}
 use Rattle.kinds.specs.Codes as code
 use Rattle.kinds.proofs.RangeLaws.{count_spelt, items_spelt}
-use Rattle.columns.specs.declared.Columns.{Columns}
 use Rattle.columns.specs.declared.Quick.{Quick}
-use Rattle.columns.specs.declared.Columns.TheVariants.{Next}
-use Rattle.columns.specs.declared.Columns.TheVariants as columns
 use Rattle.columns.specs.Columns.{column_limit, table_of, columns_from, values_from, lists_by, few_blocks, value_of, place_of, ColumnsWalked, QuickWalked}
 use Rattle.columns.specs.OneLine.{count_check, WordsWalked}
 use Rattle.columns.specs.Spells.{firsts}
@@ -41,8 +35,6 @@ use Rattle.columns.proofs.WalkLaws.{walk_through}
 use Rattle.columns.proofs.OneLineLaws.{count_of_lem, count_is}
 use Rattle.columns.proofs.PlaceLaws.{spelt_at, value_first, lists_length, lists_at}
 use Rattle.columns.proofs.TableLaws.{codes_length, table_is, read_is, read_next, values_stored, values_same, lists_are}
-use Rattle.bed.specs.declared.BedReading.{BedReading}
-use Rattle.bed.specs.declared.BedReading.TheVariants.{Read, Faulty}
 use Rattle.bed.specs.declared.Sure.{Sure}
 use Rattle.bed.specs.Columns as column
 use Rattle.bed.specs.Table.{bed_columns}
@@ -51,6 +43,8 @@ use Rattle.bed.specs.Read.{span_check, after_columns, after_words, after_text, b
 use Rattle.bed.specs.Rules.{WordNumber, three_to_nine, twelve}
 use Rattle.bed.specs.Steps.{Counted, Listed, Blocked, is_few, QuickStaged}
 use Rattle.bed.proofs.ReadLaws.{read_apart}
+use Rattle.std.specs.Prelude.{Ok, Err, Result, ⊤}
+use Rattle.bed.specs.declared.Bed.{Bed}
 
 -- the codes of the table in the code
 abbrev pub bed_codes : List ℕ
@@ -135,7 +129,7 @@ module _ (n : ℕ) (a b : List ℕ) (same : (i : ℕ) → get_or a i 0 ≡ get_o
   columns_same s = rw (record_same (length s), place column.chrom_end, place column.thick_start, place column.thick_end)
 
 -- the lists of a line of twelve words
-module _ (s : List ℕ) (e : ℕ) (read : columns_from bed_columns 0 s 0 ≡ Next e) (count : word_count s 0 ≡ column.all) where
+module _ (s : List ℕ) (e : ℕ) (read : columns_from bed_columns 0 s 0 ≡ Ok e) (count : word_count s 0 ≡ column.all) where
   count_all : word_count s 0 ≡ length bed_columns
   unfolding bed_columns
   count_all = count
@@ -197,11 +191,11 @@ unfolding bed_columns
 all_columns = refl
 
 -- the working room after the columns
-module _ (s : List ℕ) (n e : ℕ) (count : n ≡ word_count s 0) (good : is_word_count n ≡ true) (read : columns_from (take n bed_columns) 0 s 0 ≡ Next e) where
+module _ (s : List ℕ) (n e : ℕ) (count : n ≡ word_count s 0) (good : is_word_count n ≡ true) (read : columns_from (take n bed_columns) 0 s 0 ≡ Ok e) where
   abbrev us : List ℕ
   us = values_from (take n bed_columns) 0 s 0
 
-  twelve_read : n ≡ column.all → columns_from bed_columns 0 s 0 ≡ Next e
+  twelve_read : n ≡ column.all → columns_from bed_columns 0 s 0 ≡ Ok e
   twelve_read w =
       let t : take n bed_columns ≡ bed_columns = rw w all_columns in
       rw t at read
@@ -238,12 +232,12 @@ module _ (s : List ℕ) (n e : ℕ) (count : n ≡ word_count s 0) (good : is_wo
       let c : word_count s 0 ≡ column.all = sym count ∙ w in
       rw (lt-ltb column.block_count n (omega arith), t) (block_count_lem s e (twelve_read w) c).1)
 
-module _ (s : List ℕ) (n : ℕ) (b' d d' : List ℕ) (counted : Counted s n d) (x : Columns) (read : ColumnsWalked (table_of (take n bed_codes)) s 0 (replicate (2 * column.all) 0) b' d d' x) where
+module _ (s : List ℕ) (n : ℕ) (b' d d' : List ℕ) (counted : Counted s n d) (x : Result ℕ Fault) (read : ColumnsWalked (table_of (take n bed_codes)) s 0 (replicate (2 * column.all) 0) b' d d' x) where
   few : n ≤ column.all
   few = count_most n counted.good
 
-  module _ (e : ℕ) (q : x ≡ Next e) where
-    next : columns_from (take n bed_columns) 0 s 0 ≡ Next e
+  module _ (e : ℕ) (q : x ≡ Ok e) where
+    next : columns_from (take n bed_columns) 0 s 0 ≡ Ok e
     next = read_next bed_codes bed_columns codes_same codes_few n few s 0 (2 * column.all) (omega (arith, few)) b' d d' x read e q
 
     same : (i : ℕ) → get_or b' i 0 ≡ get_or (values_from (take n bed_columns) 0 s 0) i 0
@@ -258,15 +252,15 @@ module _ (s : List ℕ) (n : ℕ) (b' d d' : List ℕ) (counted : Counted s n d)
     pub words_line : line_end s e ≡ line_end s 0
     words_line = (walk_through (take n bed_columns) 0 s 0 e next).line
 
-    pub words_on : (l : List ℕ) (a : BedReading) → Staged Read (Blocked block_limit s) (after_columns s n b') l a → Staged Read (Blocked block_limit s) (after_words s n) l a
+    pub words_on : (l : List ℕ) (a : Result Bed Fault) → Staged Ok (Blocked block_limit s) (after_columns s n b') l a → Staged Ok (Blocked block_limit s) (after_words s n) l a
     unfolding after_words
     words_on l a h = staged_goes a (rw (next, ← columns_same n b' (values_from (take n bed_columns) 0 s 0) same s)) h
 
-  pub words_stop : (l : List ℕ) (y : Fault) → x ≡ columns.Faulty y → Staged Read (Blocked block_limit s) (after_words s n) l (Faulty y)
+  pub words_stop : (l : List ℕ) (y : Fault) → x ≡ Err y → Staged Ok (Blocked block_limit s) (after_words s n) l (Err y)
   unfolding after_words
   words_stop l y q =
-      let z : columns_from (take n bed_columns) 0 s 0 ≡ columns.Faulty y = sym (read_is bed_codes bed_columns codes_same codes_few n few s 0 (2 * column.all) (omega (arith, few)) b' d d' x read) ∙ q in
-      staged_stops Faulty read_apart y (rw z)
+      let z : columns_from (take n bed_columns) 0 s 0 ≡ Err y = sym (read_is bed_codes bed_columns codes_same codes_few n few s 0 (2 * column.all) (omega (arith, few)) b' d d' x read) ∙ q in
+      staged_stops Err read_apart y (rw z)
 
 pub words_few : (s : List ℕ) (n : ℕ) (d : List ℕ) → Counted s n d → n ≤ column.all
 words_few s n d h = count_most n h.good
@@ -275,28 +269,28 @@ pub words_length : (s : List ℕ) (n : ℕ) (d : List ℕ) → Counted s n d →
 words_length s n d h = codes_length bed_codes bed_columns codes_same codes_few n (count_most n h.good)
 
 -- the number of words
-module _ (s : List ℕ) (n : ℕ) (en : n ≡ word_count s 0) (t : Bool) (et : t ≡ is_word_count n) (c : Stage) (ec : c ≡ words_check s 0 n column.all t) where
-  pub words_counted : (d : List ℕ) → length d ≡ 2 * block_limit → c ≡ Passes → Counted s n d
+module _ (s : List ℕ) (n : ℕ) (en : n ≡ word_count s 0) (t : Bool) (et : t ≡ is_word_count n) (c : Result ⊤ Fault) (ec : c ≡ words_check s 0 n column.all t) where
+  pub words_counted : (d : List ℕ) → length d ≡ 2 * block_limit → c ≡ (Ok tt) → Counted s n d
   words_counted d l q = record { long = l; count = en; good = sym et ∙ (words_hold s 0 n column.all t (sym ec ∙ q)).1 }
 
-  pub text_stop : (l : List ℕ) (x : Fault) → c ≡ stage.Faulty x → Staged Read (Blocked block_limit s) (after_text s) l (Faulty x)
+  pub text_stop : (l : List ℕ) (x : Fault) → c ≡ Err x → Staged Ok (Blocked block_limit s) (after_text s) l (Err x)
   unfolding after_text
-  text_stop l x q = staged_stops Faulty read_apart x (rw (← en, ← et, ← ec, q))
+  text_stop l x q = staged_stops Err read_apart x (rw (← en, ← et, ← ec, q))
 
-  pub text_on : (l : List ℕ) (a : BedReading) → c ≡ Passes → Staged Read (Blocked block_limit s) (after_words s n) l a → Staged Read (Blocked block_limit s) (after_text s) l a
+  pub text_on : (l : List ℕ) (a : Result Bed Fault) → c ≡ (Ok tt) → Staged Ok (Blocked block_limit s) (after_words s n) l a → Staged Ok (Blocked block_limit s) (after_text s) l a
   unfolding after_text
   text_on l a q h = staged_goes a (rw (← en, ← et, ← ec, q)) h
 
 -- a walk over all columns first
-line_then : (c : Stage) (rest : Columns) (e : ℕ) → then_check columns.Faulty c rest ≡ Next e → (c ≡ Passes) × (rest ≡ Next e)
-line_then c rest e = went columns.Faulty c rest (Next e) (λ x q. let z : ◌≡◌ {A = ℕ} 0 1 = cc in omega arith)
+line_then : (c : Result ⊤ Fault) (rest : Result ℕ Fault) (e : ℕ) → then_check Err c rest ≡ Ok e → (c ≡ (Ok tt)) × (rest ≡ Ok e)
+line_then c rest e = went Err c rest (Ok e) (λ x q. let z : ◌≡◌ {A = ℕ} 0 1 = cc in omega arith)
 
 pub table_all : table_of bed_codes ≡ bed_columns
 unfolding bed_columns
 table_all = table_is bed_codes bed_columns codes_same codes_few column.all (omega arith)
 
-module _ (s b' d d' : List ℕ) (long : length d ≡ 2 * block_limit) (x : Columns) (read : WordsWalked (table_of bed_codes) s (replicate (2 * column.all) 0) b' d d' x) where
-  long_is : x ≡ then_check columns.Faulty (count_check s 0 column.all) (columns_from bed_columns 0 s 0)
+module _ (s b' d d' : List ℕ) (long : length d ≡ 2 * block_limit) (x : Result ℕ Fault) (read : WordsWalked (table_of bed_codes) s (replicate (2 * column.all) 0) b' d d' x) where
+  long_is : x ≡ then_check Err (count_check s 0 column.all) (columns_from bed_columns 0 s 0)
   unfolding bed_columns
   long_is = rw table_all at read.result
 
@@ -304,36 +298,36 @@ module _ (s b' d d' : List ℕ) (long : length d ≡ 2 * block_limit) (x : Colum
     all_counted : Counted s column.all d
     all_counted = record { long = long; count = sym count; good = refl }
 
-    all_on : (l : List ℕ) (a : BedReading) → Staged Read (Blocked block_limit s) (after_words s column.all) l a → Staged Read (Blocked block_limit s) (after_text s) l a
+    all_on : (l : List ℕ) (a : Result Bed Fault) → Staged Ok (Blocked block_limit s) (after_words s column.all) l a → Staged Ok (Blocked block_limit s) (after_text s) l a
     unfolding after_text
     all_on l a h = staged_goes a (rw (count, ← words_good s 0 column.all column.all true (omega arith) refl)) h
 
-  module _ (e : ℕ) (q : x ≡ Next e) where
-    long_read : (count_check s 0 column.all ≡ Passes) × (columns_from bed_columns 0 s 0 ≡ Next e)
+  module _ (e : ℕ) (q : x ≡ Ok e) where
+    long_read : (count_check s 0 column.all ≡ (Ok tt)) × (columns_from bed_columns 0 s 0 ≡ Ok e)
     long_read = line_then (count_check s 0 column.all) (columns_from bed_columns 0 s 0) e (sym long_is ∙ q)
 
     count_all' : word_count s 0 ≡ column.all
     count_all' = count_of_lem s 0 column.all long_read.0
 
-    walked : ColumnsWalked (table_of (take column.all bed_codes)) s 0 (replicate (2 * column.all) 0) b' d d' (Next e)
+    walked : ColumnsWalked (table_of (take column.all bed_codes)) s 0 (replicate (2 * column.all) 0) b' d d' (Ok e)
     walked = record { result = rw table_all (sym long_read.1); stored = λ f p. read.stored e q; held = λ f p. read.held e q }
 
     pub long_listed : Listed block_limit s (bed_record column.all (length s) b') d'
-    long_listed = words_listed s column.all b' d d' (all_counted count_all') (Next e) walked e refl
+    long_listed = words_listed s column.all b' d d' (all_counted count_all') (Ok e) walked e refl
 
     pub long_line : line_end s e ≡ line_end s 0
     long_line = read.line e q
 
-    pub long_on : (l : List ℕ) (a : BedReading) → Staged Read (Blocked block_limit s) (after_columns s column.all b') l a → Staged Read (Blocked block_limit s) (after_text s) l a
-    long_on l a h = all_on count_all' l a (words_on s column.all b' d d' (all_counted count_all') (Next e) walked e refl l a h)
+    pub long_on : (l : List ℕ) (a : Result Bed Fault) → Staged Ok (Blocked block_limit s) (after_columns s column.all b') l a → Staged Ok (Blocked block_limit s) (after_text s) l a
+    long_on l a h = all_on count_all' l a (words_on s column.all b' d d' (all_counted count_all') (Ok e) walked e refl l a h)
 
-  pub long_stop : (l : List ℕ) (y : Fault) (n : ℕ) → x ≡ columns.Faulty y → n ≡ word_count s 0 → n ≡ column.all → Staged Read (Blocked block_limit s) (after_text s) l (Faulty y)
+  pub long_stop : (l : List ℕ) (y : Fault) (n : ℕ) → x ≡ Err y → n ≡ word_count s 0 → n ≡ column.all → Staged Ok (Blocked block_limit s) (after_text s) l (Err y)
   unfolding after_words
   long_stop l y n q en et =
       let count : word_count s 0 ≡ column.all = sym en ∙ et in
       let r : x ≡ columns_from bed_columns 0 s 0 = rw (count_is s 0 column.all count) at long_is in
-      let z : columns_from (take column.all bed_columns) 0 s 0 ≡ columns.Faulty y = rw all_columns (sym r ∙ q) in
-      all_on count l (Faulty y) (staged_stops Faulty read_apart y (rw z))
+      let z : columns_from (take column.all bed_columns) 0 s 0 ≡ Err y = rw all_columns (sym r ∙ q) in
+      all_on count l (Err y) (staged_stops Err read_apart y (rw z))
 
 -- the quick way: where it is sure
 module _ (s b' d d' : List ℕ) (long : length d ≡ 2 * few_blocks) (w : Quick) (walked : QuickWalked (table_of bed_codes) s 0 (replicate (2 * column.all) 0) b' d d' w) (n : ℕ) (en : n ≡ w.count)
@@ -344,7 +338,7 @@ module _ (s b' d d' : List ℕ) (long : length d ≡ 2 * few_blocks) (w : Quick)
       let b = both (is_word_count n) (leb (value_or n b' column.block_count 1) few_blocks) (sym et ∙ a.1) in
       (a.0, b.0, b.1)
 
-  quick_read : columns_from (take n bed_columns) 0 s 0 ≡ Next w.last
+  quick_read : columns_from (take n bed_columns) 0 s 0 ≡ Ok w.last
   quick_read = rw en (rw table_all at (walked.read tests.0))
 
   quick_count : n ≡ word_count s 0
@@ -367,35 +361,35 @@ module _ (s b' d d' : List ℕ) (long : length d ≡ 2 * few_blocks) (w : Quick)
   pub quick_line : line_end s w.last ≡ line_end s 0
   quick_line = (walk_through (take n bed_columns) 0 s 0 w.last quick_read).line
 
-  pub quick_on : (l : List ℕ) (a : BedReading) → Staged Read (Blocked few_blocks s) (after_columns s n b') l a → QuickStaged s (after_text s) l (record { sure = true; reading = a })
+  pub quick_on : (l : List ℕ) (a : Result Bed Fault) → Staged Ok (Blocked few_blocks s) (after_columns s n b') l a → QuickStaged s (after_text s) l (record { sure = true; reading = a })
   unfolding after_text after_words
   quick_on l a h = record {
     staged = λ q. staged_goes a (rw (← quick_count, ← words_good s 0 n column.all (is_word_count n) (count_most n tests.1) tests.1, quick_read, ← columns_same n b' (values_from (take n bed_columns) 0 s 0) quick_same s)) h;
   }
 
 -- not sure
-pub quick_unsure : (s l : List ℕ) (answer : BedReading) (x : Sure) → x.sure ≡ false → QuickStaged s answer l x
+pub quick_unsure : (s l : List ℕ) (answer : Result Bed Fault) (x : Sure) → x.sure ≡ false → QuickStaged s answer l x
 quick_unsure s l answer x e = record { staged = λ q. absurd (let k : ◌≡◌ {A = ℕ} 0 1 = cc in omega arith) }
 
-pub quick_sure : (s l : List ℕ) (answer : BedReading) (x : Sure) → QuickStaged s answer l x → x.sure ≡ true → x.reading ≡ answer
+pub quick_sure : (s l : List ℕ) (answer : Result Bed Fault) (x : Sure) → QuickStaged s answer l x → x.sure ≡ true → x.reading ≡ answer
 quick_sure s l answer x h q = (h.staged q).is
 
-pub quick_staged : (s l : List ℕ) (answer : BedReading) (x : Sure) → QuickStaged s answer l x → x.sure ≡ true → Staged Read (Blocked few_blocks s) answer l x.reading
+pub quick_staged : (s l : List ℕ) (answer : Result Bed Fault) (x : Sure) → QuickStaged s answer l x → x.sure ≡ true → Staged Ok (Blocked few_blocks s) answer l x.reading
 quick_staged s l answer x h q = h.staged q
 
 pub few_is : (n v : ℕ) (vs : List ℕ) (t : Bool) → t ≡ is_word_count n → v ≡ value_or n vs column.block_count 1 → (t && leb v few_blocks) ≡ is_few n vs
 few_is n v vs t et ev = rw (et, ev)
 
 -- the text's checks
-module _ (s : List ℕ) (b : Stage) (eb : b ≡ text_check s) where
-  pub quick_text : b ≡ Passes → (l : List ℕ) (x : Sure) → QuickStaged s (after_text s) l x → QuickStaged s (bed_stages s) l x
+module _ (s : List ℕ) (b : Result ⊤ Fault) (eb : b ≡ text_check s) where
+  pub quick_text : b ≡ (Ok tt) → (l : List ℕ) (x : Sure) → QuickStaged s (after_text s) l x → QuickStaged s (bed_stages s) l x
   unfolding bed_stages
   quick_text p l x h = record { staged = λ q. staged_goes x.reading (rw (← eb, p)) (h.staged q) }
 
-  pub check_stop : (l : List ℕ) (x : Fault) → b ≡ stage.Faulty x → Staged Read (Blocked block_limit s) (bed_stages s) l (Faulty x)
+  pub check_stop : (l : List ℕ) (x : Fault) → b ≡ Err x → Staged Ok (Blocked block_limit s) (bed_stages s) l (Err x)
   unfolding bed_stages
-  check_stop l x q = staged_stops Faulty read_apart x (rw (← eb, q))
+  check_stop l x q = staged_stops Err read_apart x (rw (← eb, q))
 
-  pub check_on : (l : List ℕ) (a : BedReading) → b ≡ Passes → Staged Read (Blocked block_limit s) (after_text s) l a → Staged Read (Blocked block_limit s) (bed_stages s) l a
+  pub check_on : (l : List ℕ) (a : Result Bed Fault) → b ≡ (Ok tt) → Staged Ok (Blocked block_limit s) (after_text s) l a → Staged Ok (Blocked block_limit s) (bed_stages s) l a
   unfolding bed_stages
   check_on l a p h = staged_goes a (rw (← eb, p)) h

@@ -15,12 +15,10 @@ use Rattle.text.specs.Words.{word_at, word_count, bytes_of}
 use Rattle.text.proofs.TextLaws.{both}
 use Rattle.text.proofs.CheckLaws.{text_of_lem, one_of, some_text}
 use Rattle.text.proofs.PieceLaws.{word_bytes}
-use Rattle.numbers.specs.declared.Spelt.TheVariants.{Means}
 use Rattle.kinds.specs.declared.Kind.TheVariants.{Name}
 use Rattle.kinds.specs.Kinds.{spelt}
 use Rattle.kinds.proofs.RangeLaws.{name_spelt, strand_spelt}
 use Rattle.kinds.proofs.SpeltAsLaws.{numbers_in}
-use Rattle.columns.specs.declared.Columns.TheVariants.{Next}
 use Rattle.columns.specs.Columns.{columns_from, values_from, value_of, place_of}
 use Rattle.columns.specs.Spells.{firsts}
 use Rattle.columns.specs.Names.{part_of}
@@ -31,7 +29,6 @@ use Rattle.columns.proofs.PlaceLaws.{spelt_at, value_first, value_second}
 use Rattle.columns.proofs.WordLaws.{word_length, letter_is}
 use Rattle.blocks.proofs.RuleLaws.{fills_of}
 use Rattle.bed.specs.declared.Bed.{Bed}
-use Rattle.bed.specs.declared.BedAnswer.TheVariants.{Accepted}
 use Rattle.bed.specs.Columns as column
 use Rattle.bed.specs.Table.{bed_columns}
 use Rattle.bed.specs.Records.{value_or, bed_record, bed_sizes, bed_starts}
@@ -39,6 +36,7 @@ use Rattle.bed.specs.Read.{thick_fits, bed_check}
 use Rattle.bed.specs.Rules.{WordNumber, BedLine}
 use Rattle.bed.proofs.ColumnLaws.{most_words, least_words, by_number}
 use Rattle.bed.proofs.AcceptLaws.{line_values, Accepts, accepts_of, words_of_lem, span_of, thick_of, accepted_count, accepted_starts, accepted_fills}
+use Rattle.std.specs.Prelude.{Ok}
 
 -- the spans
 thick_order : (r : Bed) → thick_fits r ≡ true → (r.chromStart ≤ r.thickStart) × (r.thickStart ≤ r.thickEnd) × (r.thickEnd ≤ r.chromEnd)
@@ -48,7 +46,7 @@ thick_order r e =
     (leb-true _ _ a.0, leb-true _ _ b.0, leb-true _ _ b.1)
 
 -- the columns of a line that is read, by their numbers
-module _ (s : List ℕ) (e : ℕ) (number : WordNumber (word_count s 0)) (read : columns_from (take (word_count s 0) bed_columns) 0 s 0 ≡ Next e) where
+module _ (s : List ℕ) (e : ℕ) (number : WordNumber (word_count s 0)) (read : columns_from (take (word_count s 0) bed_columns) 0 s 0 ≡ Ok e) where
   columns_count : word_count s 0 ≡ length (take (word_count s 0) bed_columns)
   unfolding bed_columns
   columns_count = rw length-take (omega (arith, most_words number))
@@ -58,7 +56,7 @@ module _ (s : List ℕ) (e : ℕ) (number : WordNumber (word_count s 0)) (read :
 
   module _ (k : ℕ) (h : k < word_count s 0) where
     -- word k spells value k
-    pub value_spelt : spelt (kind_at bed_columns k) (count_before (take (word_count s 0) bed_columns) 0 (firsts (line_values s)) 0 k) (bytes_of s (word_at s 0 k)) ≡ Means (value_of (line_values s) k)
+    pub value_spelt : spelt (kind_at bed_columns k) (count_before (take (word_count s 0) bed_columns) 0 (firsts (line_values s)) 0 k) (bytes_of s (word_at s 0 k)) ≡ Ok (value_of (line_values s) k)
     value_spelt =
         let p = spelt_at line_spells k (omega (arith, columns_count)) in
         rw (word_bytes s 0 k, ← value_first (line_values s) k, ← get_or-take (word_count s 0) bed_columns k Name h) p
@@ -117,7 +115,7 @@ module _ (s : List ℕ) (r : Bed) (number : WordNumber (word_count s 0)) (words 
   span_start h = rw (ne_eqb r.words column.all (λ q. omega arith))
 
 -- an accepted line is a BED line that says its record
-module _ (s : List ℕ) (r : Bed) (ok : bed_check s ≡ Accepted r) where
+module _ (s : List ℕ) (r : Bed) (ok : bed_check s ≡ Ok r) where
   abbrev a : Accepts s r
   a = accepts_of s r ok
 

@@ -16,9 +16,6 @@ use Rattle.ledger.specs.declared.Part.{Part}
 use Rattle.ledger.specs.declared.Reason.TheVariants.{BlockRules, NoRoom}
 use Rattle.ledger.specs.declared.Fault.{Fault}
 use Rattle.ledger.specs.declared.Refusal.{Refusal}
-use Rattle.text.specs.declared.Stage.{Stage}
-use Rattle.text.specs.declared.Stage.TheVariants.{Passes}
-use Rattle.text.specs.declared.Stage.TheVariants as stage
 use Rattle.text.specs.Checks.{fault, last_line_check}
 use Rattle.text.specs.Steps.{Staged}
 use Rattle.text.specs.Words.{line_end}
@@ -28,71 +25,68 @@ use Rattle.columns.specs.Columns.{value_of, place_of}
 use Rattle.blocks.specs.Blocks.{blocks_fill}
 use Rattle.blocks.proofs.TakeLaws.{part_all}
 use Rattle.bed.specs.declared.Bed.{Bed}
-use Rattle.bed.specs.declared.BedReading.{BedReading}
-use Rattle.bed.specs.declared.BedReading.TheVariants.{Read, Faulty}
-use Rattle.bed.specs.declared.BedAnswer.{BedAnswer}
-use Rattle.bed.specs.declared.BedAnswer.TheVariants.{Accepted, Refused}
 use Rattle.bed.specs.Columns as column
 use Rattle.bed.specs.Records.{value_or, place_or, bed_record, bed_sizes, bed_starts}
 use Rattle.bed.specs.Tests.{if_there}
 use Rattle.bed.specs.Read.{thick_place, span_check, block_check, after_spans, after_columns, bed_stages, bed_answer, bed_check, bed_read}
 use Rattle.bed.specs.Steps.{with_default, Listed, Blocked}
+use Rattle.std.specs.Prelude.{Ok, Err, Result, ⊤}
 
 -- a fault is no record
-pub read_apart : (r : Bed) (x : Fault) → Faulty x ≡ Read r → ⊥
+pub read_apart : (r : Bed) (x : Fault) → Err x ≡ Ok r → ⊥
 read_apart r x e = let z : ◌≡◌ {A = ℕ} 0 1 = cc in omega arith
 
 -- a record that is accepted is not refused
-pub answers_apart : (r : Bed) (y : Refusal) → Accepted r ≡ Refused y → ⊥
+pub answers_apart : (r : Bed) (y : Refusal) → Ok r ≡ Err y → ⊥
 answers_apart r y e = let z : ◌≡◌ {A = ℕ} 0 1 = cc in omega arith
 
 -- what a caller is told says what was read
-told_read : (a : BedReading) (r : Bed) → bed_answer a ≡ Accepted r → a ≡ Read r
-told_read (Read q) r e = let p : q ≡ r = cc in rw p
-told_read (Faulty x) r e = absurd (answers_apart r (refusal_at x) (sym e))
+told_read : (a : Result Bed Fault) (r : Bed) → bed_answer a ≡ Ok r → a ≡ Ok r
+told_read (Ok q) r e = let p : q ≡ r = cc in rw p
+told_read (Err x) r e = absurd (answers_apart r (refusal_at x) (sym e))
 
-told_fault : (a : BedReading) (y : Refusal) → bed_answer a ≡ Refused y → a ≡ Faulty (fault_at y.reason y.place)
-told_fault (Read q) y e = absurd (answers_apart q y e)
-told_fault (Faulty x) y e = let p : refusal_at x ≡ y = cc in rw (← p)
+told_fault : (a : Result Bed Fault) (y : Refusal) → bed_answer a ≡ Err y → a ≡ Err (fault_at y.reason y.place)
+told_fault (Ok q) y e = absurd (answers_apart q y e)
+told_fault (Err x) y e = let p : refusal_at x ≡ y = cc in rw (← p)
 
 -- and is told of it
-pub tells_read : (a : BedReading) (r : Bed) → a ≡ Read r → Accepted r ≡ bed_answer a
+pub tells_read : (a : Result Bed Fault) (r : Bed) → a ≡ Ok r → Ok r ≡ bed_answer a
 tells_read a r e = rw e
 
-pub tells_fault : (a : BedReading) (x : Fault) (y : Refusal) → a ≡ Faulty x → y ≡ refusal_at x → Refused y ≡ bed_answer a
+pub tells_fault : (a : Result Bed Fault) (x : Fault) (y : Refusal) → a ≡ Err x → y ≡ refusal_at x → Err y ≡ bed_answer a
 tells_fault a x y e q = rw (e, q)
 
 module _ (s : List ℕ) where
-  pub checked_of : (r : Bed) → bed_check s ≡ Accepted r → bed_stages s ≡ Read r
+  pub checked_of : (r : Bed) → bed_check s ≡ Ok r → bed_stages s ≡ Ok r
   unfolding bed_check
   checked_of r e = told_read (bed_stages s) r e
 
-  pub checked_is : (r : Bed) → bed_stages s ≡ Read r → bed_check s ≡ Accepted r
+  pub checked_is : (r : Bed) → bed_stages s ≡ Ok r → bed_check s ≡ Ok r
   unfolding bed_check
   checked_is r e = rw e
 
-  pub refused_of : (y : Refusal) → bed_check s ≡ Refused y → bed_stages s ≡ Faulty (fault_at y.reason y.place)
+  pub refused_of : (y : Refusal) → bed_check s ≡ Err y → bed_stages s ≡ Err (fault_at y.reason y.place)
   unfolding bed_check
   refused_of y e = told_fault (bed_stages s) y e
 
-  pub refused_is : (x : Fault) → bed_stages s ≡ Faulty x → bed_check s ≡ Refused (refusal_at x)
+  pub refused_is : (x : Fault) → bed_stages s ≡ Err x → bed_check s ≡ Err (refusal_at x)
   unfolding bed_check
   refused_is x e = rw e
 
-  pub checked_told : (x : BedReading) (a : BedAnswer) → x ≡ bed_stages s → a ≡ bed_answer x → a ≡ bed_check s
+  pub checked_told : (x : Result Bed Fault) (a : Result Bed Refusal) → x ≡ bed_stages s → a ≡ bed_answer x → a ≡ bed_check s
   unfolding bed_check
   checked_told x a e q = rw (← e) q
 
   -- the reader: the text checker, then the room
-  pub read_roomy : (r : Bed) (room : ℕ) → bed_check s ≡ Accepted r → r.blockCount ≤ room → bed_read s room ≡ Accepted r
+  pub read_roomy : (r : Bed) (room : ℕ) → bed_check s ≡ Ok r → r.blockCount ≤ room → bed_read s room ≡ Ok r
   unfolding bed_read
   read_roomy r room e h = rw (checked_of r e, le-leb r.blockCount room h)
 
-  pub read_short : (r : Bed) (room : ℕ) → bed_check s ≡ Accepted r → room < r.blockCount → bed_read s room ≡ Refused (refusal_at (fault_at NoRoom (length s)))
+  pub read_short : (r : Bed) (room : ℕ) → bed_check s ≡ Ok r → room < r.blockCount → bed_read s room ≡ Err (refusal_at (fault_at NoRoom (length s)))
   unfolding bed_read
   read_short r room e h = rw (checked_of r e, lt-leb r.blockCount room h)
 
-  pub read_refused : (y : Refusal) (room : ℕ) → bed_check s ≡ Refused y → bed_read s room ≡ Refused y
+  pub read_refused : (y : Refusal) (room : ℕ) → bed_check s ≡ Err y → bed_read s room ≡ Err y
   unfolding bed_read
   read_refused y room e = rw (refused_of y e)
 
@@ -132,7 +126,7 @@ module _ (b : ℕ) (s : List ℕ) (r : Bed) (l : List ℕ) (held : Blocked b s r
   tested : t ≡ blocks_fill 0 (r.chromEnd - r.chromStart) (bed_starts s r) (bed_sizes s r)
   tested = rw (← ev, ← held.starts, ← held.sizes) (rw (part_all l b) at et)
 
-  pub blocks_checked : (c : Stage) → c ≡ require t (fault BlockRules (length s)) Passes → c ≡ block_check s r
+  pub blocks_checked : (c : Result ⊤ Fault) → c ≡ require t (fault BlockRules (length s)) (Ok tt) → c ≡ block_check s r
   unfolding block_check
   blocks_checked c e = rw (← tested) e
 
@@ -179,13 +173,13 @@ block_held b s r l l' h e =
     })
 
 -- a stage that stops, and one that goes on
-module _ (b : ℕ) (s : List ℕ) (l : List ℕ) (c : Stage) where
+module _ (b : ℕ) (s : List ℕ) (l : List ℕ) (c : Result ⊤ Fault) where
   module _ (r : Bed) (ec : c ≡ block_check s r) (held : Blocked b s r l) where
-    pub spans_stop : (x : Fault) → c ≡ stage.Faulty x → Staged Read (Blocked b s) (after_spans s r) l (Faulty x)
+    pub spans_stop : (x : Fault) → c ≡ Err x → Staged Ok (Blocked b s) (after_spans s r) l (Err x)
     unfolding after_spans
-    spans_stop x q = staged_stops Faulty read_apart x (rw (← ec, q))
+    spans_stop x q = staged_stops Err read_apart x (rw (← ec, q))
 
-    pub spans_read : c ≡ Passes → Staged Read (Blocked b s) (after_spans s r) l (Read r)
+    pub spans_read : c ≡ (Ok tt) → Staged Ok (Blocked b s) (after_spans s r) l (Ok r)
     unfolding after_spans
     spans_read q = record { is = rw (← ec, q); held = λ y e. let p : r ≡ y = cc in rw p at held }
 
@@ -193,16 +187,16 @@ module _ (b : ℕ) (s : List ℕ) (l : List ℕ) (c : Stage) where
     ec : c ≡ last_line_check s 0
     ec = el ∙ last_as s end 0 on
 
-    pub columns_stop : (x : Fault) → c ≡ stage.Faulty x → Staged Read (Blocked b s) (after_columns s n vs) l (Faulty x)
+    pub columns_stop : (x : Fault) → c ≡ Err x → Staged Ok (Blocked b s) (after_columns s n vs) l (Err x)
     unfolding after_columns
-    columns_stop x q = staged_stops Faulty read_apart x (rw (← ec, q))
+    columns_stop x q = staged_stops Err read_apart x (rw (← ec, q))
 
-    module _ (q : c ≡ Passes) (r : Bed) (er : r ≡ bed_record n (length s) vs) (d : Stage) (ed : d ≡ span_check r vs) where
-      pub lines_stop : (x : Fault) → d ≡ stage.Faulty x → Staged Read (Blocked b s) (after_columns s n vs) l (Faulty x)
+    module _ (q : c ≡ (Ok tt)) (r : Bed) (er : r ≡ bed_record n (length s) vs) (d : Result ⊤ Fault) (ed : d ≡ span_check r vs) where
+      pub lines_stop : (x : Fault) → d ≡ Err x → Staged Ok (Blocked b s) (after_columns s n vs) l (Err x)
       unfolding after_columns
-      lines_stop x k = staged_stops Faulty read_apart x (rw (← ec, q, ← er, ← ed, k))
+      lines_stop x k = staged_stops Err read_apart x (rw (← ec, q, ← er, ← ed, k))
 
-      pub lines_on : (l' : List ℕ) (a : BedReading) → d ≡ Passes → Staged Read (Blocked b s) (after_spans s r) l' a → Staged Read (Blocked b s) (after_columns s n vs) l' a
+      pub lines_on : (l' : List ℕ) (a : Result Bed Fault) → d ≡ (Ok tt) → Staged Ok (Blocked b s) (after_spans s r) l' a → Staged Ok (Blocked b s) (after_columns s n vs) l' a
       unfolding after_columns
       lines_on l' a k h = staged_goes a (rw (← ec, q, ← er, ← ed, k)) h
 

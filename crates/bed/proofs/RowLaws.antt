@@ -11,7 +11,6 @@ use Rattle.ledger.specs.Limits.{name_limit, block_limit, largest_position}
 use Rattle.text.specs.Words.{word_at, word_count, bytes_of}
 use Rattle.text.specs.Pieces.{line_of, words_of}
 use Rattle.text.proofs.Laws.{either}
-use Rattle.numbers.specs.declared.Spelt.TheVariants.{Means}
 use Rattle.numbers.specs.Lists.{values_of}
 use Rattle.kinds.specs.declared.Range.{Range}
 use Rattle.kinds.specs.declared.Range.TheVariants.{Coordinate}
@@ -27,7 +26,6 @@ use Rattle.columns.proofs.WordLaws.{word_length}
 use Rattle.blocks.specs.Blocks.{blocks_fill, sums_from, sum_of, are_sums, all_between}
 use Rattle.blocks.proofs.RuleLaws.{between_is, fill_low, fill_shift, shifted_length, sums_made, sums_length, total_fits, wider}
 use Rattle.bed.specs.declared.Bed.{Bed}
-use Rattle.bed.specs.declared.BedAnswer.TheVariants.{Accepted}
 use Rattle.bed.specs.Columns as column
 use Rattle.bed.specs.Table.{bed_columns}
 use Rattle.bed.specs.Records.{bed_sizes, bed_starts, bed_targets, bed_queries}
@@ -36,6 +34,7 @@ use Rattle.bed.specs.Rules.{BedLine}
 use Rattle.bed.proofs.ColumnLaws.{least_words, by_number, block_sizes_lem}
 use Rattle.bed.proofs.AcceptLaws.{line_values, accepts_of, read_all, accepted_number, accepted_span, accepted_fills, accepted_count, accepted_starts}
 use Rattle.bed.proofs.LineLaws.{value_spelt, line_of_lem}
+use Rattle.std.specs.Prelude.{Ok}
 
 -- sums lie within a number that their total fits into
 sums_between : (most acc : ℕ) (zs : List ℕ) → acc + sum_of zs ≤ most → all_between 0 most (sums_from acc zs) ≡ true
@@ -56,7 +55,7 @@ pub record RowsObey (r : Bed) (ts qs zs : List ℕ) : Type 0 where
   pub query_range : all_between 0 largest_position qs ≡ true
   pub size_range : all_between 1 largest_position zs ≡ true
 
-module _ (s : List ℕ) (r : Bed) (ok : bed_check s ≡ Accepted r) where
+module _ (s : List ℕ) (r : Bed) (ok : bed_check s ≡ Ok r) where
   abbrev pub vs : List ℕ
   vs = firsts (line_values s)
 
@@ -66,7 +65,7 @@ module _ (s : List ℕ) (r : Bed) (ok : bed_check s ≡ Accepted r) where
   abbrev pub before : ℕ → ℕ
   before k = count_before (take (word_count s 0) bed_columns) 0 vs 0 k
 
-  pub value_says : (k : ℕ) → k < r.words → spelt (kind_at bed_columns k) (before k) (bytes_of s (word_at s 0 k)) ≡ Means (get_or vs k 0)
+  pub value_says : (k : ℕ) → k < r.words → spelt (kind_at bed_columns k) (before k) (bytes_of s (word_at s 0 k)) ≡ Ok (get_or vs k 0)
   value_says k h =
       let a = accepts_of s r ok in
       let l : k < word_count s 0 = omega (arith, line.words) in

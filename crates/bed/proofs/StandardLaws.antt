@@ -35,8 +35,6 @@ use Rattle.columns.proofs.PartLaws.{name_word}
 use Rattle.blocks.specs.Blocks.{subtracted}
 use Rattle.blocks.proofs.RuleLaws.{shifted_back}
 use Rattle.bed.specs.declared.Bed.{Bed}
-use Rattle.bed.specs.declared.BedAnswer.{BedAnswer}
-use Rattle.bed.specs.declared.BedAnswer.TheVariants.{Accepted}
 use Rattle.bed.specs.Columns as column
 use Rattle.bed.specs.Table.{bed_columns}
 use Rattle.bed.specs.Records.{bed_sizes, bed_starts, bed_targets}
@@ -49,6 +47,8 @@ use Rattle.bed.proofs.ColumnLaws.{most_words, by_number}
 use Rattle.bed.proofs.AcceptLaws.{line_values}
 use Rattle.bed.proofs.LineLaws.{line_of_lem}
 use Rattle.bed.proofs.RowLaws.{accepted_rows}
+use Rattle.std.specs.Prelude.{Ok, Result}
+use Rattle.ledger.specs.declared.Refusal.{Refusal}
 
 -- ---- words that spell values, by their number
 record SpeltSo (c : Kind) (w : List ℕ) (v : ℕ) (us : List ℕ) : Type 0 where
@@ -74,7 +74,7 @@ agree_same {ws = ws} {k = k} (agree_more {x = x} f t) (suc j) q h =
     (λ i. f l i ∷ r i) ∙ sym (drop-cons ws k [] l)
 
 -- ---- an accepted line
-module _ (s : List ℕ) (r : Bed) (ok : bed_check s ≡ Accepted r) where
+module _ (s : List ℕ) (r : Bed) (ok : bed_check s ≡ Ok r) where
   abbrev ws : List (List ℕ)
   ws = words_of (line_of s)
 
@@ -144,7 +144,7 @@ module _ (s : List ℕ) (r : Bed) (ok : bed_check s ≡ Accepted r) where
     standard_words = agree_same words_agree r.words (omega (arith, word_count_lem)) (omega (arith, most_words line.number, line.words))
 
 -- A LINE IN STANDARD FORM AND A FEED ARE ITS RECORD'S STANDARD TEXT: black is one digit, and the lists end with a comma
-pub standard_same : (s : List ℕ) (r : Bed) → bed_check s ≡ Accepted r → Plain s
+pub standard_same : (s : List ℕ) (r : Bed) → bed_check s ≡ Ok r → Plain s
     → (8 < r.words → r.itemRgb ≡ 0 → length (bytes_of s (word_at s 0 column.item_rgb)) ≡ 1)
     → (r.words ≡ column.all → last_byte 0 (bytes_of s (word_at s 0 column.block_sizes)) ≡ 44) → (r.words ≡ column.all → last_byte 0 (bytes_of s (word_at s 0 column.block_starts)) ≡ 44)
     → bed_text r (part_bytes s r.chrom) (part_bytes s r.name) (bed_targets s r) (bed_sizes s r) ≡ line_of s ++ (10 ∷ [])
@@ -170,7 +170,7 @@ word_after s j (suc k) =
     rw q (ap (λ (w : Extent). next_word s w.end) (word_after s j k))
 
 -- where the name of an accepted line ends
-module _ (s : List ℕ) (r : Bed) (ok : bed_check s ≡ Accepted r) (h : column.item_rgb < r.words) where
+module _ (s : List ℕ) (r : Bed) (ok : bed_check s ≡ Ok r) (h : column.item_rgb < r.words) where
   name_ends : r.name.start + r.name.length ≡ (word_at s 0 column.name).end
   unfolding end_of
   name_ends =
@@ -184,7 +184,7 @@ module _ (s : List ℕ) (r : Bed) (ok : bed_check s ≡ Accepted r) (h : column.
   pub rgb_word : (p : ℕ) (w : Extent) → p ≡ r.name.start + r.name.length → w ≡ word_at s p (column.item_rgb - column.name - 1) → w ≡ word_at s 0 column.item_rgb
   rgb_word p w e q = q ∙ ap (λ (i : ℕ). word_at s i (column.item_rgb - column.name - 1)) (e ∙ name_ends) ∙ word_after s column.name (column.item_rgb - column.name - 1)
 
-module _ (s : List ℕ) (r : Bed) (ok : bed_check s ≡ Accepted r) (h : column.item_rgb < r.words) (p : ℕ) (ep : p ≡ r.name.start + r.name.length) (rgb : Extent) (e4 : rgb ≡ word_at s p (column.item_rgb - column.name - 1)) (black : Bool) (eb : black ≡ (not (eqb r.itemRgb 0) || eqb (rgb.end - rgb.start) 1)) where
+module _ (s : List ℕ) (r : Bed) (ok : bed_check s ≡ Ok r) (h : column.item_rgb < r.words) (p : ℕ) (ep : p ≡ r.name.start + r.name.length) (rgb : Extent) (e4 : rgb ≡ word_at s p (column.item_rgb - column.name - 1)) (black : Bool) (eb : black ≡ (not (eqb r.itemRgb 0) || eqb (rgb.end - rgb.start) 1)) where
   e8 : rgb ≡ word_at s 0 column.item_rgb
   e8 = rgb_word s r ok h p rgb ep e4
 
@@ -207,12 +207,12 @@ module _ (s : List ℕ) (r : Bed) (ok : bed_check s ≡ Accepted r) (h : column.
       let w11 = word_next s 0 column.block_sizes sizes starts w10 e11 in
       record { black = λ l z. one_digit p.0 z; sizes = λ h. rw w10 at (fa q.0); starts = λ h. rw w11 at (fb q.1) }
 
-pub accepted_as : (s : List ℕ) (x : BedAnswer) (r : Bed) → x ≡ bed_check s → x ≡ Accepted r → bed_check s ≡ Accepted r
+pub accepted_as : (s : List ℕ) (x : Result Bed Refusal) (r : Bed) → x ≡ bed_check s → x ≡ Ok r → bed_check s ≡ Ok r
 accepted_as s x r ex e = sym ex ∙ e
 
-pub standard_of : (s : List ℕ) (x : BedAnswer) (r : Bed) (a b : Bool) → x ≡ bed_check s → x ≡ Accepted r → (a ≡ true → Tidied s r) → (b ≡ true → Plain s) → (a && b) ≡ true → Standard s
+pub standard_of : (s : List ℕ) (x : Result Bed Refusal) (r : Bed) (a b : Bool) → x ≡ bed_check s → x ≡ Ok r → (a ≡ true → Tidied s r) → (b ≡ true → Plain s) → (a && b) ≡ true → Standard s
 standard_of s x r a b ex e fa fb t =
     let p = both a b t in
-    let ok : bed_check s ≡ Accepted r = sym ex ∙ e in
+    let ok : bed_check s ≡ Ok r = sym ex ∙ e in
     let d = fa p.0 in
     record { bed = r; accepted = ok; same = standard_same s r ok (fb p.1) d.black d.sizes d.starts }

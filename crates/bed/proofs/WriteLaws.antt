@@ -11,14 +11,9 @@ use borrow.Author.Tests.{leb-true, eqb-true}
 use borrow.Rule.Slice.PartMut.{put_mid}
 use Rattle.ledger.specs.Limits.{name_limit, block_limit}
 use Rattle.ledger.specs.declared.Refusal.{Refusal}
-use Rattle.text.specs.declared.Check.{Check}
-use Rattle.text.specs.declared.Check.TheVariants.{Holds}
-use Rattle.text.specs.declared.Check.TheVariants as check
 use Rattle.text.proofs.StageLaws.{require_holds}
 use Rattle.text.proofs.TextLaws.{both}
 use Rattle.writing.specs.Answers.{Wrote}
-use Rattle.writing.specs.declared.Writing.{Writing}
-use Rattle.writing.specs.declared.Writing.TheVariants as writing
 use Rattle.kinds.proofs.SpellLaws.{part_stored}
 use Rattle.columns.specs.Columns.{table_of}
 use Rattle.columns.specs.Lines.{line_text, fed_line, words_from}
@@ -38,6 +33,7 @@ use Rattle.bed.specs.Tests.{if_there, names_fit, fields_fit, strand_fits}
 use Rattle.bed.specs.Write.{names_show, write_check, bed_words, bed_text, bed_write, BedWrote}
 use Rattle.bed.specs.Steps.{bed_values, RowsThere, ListsPut, Writable}
 use Rattle.bed.proofs.ColumnLaws.{bed_codes, codes_same, codes_few, count_most}
+use Rattle.std.specs.Prelude.{Ok, Err, Result, ⊤}
 
 -- the two lists of the blocks
 pub lists_put : (r : Bed) (ts zs l l₁ y : List ℕ) → RowsThere r ts zs l → l₁ ≡ sets l 0 (take r.blockCount zs)
@@ -72,7 +68,7 @@ module _ (r : Bed) (chrom name ts zs t l : List ℕ) (names : NamesPut chrom nam
     words_are,
   )
 
-  pub text_wrote : (vs b b' : List ℕ) (x : Writing) → vs ≡ bed_values r (length chrom) (length name) → r.words ≤ column.all → Wrote (fed_line (table_of (take r.words bed_codes)) 9 t vs l) b b' x → Wrote (bed_text r chrom name ts zs) b b' x
+  pub text_wrote : (vs b b' : List ℕ) (x : Result ℕ Refusal) → vs ≡ bed_values r (length chrom) (length name) → r.words ≤ column.all → Wrote (fed_line (table_of (take r.words bed_codes)) 9 t vs l) b b' x → Wrote (bed_text r chrom name ts zs) b b' x
   text_wrote vs b b' x ev h w = rw (ev, text_is h) at w
 
 -- what the stages ask of a record that passed the checks
@@ -94,7 +90,7 @@ name_short n m h = go (ltb column.name n) h
     go false k = omega (arith, eqb-true m 0 k)
 
 -- a record that passes the checks can be written
-pub check_writable : (r : Bed) (chrom name ts qs zs : List ℕ) → write_check r chrom name ts qs zs ≡ Holds → Writable r chrom name ts zs
+pub check_writable : (r : Bed) (chrom name ts qs zs : List ℕ) → write_check r chrom name ts qs zs ≡ (Ok tt) → Writable r chrom name ts zs
 unfolding write_check names_show names_fit fields_fit
 check_writable r chrom name ts qs zs e =
     let a = require_holds _ _ _ e in
@@ -116,14 +112,14 @@ check_writable r chrom name ts qs zs e =
     }
 
 -- the writer: the checks, then the text
-module _ (r : Bed) (chrom name ts qs zs b : List ℕ) (c : Check) (ec : c ≡ write_check r chrom name ts qs zs) where
-  pub write_refused : (x : Refusal) → c ≡ check.Refused x → BedWrote r chrom name ts qs zs b b (writing.Refused x)
+module _ (r : Bed) (chrom name ts qs zs b : List ℕ) (c : Result ⊤ Refusal) (ec : c ≡ write_check r chrom name ts qs zs) where
+  pub write_refused : (x : Refusal) → c ≡ Err x → BedWrote r chrom name ts qs zs b b (Err x)
   unfolding bed_write
   write_refused x q = record { is = rw (← ec, q); left = refl }
 
-  pub write_ready : c ≡ Holds → Writable r chrom name ts zs
+  pub write_ready : c ≡ (Ok tt) → Writable r chrom name ts zs
   write_ready q = check_writable r chrom name ts qs zs (sym ec ∙ q)
 
-  pub write_wrote : (b' : List ℕ) (x : Writing) → c ≡ Holds → Wrote (bed_text r chrom name ts zs) b b' x → BedWrote r chrom name ts qs zs b b' x
+  pub write_wrote : (b' : List ℕ) (x : Result ℕ Refusal) → c ≡ (Ok tt) → Wrote (bed_text r chrom name ts zs) b b' x → BedWrote r chrom name ts qs zs b b' x
   unfolding bed_write
   write_wrote b' x q h = record { is = rw (← ec, q) h.is; left = h.left }

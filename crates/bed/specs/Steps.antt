@@ -1,5 +1,5 @@
 -- For private contracts: what the steps of reading and writing a BED line promise. Not a definition of the format.
-use Rattle.std.specs.Prelude.{ℕ, ◌-◌, ◌*◌, ◌≤◌, ◌<◌, ◌≡◌, Bool, true, ◌&&◌, cond, List, [], ◌∷◌, length, take, drop, set, leb, eqb}
+use Rattle.std.specs.Prelude.{ℕ, ◌-◌, ◌*◌, ◌≤◌, ◌<◌, ◌≡◌, Bool, true, ◌&&◌, cond, List, [], ◌∷◌, length, take, drop, set, leb, eqb, Ok, Result}
 use Rattle.ledger.specs.Limits.{name_limit, block_limit, largest_position}
 use Rattle.ledger.specs.Strands.{strand_letter}
 use Rattle.text.specs.Steps.{Staged}
@@ -10,11 +10,10 @@ use Rattle.blocks.specs.Blocks.{blocks_fill, rows_of, subtracted}
 use Rattle.blocks.specs.Readers.{RowsRead}
 use Rattle.bed.specs.declared.Bed.{Bed}
 use Rattle.bed.specs.declared.Sure.{Sure}
-use Rattle.bed.specs.declared.BedReading.{BedReading}
-use Rattle.bed.specs.declared.BedReading.TheVariants.{Read}
 use Rattle.bed.specs.Columns as column
 use Rattle.bed.specs.Records.{is_word_count, value_or, bed_sizes, bed_starts, bed_targets, bed_queries}
 use Rattle.bed.specs.Read.{on_reading, bed_room}
+use Rattle.ledger.specs.declared.Fault.{Fault}
 
 -- ---- reading
 -- working room for two lists of b numbers each: with the one block of a line without block columns
@@ -48,8 +47,8 @@ is_few n vs = is_word_count n && leb (value_or n vs column.block_count 1) few_bl
 
 -- what the quick way promises: where it is sure, its reading is the line's, and the blocks of a line that was read are in its
 -- working room
-pub record QuickStaged (s : List ℕ) (answer : BedReading) (lists' : List ℕ) (x : Sure) : Type 0 where
-  pub staged : x.sure ≡ true → Staged Read (Blocked few_blocks s) answer lists' x.reading
+pub record QuickStaged (s : List ℕ) (answer : Result Bed Fault) (lists' : List ℕ) (x : Sure) : Type 0 where
+  pub staged : x.sure ≡ true → Staged Ok (Blocked few_blocks s) answer lists' x.reading
 
 -- a read line's blocks in the working room, and that they fill its span: before the rows are stored
 pub record Stored (b : ℕ) (s : List ℕ) (r : Bed) (lists : List ℕ) : Type 0 where
@@ -59,7 +58,7 @@ pub record Stored (b : ℕ) (s : List ℕ) (r : Bed) (lists : List ℕ) : Type 0
   pub high : r.chromEnd ≤ largest_position
 
 -- what storing the rows of a reading promises
-abbrev pub RowsStored : BedReading → List ℕ → List ℕ → List ℕ → List ℕ → List ℕ → List ℕ → List ℕ → BedReading → Type 0
+abbrev pub RowsStored : Result Bed Fault → List ℕ → List ℕ → List ℕ → List ℕ → List ℕ → List ℕ → List ℕ → Result Bed Fault → Type 0
 RowsStored staged s ts ts' qs qs' zs zs' x =
     RowsRead on_reading (bed_room s (rows_of ts qs zs) staged) (bed_targets s) (bed_queries s) (bed_sizes s) ts ts' qs qs' zs zs' x
 

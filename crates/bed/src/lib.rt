@@ -1,15 +1,13 @@
 // One BED line: reader, text checker, record checker, writer, over three flat slices of blocks.
 #![tactic(auto)]
 
-ghost use Rattle.std.specs.Prelude.{◌≡◌, true, false, ◌*◌, length, take};
+ghost use Rattle.std.specs.Prelude.{◌≡◌, true, false, ◌*◌, length, take, Ok};
 ghost use Rattle.ledger.specs.Limits.{block_limit};
 ghost use Rattle.writing.specs.Answers.{Wrote};
 ghost use Rattle.text.specs.Words.{line_end, bytes_of};
 ghost use Rattle.text.specs.Steps.{Staged};
 ghost use Rattle.numbers.specs.Lists.{last_byte};
 ghost use Rattle.columns.specs.Columns.{few_blocks};
-ghost use Rattle.bed.specs.declared.BedReading.TheVariants.{Read};
-ghost use Rattle.bed.specs.declared.BedAnswer.TheVariants.{Accepted};
 ghost use Rattle.bed.specs.Records.{is_word_count, value_or, place_or, bed_record};
 ghost use Rattle.bed.specs.Tests.{if_there, names_fit, is_dot, strand_fits, fields_fit, spans_fit, rows_fit, bed_valid};
 ghost use Rattle.bed.specs.Standard.{Standard};
@@ -19,10 +17,8 @@ ghost use Rattle.bed.specs.Read.{after_spans, after_columns, after_words, after_
 ghost use Rattle.bed.specs.Steps.{with_default, Counted, Listed, Blocked, is_few, QuickStaged, Stored, RowsStored};
 ghost use Rattle.bed.specs.Steps.{Tidied, bed_values, RowsThere, ListsPut, Writable};
 
-use columns::Columns;
 use ledger::{Fault, Part, Reason, Refusal, Strand};
-use text::{Check, Extent, Stage};
-use writing::Writing;
+use text::Extent;
 
 // The record of a BED line. A name is a part of the text; a colour is one number, (red × 256 + green) × 256 + blue.
 #[derive(Clone, Copy)]
@@ -38,20 +34,6 @@ pub struct Bed {
     pub thickEnd: u64,
     pub itemRgb: u64,
     pub blockCount: u64,
-}
-
-// What the stages of reading a line find.
-#[derive(Clone, Copy)]
-pub enum BedReading {
-    Read(Bed),
-    Faulty(Fault),
-}
-
-// What a caller is told.
-#[derive(Clone, Copy)]
-pub enum BedAnswer {
-    Accepted(Bed),
-    Refused(Refusal),
 }
 
 // The columns by their number.
@@ -176,7 +158,7 @@ fn thick_place(values: &[u64], n: u64) -> usize
 }
 
 // The spans (7).
-fn check_spans(r: Bed, values: &[u64]) -> Stage
+fn check_spans(r: Bed, values: &[u64]) -> Result<(), Fault>
     ensures { result ≡ span_check r values.now }
 {
     let end = columns::place_of(values, CHROM_END) as usize;
@@ -184,7 +166,7 @@ fn check_spans(r: Bed, values: &[u64]) -> Stage
         thick_fits(r),
         Reason::SpanDisagrees,
         thick_place(values, r.words),
-        Stage::Passes,
+        Ok(()),
     );
     text::require(r.chromStart < r.chromEnd, Reason::SpanDisagrees, end, thick)
 }
@@ -201,7 +183,7 @@ fn default_block(r: Bed, b: usize, lists: &mut [u64])
 }
 
 // The blocks (9).
-fn check_blocks(text: &[u8], r: Bed, b: usize, lists: &[u64]) -> Stage
+fn check_blocks(text: &[u8], r: Bed, b: usize, lists: &[u64]) -> Result<(), Fault>
     requires { Blocked b text.now r lists.now }
     ensures { result ≡ block_check text.now r }
 {
@@ -210,20 +192,18 @@ fn check_blocks(text: &[u8], r: Bed, b: usize, lists: &[u64]) -> Stage
         blocks::blocks_fill(&lists[b..], lists, r.blockCount as usize, 0, span),
         Reason::BlockRules,
         text.len(),
-        Stage::Passes,
+        Ok(()),
     )
 }
 
 // The default block, then the blocks.
-fn after_spans(text: &[u8], r: Bed, b: usize, lists: &mut [u64]) -> BedReading
+fn after_spans(text: &[u8], r: Bed, b: usize, lists: &mut [u64]) -> Result<Bed, Fault>
     requires { Listed b text.now r lists.old }
-    ensures { Staged Read (Blocked b text.now) (after_spans text.now r) lists.new result }
+    ensures { Staged Ok (Blocked b text.now) (after_spans text.now r) lists.new result }
 {
     default_block(r, b, lists);
-    match check_blocks(text, r, b, lists) {
-        Stage::Faulty(x) => BedReading::Faulty(x),
-        Stage::Passes => BedReading::Read(r),
-    }
+    check_blocks(text, r, b, lists)?;
+    Ok(r)
 }
 
 // A surplus line, the spans, and on; the columns end on the line of a place.
@@ -234,66 +214,56 @@ fn after_columns(
     values: &[u64],
     b: usize,
     lists: &mut [u64],
-) -> BedReading
+) -> Result<Bed, Fault>
     requires { Listed b text.now (bed_record n (length text.now) values.now) lists.old
         × (line_end text.now end ≡ line_end text.now 0) }
-    ensures { Staged Read (Blocked b text.now) (after_columns text.now n values.now) lists.new result }
+    ensures { Staged Ok (Blocked b text.now) (after_columns text.now n values.now) lists.new result }
 {
-    match text::check_last_line(text, end) {
-        Stage::Faulty(x) => BedReading::Faulty(x),
-        Stage::Passes => {
-            let r = record_of(values, n, text.len());
-            match check_spans(r, values) {
-                Stage::Faulty(x) => BedReading::Faulty(x),
-                Stage::Passes => after_spans(text, r, b, lists),
-            }
-        }
-    }
+    text::check_last_line(text, end)?;
+    let r = record_of(values, n, text.len());
+    check_spans(r, values)?;
+    after_spans(text, r, b, lists)
 }
 
 // Room for a record's blocks.
 const BLOCKS: usize = ledger::BLOCK_LIMIT as usize;
 
 // The columns from the left, and on.
-fn after_words(text: &[u8], n: usize, lists: &mut [u64]) -> BedReading
+fn after_words(text: &[u8], n: usize, lists: &mut [u64]) -> Result<Bed, Fault>
     requires { Counted text.now n lists.old }
-    ensures { Staged Read (Blocked block_limit text.now) (after_words text.now n) lists.new result }
+    ensures { Staged Ok (Blocked block_limit text.now) (after_words text.now n) lists.new result }
 {
     let table = BED;
     let mut values = [0u64; VALUES];
-    match columns::walk_line(text, 0, &table[..n], &mut values, lists) {
-        Columns::Faulty(x) => BedReading::Faulty(x),
-        Columns::Next(e) => after_columns(text, e, n as u64, &values, BLOCKS, lists),
-    }
+    let e = columns::walk_line(text, 0, &table[..n], &mut values, lists)?;
+    after_columns(text, e, n as u64, &values, BLOCKS, lists)
 }
 
 // A text of more bytes is likely to have all 12 columns.
 pub const LONG: usize = 256;
 
 // The number of words, and on.
-fn after_text(text: &[u8], lists: &mut [u64]) -> BedReading
+fn after_text(text: &[u8], lists: &mut [u64]) -> Result<Bed, Fault>
     requires { length lists.old ≡ 2 * block_limit }
-    ensures { Staged Read (Blocked block_limit text.now) (after_text text.now) lists.new result }
+    ensures { Staged Ok (Blocked block_limit text.now) (after_text text.now) lists.new result }
 {
     let n = text::count_words(text, 0);
-    match text::check_words(text, 0, n, COLUMNS, is_word_count(n as u64)) {
-        Stage::Faulty(x) => BedReading::Faulty(x),
-        Stage::Passes => after_words(text, n, lists),
-    }
+    text::check_words(text, 0, n, COLUMNS, is_word_count(n as u64))?;
+    after_words(text, n, lists)
 }
 
 // The same of a text that is likely to have all 12 columns: a good walk over them that no word follows needs no count.
-fn after_long(text: &[u8], lists: &mut [u64]) -> BedReading
+fn after_long(text: &[u8], lists: &mut [u64]) -> Result<Bed, Fault>
     requires { length lists.old ≡ 2 * block_limit }
-    ensures { Staged Read (Blocked block_limit text.now) (after_text text.now) lists.new result }
+    ensures { Staged Ok (Blocked block_limit text.now) (after_text text.now) lists.new result }
 {
     let table = BED;
     let mut values = [0u64; VALUES];
     match columns::walk_words(text, &table, &mut values, lists) {
-        Columns::Next(e) => after_columns(text, e, COLUMNS as u64, &values, BLOCKS, lists),
-        Columns::Faulty(x) => {
+        Ok(e) => after_columns(text, e, COLUMNS as u64, &values, BLOCKS, lists),
+        Err(x) => {
             if text::count_words(text, 0) == COLUMNS {
-                return BedReading::Faulty(x);
+                return Err(x);
             }
             after_text(text, lists)
         }
@@ -301,19 +271,15 @@ fn after_long(text: &[u8], lists: &mut [u64]) -> BedReading
 }
 
 // All checks of a text, the blocks of an accepted line in the working room.
-fn stage(text: &[u8], lists: &mut [u64]) -> BedReading
+fn stage(text: &[u8], lists: &mut [u64]) -> Result<Bed, Fault>
     requires { length lists.old ≡ 2 * block_limit }
-    ensures { Staged Read (Blocked block_limit text.now) (bed_stages text.now) lists.new result }
+    ensures { Staged Ok (Blocked block_limit text.now) (bed_stages text.now) lists.new result }
 {
-    match text::check_text(text) {
-        Stage::Faulty(x) => BedReading::Faulty(x),
-        Stage::Passes => {
-            if LONG < text.len() {
-                return after_long(text, lists);
-            }
-            after_text(text, lists)
-        }
+    text::check_text(text)?;
+    if LONG < text.len() {
+        return after_long(text, lists);
     }
+    after_text(text, lists)
 }
 
 // Working room for the sizes and the starts of a record's blocks.
@@ -326,7 +292,7 @@ fn working_room() -> [u64; ROOM]
 }
 
 // All checks of a text, with room for any record's blocks.
-fn check_long(text: &[u8]) -> BedReading
+fn check_long(text: &[u8]) -> Result<Bed, Fault>
     ensures { result ≡ bed_stages text.now }
 {
     let mut lists = working_room();
@@ -337,13 +303,13 @@ fn check_long(text: &[u8]) -> BedReading
 #[derive(Clone, Copy)]
 pub struct Sure {
     pub sure: bool,
-    pub reading: BedReading,
+    pub reading: Result<Bed, Fault>,
 }
 
 fn unsure() -> Sure
     ensures { result.sure ≡ false }
 {
-    let reading = BedReading::Faulty(Fault {
+    let reading = Err(Fault {
         reason: Reason::WrongCount,
         place: 0,
     });
@@ -390,8 +356,8 @@ fn quick(text: &[u8], lists: &mut [u64]) -> Sure
         return unsure();
     }
     match text::check_text(text) {
-        Stage::Faulty(_) => unsure(),
-        Stage::Passes => quick_line(text, lists),
+        Err(_) => unsure(),
+        Ok(()) => quick_line(text, lists),
     }
 }
 
@@ -405,17 +371,17 @@ fn few_room() -> [u64; FEW_ROOM]
 }
 
 // A reading, as its caller is told.
-fn answered(x: BedReading) -> BedAnswer
+fn answered(x: Result<Bed, Fault>) -> Result<Bed, Refusal>
     ensures { result ≡ bed_answer x }
 {
     match x {
-        BedReading::Read(r) => BedAnswer::Accepted(r),
-        BedReading::Faulty(y) => BedAnswer::Refused(Refusal::at(y)),
+        Ok(r) => Ok(r),
+        Err(y) => Err(Refusal::at(y)),
     }
 }
 
 // THE TEXT CHECKER: what the reader answers, given room.
-pub fn check_bed_text(text: &[u8]) -> BedAnswer
+pub fn check_bed_text(text: &[u8]) -> Result<Bed, Refusal>
     ensures { result ≡ bed_check text.now }
 {
     let mut lists = few_room();
@@ -445,7 +411,7 @@ const AFTER_NAME: usize = ITEM_RGB - NAME - 1;
 
 // Whether the words of a line with more than one spelling have the standard one: black is one digit, and lists end with a comma.
 fn is_tidy(text: &[u8], r: Bed) -> bool
-    requires { bed_check text.now ≡ Accepted r }
+    requires { bed_check text.now ≡ Ok r }
     ensures { result ≡ true → Tidied text.now r }
 {
     if r.words <= ITEM_RGB as u64 {
@@ -468,8 +434,8 @@ pub fn is_standard(text: &[u8]) -> bool
     ensures { result ≡ true → Standard text.now }
 {
     match check_bed_text(text) {
-        BedAnswer::Refused(_) => false,
-        BedAnswer::Accepted(r) => is_tidy(text, r) & text::is_plain(text),
+        Err(_) => false,
+        Ok(r) => is_tidy(text, r) & text::is_plain(text),
     }
 }
 
@@ -482,15 +448,15 @@ fn store_rows(
     targets: &mut [u64],
     queries: &mut [u64],
     sizes: &mut [u64],
-) -> BedReading
+) -> Result<Bed, Fault>
     requires { Stored b text.now r lists.now }
-    ensures { RowsStored (Read r) text.now targets.old targets.new queries.old
+    ensures { RowsStored (Ok r) text.now targets.old targets.new queries.old
         queries.new sizes.old sizes.new result }
 {
     let room = blocks::rows_of(targets, queries, sizes);
     let count = r.blockCount as usize;
     if room < count {
-        return BedReading::Faulty(Fault {
+        return Err(Fault {
             reason: Reason::NoRoom,
             place: text.len(),
         });
@@ -498,31 +464,29 @@ fn store_rows(
     blocks::put_shifted(&lists[b..], count, r.chromStart, targets);
     blocks::put_sums(lists, count, queries);
     blocks::copy_numbers(lists, count, sizes);
-    BedReading::Read(r)
+    Ok(r)
 }
 
 // The rows of a line that was read, from the working room to the lent slices.
 fn hand_over(
     text: &[u8],
-    reading: BedReading,
+    reading: Result<Bed, Fault>,
     b: usize,
     lists: &[u64],
     targets: &mut [u64],
     queries: &mut [u64],
     sizes: &mut [u64],
-) -> BedReading
-    requires { Staged Read (Blocked b text.now) (bed_stages text.now) lists.now reading }
+) -> Result<Bed, Fault>
+    requires { Staged Ok (Blocked b text.now) (bed_stages text.now) lists.now reading }
     ensures { RowsStored (bed_stages text.now) text.now targets.old targets.new
         queries.old queries.new sizes.old sizes.new result }
 {
-    match reading {
-        BedReading::Faulty(x) => BedReading::Faulty(x),
-        BedReading::Read(r) => store_rows(text, r, b, lists, targets, queries, sizes),
-    }
+    let r = reading?;
+    store_rows(text, r, b, lists, targets, queries, sizes)
 }
 
 // The reader with room for any record's blocks.
-fn read_long(text: &[u8], targets: &mut [u64], queries: &mut [u64], sizes: &mut [u64]) -> BedReading
+fn read_long(text: &[u8], targets: &mut [u64], queries: &mut [u64], sizes: &mut [u64]) -> Result<Bed, Fault>
     ensures { RowsStored (bed_stages text.now) text.now targets.old targets.new
         queries.old queries.new sizes.old sizes.new result }
 {
@@ -538,7 +502,7 @@ pub fn read_bed(
     targets: &mut [u64],
     queries: &mut [u64],
     sizes: &mut [u64],
-) -> BedAnswer
+) -> Result<Bed, Refusal>
     ensures { BedRead text.now targets.old targets.new queries.old
         queries.new sizes.old sizes.new result }
 {
@@ -640,13 +604,13 @@ fn record_fits(r: Bed, targets: &[u64], queries: &[u64], sizes: &[u64]) -> bool
 }
 
 // THE RECORD CHECKER: a record with the first blockCount rows of three slices; any breach is 9.
-pub fn check_bed(r: Bed, targets: &[u64], queries: &[u64], sizes: &[u64]) -> Check
+pub fn check_bed(r: Bed, targets: &[u64], queries: &[u64], sizes: &[u64]) -> Result<(), Refusal>
     ensures { result ≡ record_check r targets.now queries.now sizes.now }
 {
     text::demand(
         record_fits(r, targets, queries, sizes),
         Reason::BlockRules,
-        Check::Holds,
+        Ok(()),
     )
 }
 
@@ -666,7 +630,7 @@ fn check_write(
     targets: &[u64],
     queries: &[u64],
     sizes: &[u64],
-) -> Check
+) -> Result<(), Refusal>
     ensures { result ≡ write_check r chrom.now name.now targets.now queries.now sizes.now }
 {
     let count = r.blockCount as usize;
@@ -674,7 +638,7 @@ fn check_write(
     let blocks = text::demand(
         rows_fit(r, targets, queries, sizes, count),
         Reason::BlockRules,
-        Check::Holds,
+        Ok(()),
     );
     let spans = text::demand(spans_fit(r), Reason::SpanDisagrees, blocks);
     let numbers = text::demand(
@@ -747,7 +711,7 @@ fn write_text(
     targets: &[u64],
     sizes: &[u64],
     buf: &mut [u8],
-) -> Writing
+) -> Result<usize, Refusal>
     requires { Writable r chrom.now name.now targets.now sizes.now }
     ensures { Wrote (bed_text r chrom.now name.now targets.now sizes.now)
         buf.old buf.new result }
@@ -772,12 +736,10 @@ pub fn write_bed(
     queries: &[u64],
     sizes: &[u64],
     buf: &mut [u8],
-) -> Writing
+) -> Result<usize, Refusal>
     ensures { BedWrote r chrom.now name.now targets.now queries.now
         sizes.now buf.old buf.new result }
 {
-    match check_write(r, chrom, name, targets, queries, sizes) {
-        Check::Refused(x) => Writing::Refused(x),
-        Check::Holds => write_text(r, chrom, name, targets, sizes, buf),
-    }
+    check_write(r, chrom, name, targets, queries, sizes)?;
+    write_text(r, chrom, name, targets, sizes, buf)
 }

@@ -11,7 +11,6 @@ use borrow.Author.Tests.{lt-ltb, le-ltb, eqb-true, eq-eqb, ne_eqb}
 use Rattle.ledger.specs.Limits.{text_limit, largest_position}
 use Rattle.text.proofs.CheckLaws.{fed_allowed, fed_line_lem}
 use Rattle.text.specs.declared.Class.TheVariants.{Allowed}
-use Rattle.text.specs.declared.Check.TheVariants.{Holds}
 use Rattle.text.specs.Scan.{run}
 use Rattle.text.specs.Parts.{part_bytes}
 use Rattle.text.specs.Pieces.{lines_of, line_of, words_of}
@@ -26,7 +25,6 @@ use Rattle.blocks.specs.Blocks.{order_from, blocks_fill, sums_from, shifted, sub
 use Rattle.blocks.specs.Rules.{Fills}
 use Rattle.blocks.proofs.RuleLaws.{fills_of, fill_low, fill_shift, back_shifted, sums_only, subtracted_length}
 use Rattle.bed.specs.declared.Bed.{Bed}
-use Rattle.bed.specs.declared.BedAnswer.TheVariants.{Accepted}
 use Rattle.bed.specs.Columns as column
 use Rattle.bed.specs.Table.{bed_columns}
 use Rattle.bed.specs.Records.{bed_sizes, bed_starts, bed_targets, bed_queries}
@@ -38,6 +36,7 @@ use Rattle.bed.proofs.ReadLaws.{read_roomy}
 use Rattle.bed.proofs.LineLaws.{listed_sizes, listed_starts, span_size, span_start}
 use Rattle.bed_laws.proofs.ExactLaws.{line_is}
 use Rattle.bed_laws.proofs.BackWordLaws.{MayWrite, may_write, word_values, sizes_between, starts_between, words_spell, words_worded}
+use Rattle.std.specs.Prelude.{Ok}
 
 no_bytes : (xs : List ℕ) → length xs ≡ 0 → [] ≡ xs
 no_bytes [] e = refl
@@ -210,14 +209,14 @@ module _ (r : Bed) (chrom name ts qs zs : List ℕ) (ok : MayWrite r chrom name 
       }
 
 -- THE ROUND TRIP: the writer's checks hold, and the text is short enough
-module _ (r : Bed) (chrom name ts qs zs : List ℕ) (ok : write_check r chrom name ts qs zs ≡ Holds) (short : length (bed_text r chrom name ts zs) ≤ text_limit) where
+module _ (r : Bed) (chrom name ts qs zs : List ℕ) (ok : write_check r chrom name ts qs zs ≡ (Ok tt)) (short : length (bed_text r chrom name ts zs) ≤ text_limit) where
   abbrev text : List ℕ
   text = bed_text r chrom name ts zs
 
   may : MayWrite r chrom name ts qs zs
   may = may_write r chrom name ts qs zs ok
 
-  pub back_check : bed_check text ≡ Accepted (placed text r)
+  pub back_check : bed_check text ≡ Ok (placed text r)
   back_check = line_is text (placed text r) _ _ _ _ (line_read r chrom name ts qs zs may short)
 
   pub back_chrom : part_bytes text (placed text r).chrom ≡ chrom
@@ -237,6 +236,6 @@ module _ (r : Bed) (chrom name ts qs zs : List ℕ) (ok : write_check r chrom na
   back_queries = queries_read r chrom name ts qs zs may
 
   -- and with room for its blocks the text is read
-  pub back_read : (room : ℕ) → r.blockCount ≤ room → bed_read text room ≡ Accepted (placed text r)
+  pub back_read : (room : ℕ) → r.blockCount ≤ room → bed_read text room ≡ Ok (placed text r)
   unfolding placed
   back_read room h = read_roomy text (placed text r) room back_check h

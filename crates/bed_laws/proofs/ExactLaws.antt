@@ -9,7 +9,6 @@ use Rattle.ledger.specs.declared.Part.{Part}
 use Rattle.ledger.specs.declared.Strand.TheVariants.{Dot}
 use Rattle.ledger.specs.Strands.{strand_letter}
 use Rattle.ledger.specs.Parts.{part_at}
-use Rattle.text.specs.declared.Stage.TheVariants.{Passes}
 use Rattle.text.specs.Words.{word_at, word_count}
 use Rattle.text.proofs.Laws.{either}
 use Rattle.text.proofs.CheckLaws.{words_good, text_is, one_is}
@@ -24,7 +23,6 @@ use Rattle.columns.proofs.WordLaws.{strand_is_lem}
 use Rattle.blocks.specs.Rules.{Fills}
 use Rattle.blocks.proofs.RuleLaws.{fills_is}
 use Rattle.bed.specs.declared.Bed.{Bed}
-use Rattle.bed.specs.declared.BedAnswer.TheVariants.{Accepted}
 use Rattle.bed.specs.Columns as column
 use Rattle.bed.specs.Table.{bed_columns}
 use Rattle.bed.specs.Records.{is_word_count, value_or, place_or, bed_record, bed_sizes, bed_starts}
@@ -34,17 +32,18 @@ use Rattle.bed.proofs.ReadLaws.{value_there, value_left}
 use Rattle.bed.proofs.ColumnLaws.{number_is, most_words, least_words}
 use Rattle.bed.proofs.AcceptLaws.{line_values, Accepts, accepts_is, sizes_count, starts_count}
 use Rattle.bed.proofs.LineLaws.{name_part, listed_sizes, listed_starts, span_size, span_start}
+use Rattle.std.specs.Prelude.{Ok}
 
 -- the number of words
-words_is : (s : List ℕ) (n : ℕ) → WordNumber n → bed_words_check s n ≡ Passes
+words_is : (s : List ℕ) (n : ℕ) → WordNumber n → bed_words_check s n ≡ (Ok tt)
 words_is s n w = sym (words_good s 0 n column.all (is_word_count n) (most_words w) (number_is w))
 
 -- the spans and the blocks
-span_is : (r : Bed) (vs : List ℕ) → r.chromStart < r.chromEnd → r.chromStart ≤ r.thickStart → r.thickStart ≤ r.thickEnd → r.thickEnd ≤ r.chromEnd → span_check r vs ≡ Passes
+span_is : (r : Bed) (vs : List ℕ) → r.chromStart < r.chromEnd → r.chromStart ≤ r.thickStart → r.thickStart ≤ r.thickEnd → r.thickEnd ≤ r.chromEnd → span_check r vs ≡ (Ok tt)
 unfolding span_check
 span_is r vs h a b c = rw (lt-ltb r.chromStart r.chromEnd h, le-leb r.chromStart r.thickStart a, le-leb r.thickStart r.thickEnd b, le-leb r.thickEnd r.chromEnd c)
 
-block_is_lem : (s : List ℕ) (r : Bed) → length (bed_starts s r) ≡ r.blockCount → length (bed_sizes s r) ≡ r.blockCount → Fills 0 (r.chromEnd - r.chromStart) r.blockCount (bed_starts s r) (bed_sizes s r) → block_check s r ≡ Passes
+block_is_lem : (s : List ℕ) (r : Bed) → length (bed_starts s r) ≡ r.blockCount → length (bed_sizes s r) ≡ r.blockCount → Fills 0 (r.chromEnd - r.chromStart) r.blockCount (bed_starts s r) (bed_sizes s r) → block_check s r ≡ (Ok tt)
 unfolding block_check
 block_is_lem s r a b f = rw (fills_is 0 (r.chromEnd - r.chromStart) r.blockCount (bed_starts s r) (bed_sizes s r) a b f)
 
@@ -134,5 +133,5 @@ module _ (s : List ℕ) (r : Bed) (vs : List ℕ) (ls : List (List ℕ)) (starts
         blocks = block_is_lem s r some each (rw (line_starts, line_sizes) at line.blocks);
       }
 
-pub line_is : (s : List ℕ) (r : Bed) (vs : List ℕ) (ls : List (List ℕ)) (starts sizes : List ℕ) → BedLine s vs ls r starts sizes → bed_check s ≡ Accepted r
+pub line_is : (s : List ℕ) (r : Bed) (vs : List ℕ) (ls : List (List ℕ)) (starts sizes : List ℕ) → BedLine s vs ls r starts sizes → bed_check s ≡ Ok r
 line_is s r vs ls starts sizes line = accepts_is s r (line_accepts s r vs ls starts sizes line)

@@ -12,7 +12,6 @@ use Rattle.kinds.specs.declared.Range.TheVariants.{Coordinate, BedScore}
 use Rattle.kinds.proofs.RangeLaws.{colour_spelt}
 use Rattle.blocks.proofs.RuleLaws.{fills_of, sums_of, ranged_of}
 use Rattle.bed.specs.declared.Bed.{Bed}
-use Rattle.bed.specs.declared.BedAnswer.TheVariants.{Accepted}
 use Rattle.bed.specs.Columns as column
 use Rattle.bed.specs.Table.{bed_columns}
 use Rattle.bed.specs.Records.{bed_sizes, bed_targets, bed_queries}
@@ -23,8 +22,9 @@ use Rattle.bed.proofs.AcceptLaws.{accepted_number}
 use Rattle.bed.proofs.LineLaws.{line_of_lem}
 use Rattle.bed.proofs.RowLaws.{vs, before, value_says, number_at_lem, name_at, some_words, accepted_end, accepted_rows}
 use Rattle.bed_laws.proofs.RuleLaws.{rules_is}
+use Rattle.std.specs.Prelude.{Ok}
 
-module _ (s : List ℕ) (r : Bed) (ok : bed_check s ≡ Accepted r) where
+module _ (s : List ℕ) (r : Bed) (ok : bed_check s ≡ Ok r) where
   -- THE RULES OF A RECORD, ONE BY ONE
   pub accepted_rules : BedRules r (bed_targets s r) (bed_queries s r) (bed_sizes s r)
   unfolding bed_columns

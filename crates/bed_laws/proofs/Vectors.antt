@@ -7,7 +7,6 @@ use lib.ListN.{length}
 use Rattle.ledger.specs.declared.Strand.TheVariants.{Plus, Dot}
 use Rattle.ledger.specs.Limits.{text_limit}
 use Rattle.ledger.specs.Parts.{part_at}
-use Rattle.text.specs.declared.Check.TheVariants.{Holds}
 use Rattle.text.specs.Scan.{run, end_of}
 use Rattle.text.specs.Parts.{part_bytes}
 use Rattle.text.specs.Pieces.{pieces_of, non_empty, words_of, line_of, joined, Plain}
@@ -17,7 +16,6 @@ use Rattle.writing.specs.Digits.{digits_in, digits, list_text}
 use Rattle.kinds.specs.Words.{colour_text}
 use Rattle.blocks.specs.Blocks.{order_from, blocks_fill, are_sums, all_between, subtracted, row_numbers_fit}
 use Rattle.bed.specs.declared.Bed.{Bed}
-use Rattle.bed.specs.declared.BedAnswer.TheVariants.{Accepted}
 use Rattle.bed.specs.Columns as column
 use Rattle.bed.specs.Records.{bed_targets}
 use Rattle.bed.specs.Read.{bed_read}
@@ -25,6 +23,7 @@ use Rattle.bed.specs.Rules.{placed}
 use Rattle.bed.specs.Tests.{names_fit, strand_fits, fields_fit, spans_fit, rows_fit}
 use Rattle.bed.specs.Write.{names_show, write_check, bed_words, bed_text}
 use Rattle.bed_laws.proofs.BackLaws.{back_read, back_chrom, back_targets}
+use Rattle.std.specs.Prelude.{Ok}
 
 -- the first line of the UCSC page's example
 abbrev clone : Bed
@@ -76,7 +75,7 @@ line =
     ∷ 48 ∷ 44 ∷ 51 ∷ 53 ∷ 49 ∷ 50 ∷ 44 ∷ 10 ∷ []
 
 -- it may be written
-pub clone_written : write_check clone chr22 clone_a targets queries sizes_lem ≡ Holds
+pub clone_written : write_check clone chr22 clone_a targets queries sizes_lem ≡ (Ok tt)
 unfolding write_check names_show names_fit strand_fits fields_fit row_numbers_fit spans_fit rows_fit end_of run order_from blocks_fill are_sums all_between
 clone_written = refl
 
@@ -89,7 +88,7 @@ clone_short : length (bed_text clone chr22 clone_a targets sizes_lem) ≤ text_l
 clone_short = rw clone_text (omega arith)
 
 -- which reads back
-pub clone_back : bed_read line 2 ≡ Accepted (placed line clone)
+pub clone_back : bed_read line 2 ≡ Ok (placed line clone)
 clone_back = rw clone_text at (back_read clone chr22 clone_a targets queries sizes_lem clone_written clone_short 2 (omega arith))
 
 pub clone_chrom : part_bytes line (placed line clone).chrom ≡ chr22
@@ -127,7 +126,7 @@ bare = record {
 abbrev short : List ℕ
 short = 99 ∷ 104 ∷ 114 ∷ 50 ∷ 50 ∷ 9 ∷ 49 ∷ 48 ∷ 48 ∷ 48 ∷ 9 ∷ 53 ∷ 48 ∷ 48 ∷ 48 ∷ 10 ∷ []
 
-pub bare_written : write_check bare chr22 [] (1000 ∷ []) (0 ∷ []) (4000 ∷ []) ≡ Holds
+pub bare_written : write_check bare chr22 [] (1000 ∷ []) (0 ∷ []) (4000 ∷ []) ≡ (Ok tt)
 unfolding write_check names_show names_fit strand_fits fields_fit row_numbers_fit spans_fit rows_fit end_of run order_from blocks_fill are_sums all_between
 bare_written = refl
 
@@ -138,5 +137,5 @@ bare_text = refl
 bare_short : length (bed_text bare chr22 [] (1000 ∷ []) (4000 ∷ [])) ≤ text_limit
 bare_short = rw bare_text (omega arith)
 
-pub bare_back : bed_read short 1 ≡ Accepted (placed short bare)
+pub bare_back : bed_read short 1 ≡ Ok (placed short bare)
 bare_back = rw bare_text at (back_read bare chr22 [] (1000 ∷ []) (0 ∷ []) (4000 ∷ []) bare_written bare_short 1 (omega arith))

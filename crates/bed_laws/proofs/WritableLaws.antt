@@ -6,7 +6,6 @@ use Prim.Native.Nat.{ℕ}
 use native.Mathlib.Omega.{arith}
 use lib.ListN.{length, take}
 use Rattle.text.specs.declared.Class.TheVariants.{Graphic}
-use Rattle.text.specs.declared.Check.TheVariants.{Holds}
 use Rattle.text.specs.Scan.{run}
 use Rattle.text.specs.Pieces.{line_of, words_of}
 use Rattle.text.specs.Words.{word_count}
@@ -18,7 +17,6 @@ use Rattle.columns.proofs.WordLaws.{graphic_all}
 use Rattle.columns.proofs.PartLaws.{part_shows, handed_in, name_handed}
 use Rattle.blocks.specs.Blocks.{count_fits, rows_of, row_numbers_fit}
 use Rattle.bed.specs.declared.Bed.{Bed}
-use Rattle.bed.specs.declared.BedAnswer.TheVariants.{Accepted}
 use Rattle.bed.specs.Columns as column
 use Rattle.bed.specs.Table.{bed_columns}
 use Rattle.bed.specs.Records.{bed_sizes, bed_starts, bed_targets, bed_queries}
@@ -29,9 +27,10 @@ use Rattle.bed.specs.Write.{names_show, write_check}
 use Rattle.bed.proofs.LineLaws.{line_of_lem}
 use Rattle.bed.proofs.RowLaws.{vs}
 use Rattle.bed_laws.proofs.ValidLaws.{accepted_valid}
+use Rattle.std.specs.Prelude.{Ok}
 
 -- ---- A VALID RECORD PASSES THE WRITER'S CHECKS, with names of its lengths that show
-pub valid_writes : (r : Bed) (chrom name ts qs zs : List ℕ) → bed_valid r ts qs zs ≡ true → length chrom ≡ r.chrom.length → length name ≡ r.name.length → All Graphic chrom → All Graphic name → write_check r chrom name ts qs zs ≡ Holds
+pub valid_writes : (r : Bed) (chrom name ts qs zs : List ℕ) → bed_valid r ts qs zs ≡ true → length chrom ≡ r.chrom.length → length name ≡ r.name.length → All Graphic chrom → All Graphic name → write_check r chrom name ts qs zs ≡ (Ok tt)
 unfolding write_check names_show bed_valid
 valid_writes r chrom name ts qs zs v c d k l =
     let n = r.blockCount in
@@ -44,7 +43,7 @@ valid_writes r chrom name ts qs zs v c d k l =
     rw (count.0, graphic_all chrom k, graphic_all name l, c, d, names.0, strand.0, fields.0, numbers.0, spans.0, spans.1)
 
 -- ---- an accepted line
-module _ (s : List ℕ) (r : Bed) (ok : bed_check s ≡ Accepted r) where
+module _ (s : List ℕ) (r : Bed) (ok : bed_check s ≡ Ok r) where
   abbrev line : BedLine s (vs s r ok) (lists_in (take (word_count s 0) bed_columns) (words_of (line_of s))) r (bed_starts s r) (bed_sizes s r)
   line = line_of_lem s r ok
 
@@ -60,7 +59,7 @@ module _ (s : List ℕ) (r : Bed) (ok : bed_check s ≡ Accepted r) where
   name_shows = either r.words column.name _ (λ h. rw (line.no_name h) none_shows) (λ h. rw (line.name h) (part_shows s line.allowed column.name))
 
   -- ITS RECORD MAY BE WRITTEN
-  pub accepted_writable : write_check r (part_bytes s r.chrom) (part_bytes s r.name) (bed_targets s r) (bed_queries s r) (bed_sizes s r) ≡ Holds
+  pub accepted_writable : write_check r (part_bytes s r.chrom) (part_bytes s r.name) (bed_targets s r) (bed_queries s r) (bed_sizes s r) ≡ (Ok tt)
   accepted_writable = valid_writes r _ _ _ _ _ (accepted_valid s r ok) chrom_shows.1 name_shows.1 chrom_shows.0 name_shows.0
 
   -- its names are handed back whole

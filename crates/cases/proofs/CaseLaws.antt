@@ -14,25 +14,19 @@ use Rattle.ledger.specs.declared.Refusal.{Refusal}
 use Rattle.ledger.specs.Reasons.{reason_number}
 use Rattle.ledger.specs.declared.Strand.{Strand}
 use Rattle.ledger.specs.declared.Strand.TheVariants.{Dot}
-use Rattle.ledger.specs.declared.Lettered.{Lettered}
-use Rattle.ledger.specs.declared.Lettered.TheVariants.{Is, NoStrand}
 use Rattle.ledger.specs.Limits.{largest_number, largest_place}
 use Rattle.ledger.specs.Strands.{strand_of, strand_is, strand_letter}
-use Rattle.numbers.specs.declared.Spelt.{Spelt}
-use Rattle.numbers.specs.declared.Spelt.TheVariants.{Means, Faulty}
 use Rattle.numbers.specs.Numbers.{number_of, NumberRead}
-use Rattle.text.specs.declared.Check.{Check}
-use Rattle.text.specs.declared.Check.TheVariants.{Holds}
-use Rattle.text.specs.declared.Check.TheVariants as check
 use Rattle.text.specs.declared.Extent.{Extent}
 use Rattle.text.specs.Words.{word_at, bytes_of, Found}
-use Rattle.writing.specs.declared.Writing.{Writing}
-use Rattle.writing.specs.declared.Writing.TheVariants.{Written, Refused}
 use Rattle.writing.specs.Puts.{Put}
 use Rattle.writing.proofs.PutLaws.{Completes, completes_all, completes_step, completes_done, put_then}
 use Rattle.cases.specs.Lines.{is_case, case_letter, meant, number_at, strand_at}
 use Rattle.cases.specs.Marks.{all_marked}
 use Rattle.cases.specs.Texts.{labelled, refused_label, reason_text, refusal_text, check_text, strand_text, written_text, row_text, rows_text, spaced_text, shown_byte, shown_text, kept_text}
+use Rattle.std.specs.Prelude.{Ok, Err, Some, None, Result, Option, ⊤}
+use Rattle.ledger.specs.declared.Fault.{Fault}
+use Rattle.ledger.specs.Refusals.{fault_at}
 
 -- the first byte of a case, and what follows it
 module _ (s : List ℕ) (b : ℕ) where
@@ -48,26 +42,26 @@ module _ (s : List ℕ) (b : ℕ) where
   letter_none e h = rw (rw e at h)
 
 -- the number of a word
-module _ (s : List ℕ) (k : ℕ) (w : Extent) (x : Spelt) (f : Found (word_at s 0 k) s 0 w) (n : NumberRead 0 largest_number (take (w.end - w.start) (drop w.start s)) x) where
+module _ (s : List ℕ) (k : ℕ) (w : Extent) (x : Result ℕ Fault) (f : Found (word_at s 0 k) s 0 w) (n : NumberRead 0 largest_number (take (w.end - w.start) (drop w.start s)) x) where
   number_is : x ≡ number_of 0 largest_number (bytes_of s (word_at s 0 k))
   unfolding bytes_of
   number_is = rw f.is at n.is
 
-  pub number_means : (v : ℕ) → x ≡ Means v → v ≡ number_at s k
+  pub number_means : (v : ℕ) → x ≡ Ok v → v ≡ number_at s k
   number_means v e = ap meant (sym e ∙ number_is)
 
-  pub number_faulty : (reason : Reason) (place : ℕ) → x ≡ Faulty reason place → 0 ≡ number_at s k
+  pub number_faulty : (reason : Reason) (place : ℕ) → x ≡ Err (fault_at reason place) → 0 ≡ number_at s k
   number_faulty reason place e = ap meant (sym e ∙ number_is)
 
 -- the strand of a word
-module _ (s : List ℕ) (k : ℕ) (w : Extent) (x : Lettered) (f : Found (word_at s 0 k) s 0 w) (b : ℕ) (eb : b ≡ get_or s w.start 0) (is : x ≡ strand_of b) where
+module _ (s : List ℕ) (k : ℕ) (w : Extent) (x : Option Strand) (f : Found (word_at s 0 k) s 0 w) (b : ℕ) (eb : b ≡ get_or s w.start 0) (is : x ≡ strand_of b) where
   strand_known : x ≡ strand_of (get_or s (word_at s 0 k).start 0)
   strand_known = rw (eb, f.is) at is
 
-  pub strand_is_lem : (y : Strand) → x ≡ Is y → y ≡ strand_at s k
+  pub strand_is_lem : (y : Strand) → x ≡ Some y → y ≡ strand_at s k
   strand_is_lem y e = ap strand_is (sym e ∙ strand_known)
 
-  pub strand_none : x ≡ NoStrand → Dot ≡ strand_at s k
+  pub strand_none : x ≡ None → Dot ≡ strand_at s k
   strand_none e = ap strand_is (sym e ∙ strand_known)
 
 -- marks one by one
@@ -105,16 +99,16 @@ module _ (at r : ℕ) (o o' : List ℕ) where
   pub reason_put : (x : Refusal) (n : ℕ) → n ≡ reason_number x.reason → Put (labelled refused_label n) at o o' r → Put (reason_text x) at o o' r
   reason_put x n e f = rw (← e) f
 
-  pub check_holds : (c : Check) → c ≡ Holds → Put (check_text Holds) at o o' r → Put (check_text c) at o o' r
+  pub check_holds : (c : Result ⊤ Refusal) → c ≡ (Ok tt) → Put (check_text (Ok tt)) at o o' r → Put (check_text c) at o o' r
   check_holds c e f = rw e f
 
-  pub check_refused : (c : Check) (x : Refusal) → c ≡ check.Refused x → Put (refusal_text x) at o o' r → Put (check_text c) at o o' r
+  pub check_refused : (c : Result ⊤ Refusal) (x : Refusal) → c ≡ Err x → Put (refusal_text x) at o o' r → Put (check_text c) at o o' r
   check_refused c x e f = rw e f
 
-  pub text_refused : (buf : List ℕ) (w : Writing) (x : Refusal) → w ≡ Refused x → Put (refusal_text x) at o o' r → Put (written_text buf w) at o o' r
+  pub text_refused : (buf : List ℕ) (w : Result ℕ Refusal) (x : Refusal) → w ≡ Err x → Put (refusal_text x) at o o' r → Put (written_text buf w) at o o' r
   text_refused buf w x e f = rw e f
 
-  pub text_written : (buf : List ℕ) (w : Writing) (n m : ℕ) → w ≡ Written n → m ≡ min n (length buf) → Put (shown_text (take m buf)) at o o' r → Put (written_text buf w) at o o' r
+  pub text_written : (buf : List ℕ) (w : Result ℕ Refusal) (n m : ℕ) → w ≡ Ok n → m ≡ min n (length buf) → Put (shown_text (take m buf)) at o o' r → Put (written_text buf w) at o o' r
   text_written buf w n m e k f = rw (e, ← k) f
 
 pub strand_put : (s : Strand) (b at p r : ℕ) (o o₁ o₂ : List ℕ) → b ≡ strand_letter s → Put (32 ∷ []) at o o₁ p → Put (b ∷ []) p o₁ o₂ r → Put (strand_text s) at o o₂ r

@@ -1,12 +1,12 @@
 -- A line of the input as a case, and the words of a line.
-use Rattle.std.specs.Prelude.{ℕ, Bool, true, false, not, ◌&&◌, ◌||◌, List, length, get_or, ltb, eqb}
+use Rattle.std.specs.Prelude.{ℕ, Bool, true, false, not, ◌&&◌, ◌||◌, List, length, get_or, ltb, eqb, Ok, Err, Result}
 use Rattle.ledger.specs.Limits.{largest_number}
 use Rattle.ledger.specs.declared.Strand.{Strand}
 use Rattle.ledger.specs.Strands.{strand_of, strand_is}
-use Rattle.numbers.specs.declared.Spelt.{Spelt}
-use Rattle.numbers.specs.declared.Spelt.TheVariants.{Means, Faulty}
 use Rattle.numbers.specs.Numbers.{number_of}
 use Rattle.text.specs.Words.{word_at, bytes_of}
+use Rattle.ledger.specs.declared.Fault.{Fault}
+use Rattle.ledger.specs.Refusals.{fault_at}
 
 -- a line that is neither empty nor a comment
 abbrev pub is_case : List ℕ → Bool
@@ -20,9 +20,9 @@ pick_byte false b = 0
 unfoldable pub case_letter : List ℕ → ℕ
 case_letter s = pick_byte (ltb (length s) 2 || eqb (get_or s 1 0) 32) (get_or s 0 0)
 
-abbrev pub meant : Spelt → ℕ
-meant (Means v) = v
-meant (Faulty reason place) = 0
+abbrev pub meant : Result ℕ Fault → ℕ
+meant (Ok v) = v
+meant (Err (fault_at reason place)) = 0
 
 -- the number that a word spells, else 0
 abbrev pub number_at : List ℕ → ℕ → ℕ

@@ -1,8 +1,7 @@
 -- Lent room that still holds its marks.
-use Rattle.std.specs.Prelude.{ℕ, Bool, true, ◌&&◌, List, [], ◌∷◌, eqb}
+use Rattle.std.specs.Prelude.{ℕ, Bool, true, ◌&&◌, List, [], ◌∷◌, eqb, Ok, Err, Result}
 use Rattle.ledger.specs.declared.Row.{Row}
-use Rattle.writing.specs.declared.Writing.{Writing}
-use Rattle.writing.specs.declared.Writing.TheVariants.{Written, Refused}
+use Rattle.ledger.specs.declared.Refusal.{Refusal}
 
 -- the rows of a lent table, more than a record's blocks
 abbrev pub table_rows : ℕ
@@ -16,6 +15,6 @@ all_marked [] = true
 all_marked (v ∷ vs) = eqb v 7 && all_marked vs
 
 -- the number of bytes that a writer wrote
-abbrev pub wrote_length : Writing → ℕ
-wrote_length (Written n) = n
-wrote_length (Refused x) = 0
+abbrev pub wrote_length : Result ℕ Refusal → ℕ
+wrote_length (Ok n) = n
+wrote_length (Err x) = 0

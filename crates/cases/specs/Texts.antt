@@ -1,15 +1,10 @@
 -- The bytes of the answers.
-use Rattle.std.specs.Prelude.{ℕ, zero, suc, ◌+◌, min, Bool, true, false, cond, List, [], ◌∷◌, ◌++◌, length, get_or, take, eqb}
+use Rattle.std.specs.Prelude.{ℕ, zero, suc, ◌+◌, min, Bool, true, false, cond, List, [], ◌∷◌, ◌++◌, length, get_or, take, eqb, Ok, Err, Result, ⊤}
 use Rattle.ledger.specs.declared.Part.{Part}
 use Rattle.ledger.specs.declared.Refusal.{Refusal}
 use Rattle.ledger.specs.declared.Strand.{Strand}
 use Rattle.ledger.specs.Reasons.{reason_number}
 use Rattle.ledger.specs.Strands.{strand_letter}
-use Rattle.text.specs.declared.Check.{Check}
-use Rattle.text.specs.declared.Check.TheVariants.{Holds}
-use Rattle.text.specs.declared.Check.TheVariants as check
-use Rattle.writing.specs.declared.Writing.{Writing}
-use Rattle.writing.specs.declared.Writing.TheVariants.{Written, Refused}
 use Rattle.writing.specs.Digits.{digits}
 
 -- a label and a number
@@ -28,9 +23,9 @@ abbrev pub refusal_text : Refusal → List ℕ
 refusal_text x = reason_text x ++ labelled (32 ∷ 97 ∷ 116 ∷ 32 ∷ []) x.place
 
 -- `ok`, or the refusal
-abbrev pub check_text : Check → List ℕ
-check_text Holds = 111 ∷ 107 ∷ []
-check_text (check.Refused x) = refusal_text x
+abbrev pub check_text : Result ⊤ Refusal → List ℕ
+check_text (Ok tt) = 111 ∷ 107 ∷ []
+check_text (Err x) = refusal_text x
 
 -- nothing, or ` touched`
 abbrev pub kept_text : Bool → List ℕ
@@ -67,6 +62,6 @@ shown_text [] = []
 shown_text (b ∷ bs) = shown_byte b ++ shown_text bs
 
 -- what a writer wrote to the front of a buffer, or why it wrote nothing
-abbrev pub written_text : List ℕ → Writing → List ℕ
-written_text buf (Written n) = shown_text (take (min n (length buf)) buf)
-written_text buf (Refused x) = refusal_text x
+abbrev pub written_text : List ℕ → Result ℕ Refusal → List ℕ
+written_text buf (Ok n) = shown_text (take (min n (length buf)) buf)
+written_text buf (Err x) = refusal_text x

@@ -4,8 +4,6 @@ ghost use Rattle.writing.specs.Puts.{Put};
 ghost use Rattle.cases.specs.Texts.{labelled, reason_text, refusal_text, check_text, kept_text, part_text, strand_text, row_text, rows_text, spaced_text, shown_byte, shown_text, written_text};
 
 use ledger::{Part, Refusal, Strand};
-use text::Check;
-use writing::Writing;
 
 // A label and a number.
 pub fn put_labelled(out: &mut [u8], at: usize, label: &[u8], v: u64) -> usize
@@ -32,12 +30,12 @@ pub fn put_refusal(out: &mut [u8], at: usize, x: Refusal) -> usize
 }
 
 // What a checker without a text answers.
-pub fn put_check(out: &mut [u8], at: usize, check: Check) -> usize
+pub fn put_check(out: &mut [u8], at: usize, check: Result<(), Refusal>) -> usize
     ensures { Put (check_text check) at out.old out.new result }
 {
     match check {
-        Check::Holds => writing::put_bytes(out, at, b"ok"),
-        Check::Refused(x) => put_refusal(out, at, x),
+        Ok(()) => writing::put_bytes(out, at, b"ok"),
+        Err(x) => put_refusal(out, at, x),
     }
 }
 
@@ -139,12 +137,12 @@ pub fn put_shown(out: &mut [u8], at: usize, bytes: &[u8]) -> usize
 }
 
 // The text that a writer left at the front of a buffer, or why it left none.
-pub fn put_text(out: &mut [u8], at: usize, buf: &[u8], written: Writing) -> usize
+pub fn put_text(out: &mut [u8], at: usize, buf: &[u8], written: Result<usize, Refusal>) -> usize
     ensures { Put (written_text buf.now written) at out.old out.new result }
 {
     match written {
-        Writing::Refused(x) => put_refusal(out, at, x),
-        Writing::Written(n) => {
+        Err(x) => put_refusal(out, at, x),
+        Ok(n) => {
             let m = ledger::least(n, buf.len());
             put_shown(out, at, &buf[..m])
         }

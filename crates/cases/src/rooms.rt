@@ -4,8 +4,7 @@ ghost use Rattle.ledger.specs.Limits.{text_limit, block_limit};
 ghost use Rattle.cases.specs.Marks.{table_rows, marked_row, all_marked, wrote_length};
 
 use crate::TABLE;
-use ledger::Row;
-use writing::Writing;
+use ledger::{Refusal, Row};
 
 const MARK: u64 = 7;
 
@@ -103,11 +102,11 @@ pub fn rows_kept(targets: &[u64], queries: &[u64], sizes: &[u64], from: usize) -
 }
 
 // The number of bytes that a writer wrote.
-pub fn length_of(written: Writing) -> usize
+pub fn length_of(written: Result<usize, Refusal>) -> usize
     ensures { result ≡ wrote_length written }
 {
     match written {
-        Writing::Refused(_) => 0,
-        Writing::Written(n) => n,
+        Err(_) => 0,
+        Ok(n) => n,
     }
 }

@@ -3,8 +3,7 @@ ghost use Rattle.std.specs.Prelude.{◌≡◌, ◌≤◌, length};
 ghost use Rattle.cases.specs.Lines.{number_at, strand_at};
 
 use crate::{byte_at, escape};
-use ledger::{Lettered, Strand};
-use numbers::Spelt;
+use ledger::Strand;
 
 // The number that a word of a line spells, else 0.
 pub fn number_at(line: &[u8], k: usize) -> u64
@@ -14,8 +13,8 @@ pub fn number_at(line: &[u8], k: usize) -> u64
     let a = w.start;
     let e = w.end;
     match numbers::read_number(&line[a..e], 0, ledger::LARGEST_NUMBER) {
-        Spelt::Means(v) => v,
-        Spelt::Faulty(_, _) => 0,
+        Ok(v) => v,
+        Err(_) => 0,
     }
 }
 
@@ -25,8 +24,8 @@ pub fn strand_at(line: &[u8], k: usize) -> Strand
 {
     let w = text::word_at(line, 0, k);
     match Strand::of_letter(byte_at(line, w.start)) {
-        Lettered::Is(strand) => strand,
-        Lettered::NoStrand => Strand::Dot,
+        Some(strand) => strand,
+        None => Strand::Dot,
     }
 }
 

@@ -6,12 +6,9 @@ ghost use Rattle.std.specs.Prelude.{◌≡◌};
 ghost use Rattle.cases_chain.specs.Lifts.{PositionLifted, RegionLifted, RegionCounted, BatchCounted, TableTurned};
 ghost use Rattle.cases_chain.specs.Tables.{TableRead, TableChecked, TableWrote};
 
-use chain::{Chain, ChainAnswer};
-use lift::PositionAnswer;
-use region::{RegionAnswer, Tallied, Tally};
-use text::Check;
-use turn::TurnAnswer;
-use writing::Writing;
+use ledger::Refusal;
+use chain::Chain;
+use region::{Region, Tallied, Tally};
 
 // A text read into a table of so many rows, at most 512; then all 512 rows to columns.
 pub fn read_chain(
@@ -20,7 +17,7 @@ pub fn read_chain(
     targets: &mut [u64],
     queries: &mut [u64],
     sizes: &mut [u64],
-) -> ChainAnswer
+) -> Result<Chain, Refusal>
     ensures { TableRead text.now room targets.old targets.new queries.old
         queries.new sizes.old sizes.new result }
 {
@@ -33,7 +30,7 @@ pub fn read_chain(
 }
 
 // A record checked with the rows of three columns.
-pub fn check_chain(r: Chain, targets: &[u64], queries: &[u64], sizes: &[u64]) -> Check
+pub fn check_chain(r: Chain, targets: &[u64], queries: &[u64], sizes: &[u64]) -> Result<(), Refusal>
     ensures { TableChecked r targets.now queries.now sizes.now result }
 {
     let mark = cases::row_mark();
@@ -52,7 +49,7 @@ pub fn write_chain(
     queries: &[u64],
     sizes: &[u64],
     buf: &mut [u8],
-) -> Writing
+) -> Result<usize, Refusal>
     ensures { TableWrote r tName.now qName.now targets.now queries.now sizes.now buf.old buf.new result }
 {
     let mark = cases::row_mark();
@@ -69,7 +66,7 @@ pub fn lift_position(
     queries: &[u64],
     sizes: &[u64],
     p: u64,
-) -> PositionAnswer
+) -> Result<(u64, i64), Refusal>
     ensures { PositionLifted c targets.now queries.now sizes.now p result }
 {
     let mark = cases::row_mark();
@@ -87,7 +84,7 @@ pub fn lift_region(
     sizes: &[u64],
     start: u64,
     end: u64,
-) -> RegionAnswer
+) -> Result<Region, Refusal>
     ensures { RegionLifted c targets.now queries.now sizes.now start end result }
 {
     let mark = cases::row_mark();
@@ -107,7 +104,7 @@ pub fn turn_chain(
     newTargets: &mut [u64],
     newQueries: &mut [u64],
     newSizes: &mut [u64],
-) -> TurnAnswer
+) -> Result<Chain, Refusal>
     ensures { TableTurned c targets.now queries.now sizes.now room newTargets.old
         newTargets.new newQueries.old newQueries.new newSizes.old newSizes.new result }
 {
@@ -122,7 +119,7 @@ pub fn turn_chain(
     answer
 }
 
-fn tallied(tally: Tally, answer: RegionAnswer) -> Tallied
+fn tallied(tally: Tally, answer: Result<Region, Refusal>) -> Tallied
     ensures { (result.tally ≡ tally) × (result.answer ≡ answer) }
 {
     Tallied { tally, answer }
@@ -153,10 +150,10 @@ pub fn tally_region(
 #[derive(Clone, Copy)]
 pub struct BatchAnswer {
     pub tally: Tally,
-    pub check: Check,
+    pub check: Result<(), Refusal>,
 }
 
-fn batched(tally: Tally, check: Check) -> BatchAnswer
+fn batched(tally: Tally, check: Result<(), Refusal>) -> BatchAnswer
     ensures { (result.tally ≡ tally) × (result.check ≡ check) }
 {
     BatchAnswer { tally, check }

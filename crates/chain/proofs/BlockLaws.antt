@@ -10,9 +10,6 @@ use borrow.Author.Tests.{eqb-true}
 use Rattle.ledger.specs.Limits.{largest_position}
 use Rattle.ledger.specs.declared.Reason.TheVariants.{NoRoom}
 use Rattle.ledger.specs.declared.Fault.{Fault}
-use Rattle.text.specs.declared.Stage.{Stage}
-use Rattle.text.specs.declared.Stage.TheVariants.{Passes}
-use Rattle.text.specs.declared.Stage.TheVariants as stage
 use Rattle.text.specs.Checks.{fault, then_check, words_check}
 use Rattle.text.specs.Pieces.{words_of, line_of}
 use Rattle.text.specs.Words.{word_count}
@@ -22,9 +19,6 @@ use Rattle.kinds.specs.declared.Range.TheVariants.{Coordinate, Size}
 use Rattle.kinds.specs.Codes as code
 use Rattle.kinds.specs.Kinds.{kind_of}
 use Rattle.kinds.proofs.RangeLaws.{number_spelt}
-use Rattle.columns.specs.declared.Columns.{Columns}
-use Rattle.columns.specs.declared.Columns.TheVariants.{Next}
-use Rattle.columns.specs.declared.Columns.TheVariants as columns
 use Rattle.columns.specs.Columns.{table_of, columns_from, values_from, value_of, then_next, ColumnsWalked}
 use Rattle.columns.specs.Spells.{firsts}
 use Rattle.columns.proofs.Meant.{Meant}
@@ -39,6 +33,7 @@ use Rattle.chain.specs.Table.{block_columns}
 use Rattle.chain.specs.Records.{line_values, size_at, target_gap, query_gap}
 use Rattle.chain.specs.Read.{is_block_count, block_words, limit_check, block_is, block_numbers, block_line}
 use Rattle.chain.specs.Steps.{line_check, block_one, block_size, block_target_gap, block_query_gap, LineCounted, NumbersRead, BlockRead}
+use Rattle.std.specs.Prelude.{Ok, Err, Result, ⊤}
 
 -- the codes of a block line's table in the code, and what the first n of them are
 abbrev pub block_codes : List ℕ
@@ -68,13 +63,13 @@ count_most n h = count_split n h (n ≤ column.gap_count) (λ e. omega arith) (�
 
 -- the numbers of a line that is read are coordinates
 module _ (s : List ℕ) (line e : ℕ) where
-  one_low : word_count s line ≡ column.last_count → columns_from (take column.last_count block_columns) 0 s line ≡ Next e → value_of (values_from (take column.last_count block_columns) 0 s line) column.size ≤ largest_position
+  one_low : word_count s line ≡ column.last_count → columns_from (take column.last_count block_columns) 0 s line ≡ Ok e → value_of (values_from (take column.last_count block_columns) 0 s line) column.size ≤ largest_position
   unfolding block_columns
   one_low w read =
       let vs = values_from (take column.last_count block_columns) 0 s line in
       rw (← value_first vs column.size) (number_spelt Size _ _ _ (spelt_at (columns_mean (take column.last_count block_columns) 0 s line e w read) column.size (omega arith))).1
 
-  one_past : columns_from (take column.last_count block_columns) 0 s line ≡ Next e → (i : ℕ) → 2 ≤ i → get_or (values_from (take column.last_count block_columns) 0 s line) i 0 ≤ largest_position
+  one_past : columns_from (take column.last_count block_columns) 0 s line ≡ Ok e → (i : ℕ) → 2 ≤ i → get_or (values_from (take column.last_count block_columns) 0 s line) i 0 ≤ largest_position
   unfolding block_columns
   one_past read i h =
       let vs = values_from (take column.last_count block_columns) 0 s line in
@@ -82,7 +77,7 @@ module _ (s : List ℕ) (line e : ℕ) where
       let k : length vs ≤ i = omega arith in
       omega (arith, get_or-eq_default vs 0 k)
 
-  module _ (w : word_count s line ≡ column.gap_count) (read : columns_from (take column.gap_count block_columns) 0 s line ≡ Next e) where
+  module _ (w : word_count s line ≡ column.gap_count) (read : columns_from (take column.gap_count block_columns) 0 s line ≡ Ok e) where
     abbrev ws : List ℕ
     ws = values_from (take column.gap_count block_columns) 0 s line
 
@@ -102,7 +97,7 @@ module _ (s : List ℕ) (line e : ℕ) where
     unfolding block_columns
     three_query = rw (← value_first ws column.dq) (number_spelt Coordinate _ _ _ (spelt_at three_spells column.dq (omega arith))).1
 
-module _ (s : List ℕ) (line n e : ℕ) (counted : LineCounted s line n) (read : columns_from (take n block_columns) 0 s line ≡ Next e) where
+module _ (s : List ℕ) (line n e : ℕ) (counted : LineCounted s line n) (read : columns_from (take n block_columns) 0 s line ≡ Ok e) where
   size_low : value_of (values_from (take n block_columns) 0 s line) column.size ≤ largest_position
   size_low =
       count_split n counted.good _
@@ -129,21 +124,21 @@ module _ (s : List ℕ) (line n : ℕ) (counted : LineCounted s line n) where
   pub numbers_length : n ≡ length (take n block_codes)
   numbers_length = codes_length n numbers_few
 
-module _ (s : List ℕ) (line n : ℕ) (counted : LineCounted s line n) (b' d d' : List ℕ) (x : Columns) (read : ColumnsWalked (table_of (take n block_codes)) s line (replicate (2 * column.gap_count) 0) b' d d' x) where
+module _ (s : List ℕ) (line n : ℕ) (counted : LineCounted s line n) (b' d d' : List ℕ) (x : Result ℕ Fault) (read : ColumnsWalked (table_of (take n block_codes)) s line (replicate (2 * column.gap_count) 0) b' d d' x) where
   few : n ≤ column.gap_count
   few = count_most n counted.good
 
   read_is : x ≡ columns_from (take n block_columns) 0 s line
   read_is = table.read_is block_codes block_columns codes_same (omega arith) n few s line (2 * column.gap_count) (omega (arith, few)) b' d d' x read
 
-  pub numbers_refused : (y : Fault) → x ≡ columns.Faulty y → NumbersRead s line n (block.Faulty y)
+  pub numbers_refused : (y : Fault) → x ≡ Err y → NumbersRead s line n (Err y)
   unfolding block_numbers
   numbers_refused y q =
-      let z : columns_from (take n block_columns) 0 s line ≡ columns.Faulty y = sym read_is ∙ q in
+      let z : columns_from (take n block_columns) 0 s line ≡ Err y = sym read_is ∙ q in
       record { is = rw z; size = omega arith; target_gap = omega arith; query_gap = omega arith }
 
-  module _ (e : ℕ) (q : x ≡ Next e) where
-    next : columns_from (take n block_columns) 0 s line ≡ Next e
+  module _ (e : ℕ) (q : x ≡ Ok e) where
+    next : columns_from (take n block_columns) 0 s line ≡ Ok e
     next = sym read_is ∙ q
 
     values_same : (i : ℕ) → get_or b' i 0 ≡ get_or (values_from (take n block_columns) 0 s line) i 0
@@ -155,19 +150,19 @@ module _ (s : List ℕ) (line n : ℕ) (counted : LineCounted s line n) (b' d d'
     abbrev us : List ℕ
     us = values_from (take n block_columns) 0 s line
 
-    size_in : (t : Bool) → value_of us column.size ≤ largest_position → block_size (cond t (Last (value_of us column.size)) (Gap (value_of us column.size) (value_of us column.dt) (value_of us column.dq))) ≤ largest_position
+    size_in : (t : Bool) → value_of us column.size ≤ largest_position → block_size (cond t (Ok (Last (value_of us column.size))) (Ok (Gap (value_of us column.size) (value_of us column.dt) (value_of us column.dq)))) ≤ largest_position
     size_in true h = h
     size_in false h = h
 
-    target_in : (t : Bool) → value_of us column.dt ≤ largest_position → block_target_gap (cond t (Last (value_of us column.size)) (Gap (value_of us column.size) (value_of us column.dt) (value_of us column.dq))) ≤ largest_position
+    target_in : (t : Bool) → value_of us column.dt ≤ largest_position → block_target_gap (cond t (Ok (Last (value_of us column.size))) (Ok (Gap (value_of us column.size) (value_of us column.dt) (value_of us column.dq)))) ≤ largest_position
     target_in true h = omega arith
     target_in false h = h
 
-    query_in : (t : Bool) → value_of us column.dq ≤ largest_position → block_query_gap (cond t (Last (value_of us column.size)) (Gap (value_of us column.size) (value_of us column.dt) (value_of us column.dq))) ≤ largest_position
+    query_in : (t : Bool) → value_of us column.dq ≤ largest_position → block_query_gap (cond t (Ok (Last (value_of us column.size))) (Ok (Gap (value_of us column.size) (value_of us column.dt) (value_of us column.dq)))) ≤ largest_position
     query_in true h = omega arith
     query_in false h = h
 
-    pub numbers_read_lem : (r : BlockLine) → r ≡ block_is n b' → NumbersRead s line n r
+    pub numbers_read_lem : (r : Result BlockLine Fault) → r ≡ block_is n b' → NumbersRead s line n r
     unfolding block_numbers
     numbers_read_lem r er =
         let p : r ≡ block_is n us = er ∙ block_same in
@@ -178,7 +173,7 @@ module _ (s : List ℕ) (line n : ℕ) (counted : LineCounted s line n) (b' d d'
           query_gap = rw p (query_in (eqb n column.last_count) (query_low s line n e counted next));
         }
 
-pub words_good : (s : List ℕ) (line n : ℕ) → block_words s line n ≡ Passes → is_block_count n ≡ true
+pub words_good : (s : List ℕ) (line n : ℕ) → block_words s line n ≡ (Ok tt) → is_block_count n ≡ true
 unfolding block_words
 words_good s line n e = (words_hold s line n column.gap_count (is_block_count n) e).1
 
@@ -187,46 +182,46 @@ pub limit_reached : (line k : ℕ) → k ≡ 0 → fault NoRoom line ≡ limit_c
 unfolding limit_check
 limit_reached line k e = rw e
 
-pub limit_ahead : (line k : ℕ) → (k ≡ 0 → ⊥) → Passes ≡ limit_check line k
+pub limit_ahead : (line k : ℕ) → (k ≡ 0 → ⊥) → (Ok tt) ≡ limit_check line k
 unfolding limit_check
 limit_ahead line zero y = absurd (y refl)
 limit_ahead line (suc k) y = refl
 
-some_left : (line k : ℕ) → limit_check line k ≡ Passes → 1 ≤ k
+some_left : (line k : ℕ) → limit_check line k ≡ (Ok tt) → 1 ≤ k
 unfolding limit_check
 some_left line zero e = absurd (let q : ◌≡◌ {A = ℕ} 0 1 = cc in omega arith)
 some_left line (suc k) e = omega arith
 
 -- two stages, the first fault of which counts
-both_pass : (a b : Stage) → then_check stage.Faulty a b ≡ Passes → (a ≡ Passes) × (b ≡ Passes)
-both_pass a b = went stage.Faulty a b Passes (λ x e. let q : ◌≡◌ {A = ℕ} 0 1 = cc in omega arith)
+both_pass : (a b : Result ⊤ Fault) → then_check Err a b ≡ (Ok tt) → (a ≡ (Ok tt)) × (b ≡ (Ok tt))
+both_pass a b = went Err a b (Ok tt) (λ x e. let q : ◌≡◌ {A = ℕ} 0 1 = cc in omega arith)
 
-one_faulty : (a b : Stage) (x : Fault) (rest : BlockLine) → then_check stage.Faulty a b ≡ stage.Faulty x → block.Faulty x ≡ then_check block.Faulty a (then_check block.Faulty b rest)
-one_faulty Passes b x rest e = rw e
-one_faulty (stage.Faulty y) b x rest e = cc
+one_faulty : (a b : Result ⊤ Fault) (x : Fault) (rest : Result BlockLine Fault) → then_check Err a b ≡ Err x → Err x ≡ then_check Err a (then_check Err b rest)
+one_faulty (Ok tt) b x rest e = rw e
+one_faulty (Err y) b x rest e = cc
 
-pub first_passes : (a b : Stage) → a ≡ Passes → b ≡ then_check stage.Faulty a b
-first_passes a b e = goes stage.Faulty a b b e refl
+pub first_passes : (a b : Result ⊤ Fault) → a ≡ (Ok tt) → b ≡ then_check Err a b
+first_passes a b e = goes Err a b b e refl
 
-pub line_checked : (s : List ℕ) (line n k : ℕ) (good : Bool) (a b r : Stage) → a ≡ limit_check line k → good ≡ is_block_count n → b ≡ words_check s line n column.gap_count good → r ≡ then_check stage.Faulty a b → r ≡ line_check s line n k
+pub line_checked : (s : List ℕ) (line n k : ℕ) (good : Bool) (a b r : Result ⊤ Fault) → a ≡ limit_check line k → good ≡ is_block_count n → b ≡ words_check s line n column.gap_count good → r ≡ then_check Err a b → r ≡ line_check s line n k
 unfolding line_check block_words
 line_checked s line n k good a b r ea eg eb er = rw (er, ea, eb, eg)
 
-one_most : (r : BlockLine) → block_one r ≤ 1
-one_most (Last z) = omega arith
-one_most (Gap z dt dq) = omega arith
-one_most (block.Faulty x) = omega arith
+one_most : (r : Result BlockLine Fault) → block_one r ≤ 1
+one_most (Ok (Last z)) = omega arith
+one_most (Ok (Gap z dt dq)) = omega arith
+one_most (Err x) = omega arith
 
 -- the block line
-module _ (s : List ℕ) (line n k : ℕ) (en : n ≡ word_count s line) (c : Stage) (ec : c ≡ line_check s line n k) where
-  held : c ≡ Passes → (limit_check line k ≡ Passes) × (block_words s line n ≡ Passes)
+module _ (s : List ℕ) (line n k : ℕ) (en : n ≡ word_count s line) (c : Result ⊤ Fault) (ec : c ≡ line_check s line n k) where
+  held : c ≡ (Ok tt) → (limit_check line k ≡ (Ok tt)) × (block_words s line n ≡ (Ok tt))
   unfolding line_check
   held q = both_pass (limit_check line k) (block_words s line n) (sym ec ∙ q)
 
-  pub line_counted : c ≡ Passes → LineCounted s line n
+  pub line_counted : c ≡ (Ok tt) → LineCounted s line n
   line_counted q = record { count = en; good = words_good s line n (held q).1 }
 
-  pub line_refused : (x : Fault) → c ≡ stage.Faulty x → BlockRead s line k (block.Faulty x)
+  pub line_refused : (x : Fault) → c ≡ Err x → BlockRead s line k (Err x)
   unfolding block_line line_check
   line_refused x q = record {
     is = rw (← en) (one_faulty (limit_check line k) (block_words s line n) x (block_numbers s line n) (sym ec ∙ q));
@@ -236,7 +231,7 @@ module _ (s : List ℕ) (line n k : ℕ) (en : n ≡ word_count s line) (c : Sta
     query_gap = omega arith;
   }
 
-  pub line_read_lem : (r : BlockLine) → c ≡ Passes → NumbersRead s line n r → BlockRead s line k r
+  pub line_read_lem : (r : Result BlockLine Fault) → c ≡ (Ok tt) → NumbersRead s line n r → BlockRead s line k r
   unfolding block_line
   line_read_lem r q h = record {
     is = rw (← en, (held q).0, (held q).1) h.is;
@@ -251,22 +246,22 @@ abbrev vals : List ℕ → ℕ → List ℕ
 vals s line = values_from (take (word_count s line) block_columns) 0 s line
 
 module _ (s : List ℕ) (line : ℕ) where
-  pub gap_holds : (z dt dq : ℕ) → block_line s line ≡ Gap z dt dq → (size_at s line ≡ z) × (target_gap s line ≡ dt) × (query_gap s line ≡ dq)
+  pub gap_holds : (z dt dq : ℕ) → block_line s line ≡ Ok (Gap z dt dq) → (size_at s line ≡ z) × (target_gap s line ≡ dt) × (query_gap s line ≡ dq)
   unfolding block_line block_numbers size_at target_gap query_gap line_values
   gap_holds z dt dq e = go (block_words s line (word_count s line)) (columns_from (take (word_count s line) block_columns) 0 s line) (eqb (word_count s line) column.last_count) e
     where
-      go : (c : Stage) (d : Columns) (t : Bool) → then_check block.Faulty c (then_next block.Faulty d (cond t (Last (value_of (vals s line) column.size)) (Gap (value_of (vals s line) column.size) (value_of (vals s line) column.dt) (value_of (vals s line) column.dq)))) ≡ Gap z dt dq → (value_of (vals s line) column.size ≡ z) × (value_of (vals s line) column.dt ≡ dt) × (value_of (vals s line) column.dq ≡ dq)
-      go Passes (Next f) false k = (cc, cc, cc)
-      go Passes (Next f) true k = absurd (let q : ◌≡◌ {A = ℕ} 0 1 = cc in omega arith)
-      go Passes (columns.Faulty x) t k = absurd (let q : ◌≡◌ {A = ℕ} 0 1 = cc in omega arith)
-      go (stage.Faulty x) d t k = absurd (let q : ◌≡◌ {A = ℕ} 0 1 = cc in omega arith)
+      go : (c : Result ⊤ Fault) (d : Result ℕ Fault) (t : Bool) → then_check Err c (then_next Err d (cond t (Ok (Last (value_of (vals s line) column.size))) (Ok (Gap (value_of (vals s line) column.size) (value_of (vals s line) column.dt) (value_of (vals s line) column.dq))))) ≡ Ok (Gap z dt dq) → (value_of (vals s line) column.size ≡ z) × (value_of (vals s line) column.dt ≡ dt) × (value_of (vals s line) column.dq ≡ dq)
+      go (Ok tt) (Ok f) false k = (cc, cc, cc)
+      go (Ok tt) (Ok f) true k = absurd (let q : ◌≡◌ {A = ℕ} 0 1 = cc in omega arith)
+      go (Ok tt) (Err x) t k = absurd (let q : ◌≡◌ {A = ℕ} 0 1 = cc in omega arith)
+      go (Err x) d t k = absurd (let q : ◌≡◌ {A = ℕ} 0 1 = cc in omega arith)
 
-  pub last_holds : (z : ℕ) → block_line s line ≡ Last z → size_at s line ≡ z
+  pub last_holds : (z : ℕ) → block_line s line ≡ Ok (Last z) → size_at s line ≡ z
   unfolding block_line block_numbers size_at line_values
   last_holds z e = go (block_words s line (word_count s line)) (columns_from (take (word_count s line) block_columns) 0 s line) (eqb (word_count s line) column.last_count) e
     where
-      go : (c : Stage) (d : Columns) (t : Bool) → then_check block.Faulty c (then_next block.Faulty d (cond t (Last (value_of (vals s line) column.size)) (Gap (value_of (vals s line) column.size) (value_of (vals s line) column.dt) (value_of (vals s line) column.dq)))) ≡ Last z → value_of (vals s line) column.size ≡ z
-      go Passes (Next f) true k = cc
-      go Passes (Next f) false k = absurd (let q : ◌≡◌ {A = ℕ} 0 1 = cc in omega arith)
-      go Passes (columns.Faulty x) t k = absurd (let q : ◌≡◌ {A = ℕ} 0 1 = cc in omega arith)
-      go (stage.Faulty x) d t k = absurd (let q : ◌≡◌ {A = ℕ} 0 1 = cc in omega arith)
+      go : (c : Result ⊤ Fault) (d : Result ℕ Fault) (t : Bool) → then_check Err c (then_next Err d (cond t (Ok (Last (value_of (vals s line) column.size))) (Ok (Gap (value_of (vals s line) column.size) (value_of (vals s line) column.dt) (value_of (vals s line) column.dq))))) ≡ Ok (Last z) → value_of (vals s line) column.size ≡ z
+      go (Ok tt) (Ok f) true k = cc
+      go (Ok tt) (Ok f) false k = absurd (let q : ◌≡◌ {A = ℕ} 0 1 = cc in omega arith)
+      go (Ok tt) (Err x) t k = absurd (let q : ◌≡◌ {A = ℕ} 0 1 = cc in omega arith)
+      go (Err x) d t k = absurd (let q : ◌≡◌ {A = ℕ} 0 1 = cc in omega arith)

@@ -15,7 +15,6 @@ use Rattle.text.proofs.Laws.{end_of_past, end_of_stop, class_within, blank_line,
 use Rattle.text.proofs.TextLaws.{both}
 use Rattle.text.proofs.PieceLaws.{count_more, count_none}
 use Rattle.text.proofs.CheckLaws.{words_good}
-use Rattle.numbers.specs.declared.Spelt.TheVariants.{Means}
 use Rattle.numbers.specs.declared.Taken.{Taken}
 use Rattle.numbers.specs.Numbers.{number_of, NumberTaken}
 use Rattle.kinds.specs.declared.Kind.{Kind}
@@ -25,7 +24,6 @@ use Rattle.kinds.specs.declared.Fixed.TheVariants as fixed
 use Rattle.kinds.specs.declared.Range.{Range}
 use Rattle.kinds.specs.declared.Range.TheVariants.{Coordinate, Size, ChainScore, ChainId}
 use Rattle.kinds.specs.Kinds.{least_of, most_of, spelt}
-use Rattle.columns.specs.declared.Columns.TheVariants.{Next}
 use Rattle.columns.specs.Columns.{field_from, columns_from, values_from, FieldTaken}
 use Rattle.columns.proofs.WordLaws.{and_i}
 use Rattle.columns.proofs.WalkLaws.{Run, run_none, run_more, walk_through}
@@ -38,6 +36,7 @@ use Rattle.chain.specs.Table.{block_columns, chain_columns}
 use Rattle.chain.specs.Read.{block_words, block_numbers, block_line}
 use Rattle.chain.specs.Steps.{WordTaken, RestSeen, GapTaken, LastTaken, StepRead, head_values, HeadTaken}
 use Rattle.chain.proofs.BlockLaws.{limit_ahead}
+use Rattle.std.specs.Prelude.{Ok}
 
 -- the number of the word at or after a place
 pub word_taken : (least : ℕ) (s : List ℕ) (at a : ℕ) (r : Taken) → Scanned Blank s at a → NumberTaken least largest_position s a r → WordTaken least s at r
@@ -69,7 +68,7 @@ module _ (s : List ℕ) (at e : ℕ) (sc : Scanned Blank s at e) where
   }
 
 -- one column of numbers, and on
-module _ (r : Range) (ks : List Kind) (n : ℕ) (s : List ℕ) (at v e : ℕ) (h : number_of (least_of r) (most_of r) (bytes_of s (next_word s at)) ≡ Means v) (q : e ≡ (next_word s at).end) where
+module _ (r : Range) (ks : List Kind) (n : ℕ) (s : List ℕ) (at v e : ℕ) (h : number_of (least_of r) (most_of r) (bytes_of s (next_word s at)) ≡ Ok v) (q : e ≡ (next_word s at).end) where
   one_column : columns_from (Number r ∷ ks) n s at ≡ columns_from ks n s e
   unfolding columns_from field_from spelt
   one_column = rw (h, q)
@@ -87,7 +86,7 @@ module _ (s : List ℕ) (line : ℕ) (a : Taken) (ta : WordTaken 1 s line a) whe
     count_first : word_count s line ≡ suc (word_count s a.end)
     count_first = count_more s line (ta.some ga) ∙ ap (λ x. suc (word_count s x)) (sym (ta.ends ga))
 
-    is_last : (next_word s a.end).start ≡ (next_word s a.end).end → block_line s line ≡ Last a.value
+    is_last : (next_word s a.end).start ≡ (next_word s a.end).end → block_line s line ≡ Ok (Last a.value)
     unfolding block_line block_words block_numbers block_columns columns_from
     is_last none =
         let count : word_count s line ≡ column.last_count = omega (arith, count_first, count_none s a.end none) in
@@ -118,7 +117,7 @@ module _ (s : List ℕ) (line : ℕ) (a : Taken) (ta : WordTaken 1 s line a) whe
             count_none s c.end (tr.none gr),
           )
 
-      read_three : columns_from block_columns 0 s line ≡ Next c.end
+      read_three : columns_from block_columns 0 s line ≡ Ok c.end
       unfolding block_columns columns_from
       read_three =
           one_column Size (Number Coordinate ∷ Number Coordinate ∷ []) 0 s line a.value a.end (ta.means ga) (ta.ends ga)
@@ -139,7 +138,7 @@ module _ (s : List ℕ) (line : ℕ) (a : Taken) (ta : WordTaken 1 s line a) whe
       unfolding block_columns
       all_columns = refl
 
-      is_gap : block_line s line ≡ Gap a.value b.value c.value
+      is_gap : block_line s line ≡ Ok (Gap a.value b.value c.value)
       unfolding block_line block_words block_numbers
       is_gap = rw (count_three, ← words_good s line column.gap_count column.gap_count true (omega arith) refl, all_columns, read_three, values_three)
 
@@ -169,13 +168,13 @@ module _ (s : List ℕ) (line k : ℕ) (some : 1 ≤ k) where
   not_none : k ≡ 0 → ⊥
   not_none e = absurd (omega arith)
 
-  pub step_gap : (x : Quick) → GapTaken s line x → x.good ≡ true → StepRead s line k (record { block = Gap x.size x.dt x.dq; next = x.next })
+  pub step_gap : (x : Quick) → GapTaken s line x → x.good ≡ true → StepRead s line k (record { block = Ok (Gap x.size x.dt x.dq;) next = x.next })
   step_gap x t g = record {
     read = record { is = rw (← limit_ahead line k not_none) (sym (t.is g)); room = some; size = t.size g; target_gap = t.target_gap g; query_gap = t.query_gap g };
     next = λ z dt dq q. t.next g;
   }
 
-  pub step_last : (y : Taken) (next : ℕ) → LastTaken s line y → y.good ≡ true → StepRead s line k (record { block = Last y.value; next = next })
+  pub step_last : (y : Taken) (next : ℕ) → LastTaken s line y → y.good ≡ true → StepRead s line k (record { block = Ok (Last y.value;) next = next })
   step_last y next t g = record {
     read = record { is = rw (← limit_ahead line k not_none) (sym (t.is g)); room = some; size = t.size g; target_gap = omega arith; query_gap = omega arith };
     next = λ z dt dq q. absurd (let w : ◌≡◌ {A = ℕ} 0 1 = cc in omega arith);

@@ -15,6 +15,7 @@ use Rattle.chain.specs.declared.BlockLine.TheVariants.{Last, Gap}
 use Rattle.chain.specs.Columns as column
 use Rattle.chain.specs.Records.{name_of, chain_record}
 use Rattle.chain.specs.Read.{block_is}
+use Rattle.std.specs.Prelude.{Ok}
 
 -- a name from its column
 pub name_is : (vs : List ℕ) (k start length : ℕ) (r : Part) → start ≡ place_of vs k → length ≡ value_of vs k → r ≡ part_at start length → r ≡ name_of vs k
@@ -45,10 +46,10 @@ record_is vs n score tSize tStart tEnd qSize letter qStart qEnd id tName qName s
 
 -- the block of a line's values
 module _ (n : ℕ) (vs : List ℕ) (z : ℕ) (ez : z ≡ value_of vs column.size) where
-  pub block_last : n ≡ column.last_count → Last z ≡ block_is n vs
+  pub block_last : n ≡ column.last_count → Ok (Last z) ≡ block_is n vs
   block_last h = rw (eq-eqb n column.last_count h, ez)
 
-  pub block_gap : (dt dq : ℕ) → (n ≡ column.last_count → ⊥) → dt ≡ value_of vs column.dt → dq ≡ value_of vs column.dq → Gap z dt dq ≡ block_is n vs
+  pub block_gap : (dt dq : ℕ) → (n ≡ column.last_count → ⊥) → dt ≡ value_of vs column.dt → dq ≡ value_of vs column.dq → Ok (Gap z dt dq) ≡ block_is n vs
   block_gap dt dq h et eq = rw (ne_eqb n column.last_count h, ez, et, eq)
 
 -- a row stored

@@ -16,12 +16,11 @@ use Rattle.chain.specs.declared.BlockLine.{BlockLine}
 use Rattle.chain.specs.declared.BlockLine.TheVariants.{Last, Gap}
 use Rattle.chain.specs.declared.BlockLine.TheVariants as block
 use Rattle.chain.specs.declared.Ending.{Ending}
-use Rattle.chain.specs.declared.Lines.TheVariants.{Ended}
-use Rattle.chain.specs.declared.Lines.TheVariants as lines
 use Rattle.chain.specs.Records.{size_at, target_gap, query_gap, targets_from, queries_from, sizes_from}
 use Rattle.chain.specs.Read.{limit_check, then_block, block_line, ends_early, lines_from, ending_at}
 use Rattle.chain.specs.Steps.{block_one, BlockRead, Placed, Begins, Walked}
 use Rattle.chain.proofs.BlockLaws.{limit_ahead, gap_holds, last_holds}
+use Rattle.std.specs.Prelude.{Ok, Err, Result}
 
 -- a block with the gap after it takes at most so much of a side
 abbrev pub step_limit : ℕ
@@ -99,17 +98,17 @@ module _ (s : List ℕ) (line t q : ℕ) where
 
   module _ (h : line < length s) where
     -- past the last allowed line the limit refuses, before it the line itself
-    from_refused : (k : ℕ) (x : Fault) → then_check block.Faulty (limit_check line k) (block_line s line) ≡ block.Faulty x → lines_from k s line t q ≡ lines.Faulty x
+    from_refused : (k : ℕ) (x : Fault) → then_check Err (limit_check line k) (block_line s line) ≡ Err x → lines_from k s line t q ≡ Err x
     unfolding lines_from limit_check
-    from_refused zero x g = rw (lt-ltb line (length s) h) (ap (λ (b : BlockLine). then_block b (λ z. lines.Faulty x) (λ z dt dq. lines.Faulty x)) g)
+    from_refused zero x g = rw (lt-ltb line (length s) h) (ap (λ (b : Result BlockLine Fault). then_block b (λ z. Err x) (λ z dt dq. Err x)) g)
     from_refused (suc k) x g = rw (lt-ltb line (length s) h, g)
 
-    pub from_last : (k z : ℕ) → (k ≡ 0 → ⊥) → block_line s line ≡ Last z → lines_from k s line t q ≡ Ended (ending_at line (block_limit - (k - 1)) (t + z) (q + z))
+    pub from_last : (k z : ℕ) → (k ≡ 0 → ⊥) → block_line s line ≡ Ok (Last z) → lines_from k s line t q ≡ Ok (ending_at line (block_limit - (k - 1)) (t + z) (q + z))
     unfolding lines_from
     from_last zero z y g = absurd (y refl)
     from_last (suc k) z y g = let o : suc k - 1 ≡ k = omega arith in rw (lt-ltb line (length s) h, g, o)
 
-    pub from_gap : (k z dt dq : ℕ) → (k ≡ 0 → ⊥) → block_line s line ≡ Gap z dt dq → lines_from k s line t q ≡ lines_from (k - 1) s (next_line s line) (t + z + dt) (q + z + dq)
+    pub from_gap : (k z dt dq : ℕ) → (k ≡ 0 → ⊥) → block_line s line ≡ Ok (Gap z dt dq) → lines_from k s line t q ≡ lines_from (k - 1) s (next_line s line) (t + z + dt) (q + z + dq)
     unfolding lines_from
     from_gap zero z dt dq y g = absurd (y refl)
     from_gap (suc k) z dt dq y g = let o : suc k - 1 ≡ k = omega arith in rw (lt-ltb line (length s) h, g, o)
@@ -131,8 +130,8 @@ module _ (s : List ℕ) (from t₀ q₀ : ℕ) (rows : List ℕ) (line t q left 
   walk_past rows₀ h = record { is = sym (from_past s line t q left h) ∙ w.is; long = w.long; held = λ e z. absurd (let k : ◌≡◌ {A = ℕ} 0 1 = cc in omega arith) }
 
   module _ (h : line < length s) where
-    module _ (b : BlockLine) (read : BlockRead s line left b) where
-      pub walk_refused : (rows₀ : List ℕ) (x : Fault) → b ≡ block.Faulty x → Walked s from t₀ q₀ rows₀ rows (lines.Faulty x)
+    module _ (b : Result BlockLine Fault) (read : BlockRead s line left b) where
+      pub walk_refused : (rows₀ : List ℕ) (x : Fault) → b ≡ Err x → Walked s from t₀ q₀ rows₀ rows (Err x)
       walk_refused rows₀ x eb = record { is = sym (from_refused s line t q h left x (sym read.is ∙ eb)) ∙ w.is; long = w.long; held = λ e y. absurd (let k : ◌≡◌ {A = ℕ} 0 1 = cc in omega arith) }
 
       module _ (rows' : List ℕ) (z : ℕ) (er : rows' ≡ with_row rows (block_limit - left) t q z) (one : block_one b ≡ 1) where
@@ -179,7 +178,7 @@ module _ (s : List ℕ) (from t₀ q₀ : ℕ) (rows : List ℕ) (line t q left 
         zero_more : block_limit - (left - 1) + 0 ≡ block_limit - (left - 1)
         zero_more = omega arith
 
-        held_last : block_line s line ≡ Last z → Placed s from t₀ q₀ (block_limit - (left - 1)) rows'
+        held_last : block_line s line ≡ Ok (Last z) → Placed s from t₀ q₀ (block_limit - (left - 1)) rows'
         unfolding targets_from queries_from sizes_from
         held_last g = record {
           few = omega arith;
@@ -188,14 +187,14 @@ module _ (s : List ℕ) (from t₀ q₀ : ℕ) (rows : List ℕ) (line t q left 
           sizes = sym (none _) ∙ (rw zero_more at (sizes_next 0 (last_holds s line z g)));
         }
 
-        ended : (rows₀ : List ℕ) → b ≡ Last z → Walked s from t₀ q₀ rows₀ rows' (Ended (ending_at line (block_limit - (left - 1)) (t + z) (q + z)))
+        ended : (rows₀ : List ℕ) → b ≡ Ok (Last z) → Walked s from t₀ q₀ rows₀ rows' (Ok (ending_at line (block_limit - (left - 1)) (t + z) (q + z)))
         ended rows₀ eb =
-            let g : block_line s line ≡ Last z = sym line_is ∙ eb in
+            let g : block_line s line ≡ Ok (Last z) = sym line_is ∙ eb in
             record { is = sym (from_last s line t q h left z some g) ∙ w.is; long = long'; held = λ e y. let p : ending_at line (block_limit - (left - 1)) (t + z) (q + z) ≡ e = cc in rw (ap (λ (x : Ending). x.count) p) at (held_last g) }
 
-        went : (dt dq line' : ℕ) → b ≡ Gap z dt dq → line' ≡ next_line s line → Walking s from t₀ q₀ rows' line' (t + z + dt) (q + z + dq) (left - 1)
+        went : (dt dq line' : ℕ) → b ≡ Ok (Gap z dt dq) → line' ≡ next_line s line → Walking s from t₀ q₀ rows' line' (t + z + dt) (q + z + dq) (left - 1)
         went dt dq line' eb el =
-            let g : block_line s line ≡ Gap z dt dq = sym line_is ∙ eb in
+            let g : block_line s line ≡ Ok (Gap z dt dq) = sym line_is ∙ eb in
             let k = gap_holds s line z dt dq g in
             let bz : z ≤ largest_position = rw eb at read.size in
             let bt : dt ≤ largest_position = rw eb at read.target_gap in
@@ -211,22 +210,22 @@ module _ (s : List ℕ) (from t₀ q₀ : ℕ) (rows : List ℕ) (line t q left 
               sizes = rw el (λ n. sizes_next n k.0);
             }
 
-      pub walk_last : (rows' : List ℕ) (z : ℕ) → rows' ≡ with_row rows (block_limit - left) t q z → (rows₀ : List ℕ) → b ≡ Last z → Walked s from t₀ q₀ rows₀ rows' (Ended (ending_at line (block_limit - (left - 1)) (t + z) (q + z)))
+      pub walk_last : (rows' : List ℕ) (z : ℕ) → rows' ≡ with_row rows (block_limit - left) t q z → (rows₀ : List ℕ) → b ≡ Ok (Last z) → Walked s from t₀ q₀ rows₀ rows' (Ok (ending_at line (block_limit - (left - 1)) (t + z) (q + z)))
       walk_last rows' z er rows₀ eb = ended rows' z er (ap block_one eb) rows₀ eb
 
-      pub walk_more : (rows' : List ℕ) (z : ℕ) → rows' ≡ with_row rows (block_limit - left) t q z → (dt dq line' : ℕ) → b ≡ Gap z dt dq → line' ≡ next_line s line → Walking s from t₀ q₀ rows' line' (t + z + dt) (q + z + dq) (left - 1)
+      pub walk_more : (rows' : List ℕ) (z : ℕ) → rows' ≡ with_row rows (block_limit - left) t q z → (dt dq line' : ℕ) → b ≡ Ok (Gap z dt dq) → line' ≡ next_line s line → Walking s from t₀ q₀ rows' line' (t + z + dt) (q + z + dq) (left - 1)
       walk_more rows' z er dt dq line' eb el = went rows' z er (ap block_one eb) dt dq line' eb el
 
 -- a block that is read is not past the last allowed one
-module _ (s : List ℕ) (line left : ℕ) (b : BlockLine) (read : BlockRead s line left b) (z : ℕ) where
-  module _ (eb : b ≡ Last z) where
+module _ (s : List ℕ) (line left : ℕ) (b : Result BlockLine Fault) (read : BlockRead s line left b) (z : ℕ) where
+  module _ (eb : b ≡ Ok (Last z)) where
     pub last_some : 1 ≤ left
     last_some = rw eb at read.room
 
     pub last_index : block_limit - left < block_limit
     last_index = omega (arith, last_some)
 
-  module _ (dt dq : ℕ) (eb : b ≡ Gap z dt dq) where
+  module _ (dt dq : ℕ) (eb : b ≡ Ok (Gap z dt dq)) where
     pub gap_some : 1 ≤ left
     gap_some = rw eb at read.room
 
@@ -237,8 +236,8 @@ module _ (s : List ℕ) (line left : ℕ) (b : BlockLine) (read : BlockRead s li
     gap_less = omega (arith, gap_some)
 
 -- the sums of the walk fit
-module _ (s : List ℕ) (from t₀ q₀ : ℕ) (rows : List ℕ) (line t q left : ℕ) (w : Walking s from t₀ q₀ rows line t q left) (b : BlockLine) (read : BlockRead s line left b) (z : ℕ) where
-  module _ (eb : b ≡ Last z) where
+module _ (s : List ℕ) (from t₀ q₀ : ℕ) (rows : List ℕ) (line t q left : ℕ) (w : Walking s from t₀ q₀ rows line t q left) (b : Result BlockLine Fault) (read : BlockRead s line left b) (z : ℕ) where
+  module _ (eb : b ≡ Ok (Last z)) where
     last_size : z ≤ largest_position
     last_size = rw eb at read.size
 
@@ -248,7 +247,7 @@ module _ (s : List ℕ) (from t₀ q₀ : ℕ) (rows : List ℕ) (line t q left 
     pub last_query_fits : Fits w64 (q + z)
     last_query_fits = omega (arith, w.query, last_size)
 
-  module _ (dt dq : ℕ) (eb : b ≡ Gap z dt dq) where
+  module _ (dt dq : ℕ) (eb : b ≡ Ok (Gap z dt dq)) where
     gap_size : z ≤ largest_position
     gap_size = rw eb at read.size
 

@@ -11,16 +11,11 @@ use borrow.Author.Tests.{leb-true}
 use Rattle.ledger.specs.Limits.{name_limit}
 use Rattle.ledger.specs.declared.Refusal.{Refusal}
 use Rattle.ledger.specs.Strands.{is_told}
-use Rattle.text.specs.declared.Check.{Check}
-use Rattle.text.specs.declared.Check.TheVariants.{Holds}
-use Rattle.text.specs.declared.Check.TheVariants as check
 use Rattle.text.proofs.StageLaws.{require_holds}
 use Rattle.text.proofs.TextLaws.{both}
 use Rattle.writing.specs.Digits.{digits}
 use Rattle.writing.specs.Puts.{Put}
 use Rattle.writing.specs.Answers.{Wrote}
-use Rattle.writing.specs.declared.Writing.{Writing}
-use Rattle.writing.specs.declared.Writing.TheVariants as writing
 use Rattle.writing.proofs.PutLaws.{Completes, completes_all, completes_step, put_then}
 use Rattle.columns.specs.Columns.{table_of}
 use Rattle.columns.specs.Lines.{words_from, line_text, fed_line}
@@ -39,6 +34,7 @@ use Rattle.chain.proofs.StageLaws as stages
 use Rattle.columns.specs.Names.{length_fits, names_in, NamesPut}
 use Rattle.columns.proofs.NameLaws.{names_put}
 use Rattle.columns.proofs.WordLaws.{letter_byte}
+use Rattle.std.specs.Prelude.{Ok, Err, Result, ⊤}
 
 -- a block line
 pub block_put : (n at r : ℕ) (names vs ls b b' : List ℕ) → n ≤ column.gap_count → Put (fed_line (table_of (take n block_codes)) 32 names vs ls) at b b' r → Put (fed_line (take n block_columns) 32 names vs ls) at b b' r
@@ -108,7 +104,7 @@ module _ (r : Chain) (tName qName names : List ℕ) (put : NamesPut tName qName 
   unfolding fed_line line_text chain_columns words_from chain_values head_words
   head_is = rw (line_joins 32 names (chain_values r (length tName) (length qName)) [] chain_columns, put.first_at, put.second_at, letter_byte r.qStrand)
 
-  pub text_wrote : (ts qs zs vs b b' : List ℕ) (x : Writing) → vs ≡ chain_values r (length tName) (length qName) → Wrote (text_of names vs r.blockCount ts qs zs) b b' x → Wrote (chain_text r tName qName ts qs zs) b b' x
+  pub text_wrote : (ts qs zs vs b b' : List ℕ) (x : Result ℕ Refusal) → vs ≡ chain_values r (length tName) (length qName) → Wrote (text_of names vs r.blockCount ts qs zs) b b' x → Wrote (chain_text r tName qName ts qs zs) b b' x
   unfolding text_of chain_text
   text_wrote ts qs zs vs b b' x ev w = rw (ev, head_is) at w
 
@@ -117,7 +113,7 @@ pub names_there : (r : Chain) (tName qName ts qs zs t names : List ℕ) → Writ
 names_there r tName qName ts qs zs t names w e l = names_put tName qName t names e l w.t_short w.q_short
 
 -- a record that passes the checks can be written
-pub check_writable : (r : Chain) (tName qName ts qs zs : List ℕ) → write_check r tName qName ts qs zs ≡ Holds → Writable r tName qName ts qs zs
+pub check_writable : (r : Chain) (tName qName ts qs zs : List ℕ) → write_check r tName qName ts qs zs ≡ (Ok tt) → Writable r tName qName ts qs zs
 unfolding write_check names_show names_fit
 check_writable r tName qName ts qs zs e =
     let a = require_holds _ _ _ e in
@@ -133,14 +129,14 @@ check_writable r tName qName ts qs zs e =
     }
 
 -- the writer: the checks, then the text
-module _ (r : Chain) (tName qName ts qs zs b : List ℕ) (c : Check) (ec : c ≡ write_check r tName qName ts qs zs) where
-  pub write_refused : (x : Refusal) → c ≡ check.Refused x → ChainWrote r tName qName ts qs zs b b (writing.Refused x)
+module _ (r : Chain) (tName qName ts qs zs b : List ℕ) (c : Result ⊤ Refusal) (ec : c ≡ write_check r tName qName ts qs zs) where
+  pub write_refused : (x : Refusal) → c ≡ Err x → ChainWrote r tName qName ts qs zs b b (Err x)
   unfolding chain_write
   write_refused x q = record { is = rw (← ec, q); left = refl }
 
-  pub write_ready : c ≡ Holds → Writable r tName qName ts qs zs
+  pub write_ready : c ≡ (Ok tt) → Writable r tName qName ts qs zs
   write_ready q = check_writable r tName qName ts qs zs (sym ec ∙ q)
 
-  pub write_wrote : (b' : List ℕ) (x : Writing) → c ≡ Holds → Wrote (chain_text r tName qName ts qs zs) b b' x → ChainWrote r tName qName ts qs zs b b' x
+  pub write_wrote : (b' : List ℕ) (x : Result ℕ Refusal) → c ≡ (Ok tt) → Wrote (chain_text r tName qName ts qs zs) b b' x → ChainWrote r tName qName ts qs zs b b' x
   unfolding chain_write
   write_wrote b' x q h = record { is = rw (← ec, q) h.is; left = h.left }

@@ -1,15 +1,11 @@
 -- For private contracts: what the steps of reading and writing a chain promise. Not a definition of the format.
-use Rattle.std.specs.Prelude.{ℕ, ◌-◌, ◌*◌, ◌≤◌, ◌<◌, ◌≡◌, true, List, [], ◌∷◌, ◌++◌, length, take, drop}
+use Rattle.std.specs.Prelude.{ℕ, ◌-◌, ◌*◌, ◌≤◌, ◌<◌, ◌≡◌, true, List, [], ◌∷◌, ◌++◌, length, take, drop, Ok, Err, Result, ⊤}
 use Rattle.ledger.specs.Limits.{name_limit, block_limit, largest_position}
 use Rattle.ledger.specs.Strands.{strand_letter}
-use Rattle.text.specs.declared.Stage.{Stage}
-use Rattle.text.specs.declared.Stage.TheVariants as stage
 use Rattle.text.specs.Checks.{then_check, room_check}
 use Rattle.text.specs.Words.{line_end, next_line, next_word, word_count, bytes_of}
-use Rattle.numbers.specs.declared.Spelt.TheVariants.{Means}
 use Rattle.numbers.specs.declared.Taken.{Taken}
 use Rattle.numbers.specs.Numbers.{number_of}
-use Rattle.columns.specs.declared.Columns.TheVariants.{Next}
 use Rattle.columns.specs.Columns.{columns_from, values_from, value_of}
 use Rattle.columns.specs.Lines.{fed_line}
 use Rattle.blocks.specs.Blocks.{rows_of}
@@ -24,35 +20,32 @@ use Rattle.chain.specs.declared.Head.{Head}
 use Rattle.chain.specs.declared.Quick.{Quick}
 use Rattle.chain.specs.declared.Rest.{Rest}
 use Rattle.chain.specs.declared.Step.{Step}
-use Rattle.chain.specs.declared.Lines.{Lines}
-use Rattle.chain.specs.declared.Lines.TheVariants.{Ended}
-use Rattle.chain.specs.declared.ChainReading.{ChainReading}
-use Rattle.chain.specs.declared.ChainReading.TheVariants.{Read, Faulty}
 use Rattle.chain.specs.Columns as column
 use Rattle.chain.specs.Table.{chain_columns}
 use Rattle.chain.specs.Records.{targets_from, queries_from, sizes_from, chain_targets, chain_queries, chain_sizes}
 use Rattle.chain.specs.Read.{is_block_count, block_words, limit_check, block_numbers, block_line, lines_from, chain_roomed, on_reading}
 use Rattle.chain.specs.Write.{block_text}
+use Rattle.ledger.specs.declared.Fault.{Fault}
 
 -- before a block line is read: the limit, and only then its number of words
-unfoldable pub line_check : List ℕ → ℕ → ℕ → ℕ → Stage
-line_check s line n k = then_check stage.Faulty (limit_check line k) (block_words s line n)
+unfoldable pub line_check : List ℕ → ℕ → ℕ → ℕ → Result ⊤ Fault
+line_check s line n k = then_check Err (limit_check line k) (block_words s line n)
 
 -- the numbers of a block line
-abbrev pub block_size : BlockLine → ℕ
-block_size (Last z) = z
-block_size (Gap z dt dq) = z
-block_size (block.Faulty x) = 0
+abbrev pub block_size : Result BlockLine Fault → ℕ
+block_size (Ok (Last z)) = z
+block_size (Ok (Gap z dt dq)) = z
+block_size (Err x) = 0
 
-abbrev pub block_target_gap : BlockLine → ℕ
-block_target_gap (Last z) = 0
-block_target_gap (Gap z dt dq) = dt
-block_target_gap (block.Faulty x) = 0
+abbrev pub block_target_gap : Result BlockLine Fault → ℕ
+block_target_gap (Ok (Last z)) = 0
+block_target_gap (Ok (Gap z dt dq)) = dt
+block_target_gap (Err x) = 0
 
-abbrev pub block_query_gap : BlockLine → ℕ
-block_query_gap (Last z) = 0
-block_query_gap (Gap z dt dq) = dq
-block_query_gap (block.Faulty x) = 0
+abbrev pub block_query_gap : Result BlockLine Fault → ℕ
+block_query_gap (Ok (Last z)) = 0
+block_query_gap (Ok (Gap z dt dq)) = dq
+block_query_gap (Err x) = 0
 
 -- a block line of a good number of words
 pub record LineCounted (s : List ℕ) (line n : ℕ) : Type 0 where
@@ -60,20 +53,20 @@ pub record LineCounted (s : List ℕ) (line n : ℕ) : Type 0 where
   pub good : is_block_count n ≡ true
 
 -- what reading the numbers of a block line promises: the block, and that its numbers are coordinates, which follows
-pub record NumbersRead (s : List ℕ) (line n : ℕ) (r : BlockLine) : Type 0 where
+pub record NumbersRead (s : List ℕ) (line n : ℕ) (r : Result BlockLine Fault) : Type 0 where
   pub is : r ≡ block_numbers s line n
   pub size : block_size r ≤ largest_position
   pub target_gap : block_target_gap r ≤ largest_position
   pub query_gap : block_query_gap r ≤ largest_position
 
-abbrev pub block_one : BlockLine → ℕ
-block_one (Last z) = 1
-block_one (Gap z dt dq) = 1
-block_one (block.Faulty x) = 0
+abbrev pub block_one : Result BlockLine Fault → ℕ
+block_one (Ok (Last z)) = 1
+block_one (Ok (Gap z dt dq)) = 1
+block_one (Err x) = 0
 
 -- and what reading a block line promises, where k blocks may still come
-pub record BlockRead (s : List ℕ) (line k : ℕ) (r : BlockLine) : Type 0 where
-  pub is : r ≡ then_check block.Faulty (limit_check line k) (block_line s line)
+pub record BlockRead (s : List ℕ) (line k : ℕ) (r : Result BlockLine Fault) : Type 0 where
+  pub is : r ≡ then_check Err (limit_check line k) (block_line s line)
   pub room : block_one r ≤ k
   pub size : block_size r ≤ largest_position
   pub target_gap : block_target_gap r ≤ largest_position
@@ -82,7 +75,7 @@ pub record BlockRead (s : List ℕ) (line k : ℕ) (r : BlockLine) : Type 0 wher
 -- what taking the number of a word promises: where it is good, it is what the word at or after a place spells, and ends
 -- with the word
 pub record WordTaken (least : ℕ) (s : List ℕ) (at : ℕ) (r : Taken) : Type 0 where
-  pub means : r.good ≡ true → number_of least largest_position (bytes_of s (next_word s at)) ≡ Means r.value
+  pub means : r.good ≡ true → number_of least largest_position (bytes_of s (next_word s at)) ≡ Ok r.value
   pub ends : r.good ≡ true → r.end ≡ (next_word s at).end
   pub some : r.good ≡ true → (next_word s at).start < (next_word s at).end
   pub small : r.good ≡ true → r.value ≤ largest_position
@@ -94,20 +87,20 @@ pub record RestSeen (s : List ℕ) (at : ℕ) (r : Rest) : Type 0 where
 
 -- what taking a block line in one pass promises: where it is good, it is the block line
 pub record GapTaken (s : List ℕ) (line : ℕ) (r : Quick) : Type 0 where
-  pub is : r.good ≡ true → block_line s line ≡ Gap r.size r.dt r.dq
+  pub is : r.good ≡ true → block_line s line ≡ Ok (Gap r.size r.dt r.dq)
   pub next : r.good ≡ true → r.next ≡ next_line s line
   pub size : r.good ≡ true → r.size ≤ largest_position
   pub target_gap : r.good ≡ true → r.dt ≤ largest_position
   pub query_gap : r.good ≡ true → r.dq ≤ largest_position
 
 pub record LastTaken (s : List ℕ) (line : ℕ) (r : Taken) : Type 0 where
-  pub is : r.good ≡ true → block_line s line ≡ Last r.value
+  pub is : r.good ≡ true → block_line s line ≡ Ok (Last r.value)
   pub size : r.good ≡ true → r.value ≤ largest_position
 
 -- and what reading a block line with the place of the next promises, where k blocks may still come
 pub record StepRead (s : List ℕ) (line k : ℕ) (r : Step) : Type 0 where
   pub read : BlockRead s line k r.block
-  pub next : (z dt dq : ℕ) → r.block ≡ Gap z dt dq → r.next ≡ next_line s line
+  pub next : (z dt dq : ℕ) → r.block ≡ Ok (Gap z dt dq) → r.next ≡ next_line s line
 
 -- the working room of a reader holds n rows of the block lines from a place on: targets at its front, queries and sizes each after the room for a
 -- record's blocks
@@ -124,10 +117,10 @@ pub record Begins (t q : ℕ) (rows : List ℕ) : Type 0 where
   pub long : length rows ≡ 3 * block_limit
 
 -- what the walk promises
-pub record Walked (s : List ℕ) (from t q : ℕ) (rows rows' : List ℕ) (x : Lines) : Type 0 where
+pub record Walked (s : List ℕ) (from t q : ℕ) (rows rows' : List ℕ) (x : Result Ending Fault) : Type 0 where
   pub is : x ≡ lines_from block_limit s from t q
   pub long : length rows' ≡ 3 * block_limit
-  pub held : (e : Ending) → x ≡ Ended e → Placed s from t q e.count rows'
+  pub held : (e : Ending) → x ≡ Ok e → Placed s from t q e.count rows'
 
 -- the values of a header that was read up to a place, before its spans are tested
 pub record Headed (s : List ℕ) (end : ℕ) (vs rows : List ℕ) : Type 0 where
@@ -157,16 +150,16 @@ head_values x =
 -- what taking it promises: where it is good, its number of words is, and its columns are read
 pub record HeadTaken (s : List ℕ) (x : Head) : Type 0 where
   pub count : x.good ≡ true → word_count s 0 ≡ column.header_count
-  pub read : x.good ≡ true → columns_from chain_columns 0 s 0 ≡ Next x.id.end
+  pub read : x.good ≡ true → columns_from chain_columns 0 s 0 ≡ Ok x.id.end
   pub values : x.good ≡ true → values_from chain_columns 0 s 0 ≡ head_values x
 
 -- what storing the rows of a chain promises, the room first
-abbrev pub RowsStored : List ℕ → Chain → List ℕ → List ℕ → List ℕ → List ℕ → List ℕ → List ℕ → ChainReading → Type 0
+abbrev pub RowsStored : List ℕ → Chain → List ℕ → List ℕ → List ℕ → List ℕ → List ℕ → List ℕ → Result Chain Fault → Type 0
 RowsStored s r ts ts' qs qs' zs zs' x =
-    RowsRead on_reading (then_check Faulty (room_check s r.blockCount (rows_of ts qs zs)) (Read r)) (chain_targets s) (chain_queries s) (chain_sizes s) ts ts' qs qs' zs zs' x
+    RowsRead on_reading (then_check Err (room_check s r.blockCount (rows_of ts qs zs)) (Ok r)) (chain_targets s) (chain_queries s) (chain_sizes s) ts ts' qs qs' zs zs' x
 
 -- and the stages before it
-abbrev pub BlocksRead : List ℕ → List ℕ → List ℕ → List ℕ → List ℕ → List ℕ → List ℕ → ChainReading → Type 0
+abbrev pub BlocksRead : List ℕ → List ℕ → List ℕ → List ℕ → List ℕ → List ℕ → List ℕ → Result Chain Fault → Type 0
 BlocksRead s ts ts' qs qs' zs zs' x = RowsRead on_reading (chain_roomed s (rows_of ts qs zs)) (chain_targets s) (chain_queries s) (chain_sizes s) ts ts' qs qs' zs zs' x
 
 -- the header as values by column, for the line writer: two numbers a column, a name's length and where it stands in a text of names

@@ -1,14 +1,11 @@
 -- Writing a chain: the writers' refusals in their order, and the standard text.
-use Rattle.std.specs.Prelude.{ℕ, zero, suc, ◌+◌, ◌-◌, ◌≡◌, Bool, ◌&&◌, List, [], ◌∷◌, ◌++◌, length, take, get_or}
+use Rattle.std.specs.Prelude.{ℕ, zero, suc, ◌+◌, ◌-◌, ◌≡◌, Bool, ◌&&◌, List, [], ◌∷◌, ◌++◌, length, take, get_or, Ok, Result, ⊤}
 use Rattle.ledger.specs.declared.Reason.TheVariants.{NumberOutOfRange, BadWord, SpanDisagrees, BlockRules}
 use Rattle.ledger.specs.Refusals.{require}
 use Rattle.ledger.specs.Strands.{strand_letter, is_told}
-use Rattle.text.specs.declared.Check.{Check}
-use Rattle.text.specs.declared.Check.TheVariants.{Holds}
 use Rattle.text.specs.Checks.{refused}
 use Rattle.text.specs.Pieces.{joined}
 use Rattle.writing.specs.Digits.{digits}
-use Rattle.writing.specs.declared.Writing.{Writing}
 use Rattle.writing.specs.Answers.{room_answer, left_after}
 use Rattle.kinds.specs.declared.Fixed.TheVariants as fixed
 use Rattle.kinds.specs.Kinds.{fixed_text}
@@ -17,20 +14,21 @@ use Rattle.columns.specs.Lines.{then_write}
 use Rattle.chain.specs.declared.Chain.{Chain}
 use Rattle.chain.specs.Tests.{names_fit, fields_fit, spans_fit, rows_fit, chain_valid}
 use Rattle.columns.specs.Names.{all_graphic}
+use Rattle.ledger.specs.declared.Refusal.{Refusal}
 
 -- the names that are handed in: their lengths, and that all their bytes show
 unfoldable pub names_show : List ℕ → List ℕ → Bool
 names_show tName qName = names_fit (length tName) (length qName) && (all_graphic tName && all_graphic qName)
 
 -- the refusals, without a text: a bad row count (9); names and strand (6); the numbers, a row's too (5); spans (7); blocks (9)
-unfoldable pub write_check : Chain → List ℕ → List ℕ → List ℕ → List ℕ → List ℕ → Check
+unfoldable pub write_check : Chain → List ℕ → List ℕ → List ℕ → List ℕ → List ℕ → Result ⊤ Refusal
 write_check r tName qName ts qs zs =
     require (count_fits r.blockCount (rows_of ts qs zs)) (refused BlockRules)
     (require (names_show tName qName && is_told r.qStrand) (refused BadWord)
     (require (fields_fit r && row_numbers_fit (take r.blockCount ts) (take r.blockCount qs) (take r.blockCount zs)) (refused NumberOutOfRange)
     (require (spans_fit r) (refused SpanDisagrees)
     (require (rows_fit r (take r.blockCount ts) (take r.blockCount qs) (take r.blockCount zs)) (refused BlockRules)
-    Holds))))
+    Ok tt))))
 
 -- the thirteen words of a header
 unfoldable pub head_words : Chain → List ℕ → List ℕ → List (List ℕ)
@@ -61,14 +59,14 @@ unfoldable pub chain_text : Chain → List ℕ → List ℕ → List ℕ → Lis
 chain_text r tName qName ts qs zs = fed_words (head_words r tName qName) ++ block_text (r.blockCount - 1) 0 ts qs zs
 
 -- THE WRITER: the checks, then the text's length (1), then the room (11)
-unfoldable pub chain_write : Chain → List ℕ → List ℕ → List ℕ → List ℕ → List ℕ → ℕ → Writing
+unfoldable pub chain_write : Chain → List ℕ → List ℕ → List ℕ → List ℕ → List ℕ → ℕ → Result ℕ Refusal
 chain_write r tName qName ts qs zs room = then_write (write_check r tName qName ts qs zs) (room_answer (length (chain_text r tName qName ts qs zs)) room)
 
 -- what the writer promises: the answer, and the buffer with the text at its front, or as it was
-pub record ChainWrote (r : Chain) (tName qName ts qs zs before after : List ℕ) (x : Writing) : Type 0 where
+pub record ChainWrote (r : Chain) (tName qName ts qs zs before after : List ℕ) (x : Result ℕ Refusal) : Type 0 where
   pub is : x ≡ chain_write r tName qName ts qs zs (length before)
   pub left : after ≡ left_after x (chain_text r tName qName ts qs zs) before
 
 -- THE RECORD CHECKER: any breach is 9
-unfoldable pub record_check : Chain → List ℕ → List ℕ → List ℕ → Check
-record_check r ts qs zs = require (chain_valid r ts qs zs) (refused BlockRules) Holds
+unfoldable pub record_check : Chain → List ℕ → List ℕ → List ℕ → Result ⊤ Refusal
+record_check r ts qs zs = require (chain_valid r ts qs zs) (refused BlockRules) (Ok tt)

@@ -1,16 +1,14 @@
 // One chain: reader, text checker, record checker, writer, over three flat slices of blocks.
 #![tactic(auto)]
 
-ghost use Rattle.std.specs.Prelude.{◌≡◌, [], ◌∷◌, ◌+◌, ◌-◌, ◌*◌, ◌≤◌, ◌<◌, length, set, take};
+ghost use Rattle.std.specs.Prelude.{◌≡◌, [], ◌∷◌, ◌+◌, ◌-◌, ◌*◌, ◌≤◌, ◌<◌, length, set, take, Ok, Err};
 ghost use Rattle.ledger.specs.Limits.{block_limit};
 ghost use Rattle.text.specs.Checks.{then_check};
 ghost use Rattle.text.specs.Steps.{Staged};
-ghost use Rattle.text.specs.declared.Stage.TheVariants as stage;
 ghost use Rattle.writing.specs.Puts.{Put};
 ghost use Rattle.writing.specs.Answers.{Wrote};
 ghost use Rattle.columns.specs.Lines.{fed_line};
 ghost use Rattle.blocks.specs.Rules.{RowsInUse};
-ghost use Rattle.chain.specs.declared.ChainReading.TheVariants as reading;
 ghost use Rattle.chain.specs.Columns as column;
 ghost use Rattle.chain.specs.Table.{block_columns};
 ghost use Rattle.chain.specs.Records.{name_of, chain_record};
@@ -56,12 +54,11 @@ ghost use Rattle.chain.specs.Steps.{
   Writable,
 };
 
-use columns::{Columns, Got};
+use columns::Got;
 use kinds::{Fixed, Kind, Range};
 use ledger::{Fault, Part, Reason, Refusal, Strand};
 use numbers::Taken;
-use text::{Check, Class, Stage};
-use writing::Writing;
+use text::Class;
 
 // The record of a chain. A name is a part of the text; with `-`, qStart and qEnd count on the reversed query.
 #[derive(Clone, Copy)]
@@ -80,26 +77,11 @@ pub struct Chain {
     pub blockCount: u64,
 }
 
-// What the stages of a reader find: the record, or the first fault.
-#[derive(Clone, Copy)]
-pub enum ChainReading {
-    Read(Chain),
-    Faulty(Fault),
-}
-
-// What a caller is told.
-#[derive(Clone, Copy)]
-pub enum ChainAnswer {
-    Accepted(Chain),
-    Refused(Refusal),
-}
-
 // One block line: the last one's size; or a size and the gaps after it on the target and on the query; or the fault.
 #[derive(Clone, Copy)]
 pub enum BlockLine {
     Last(u64),
     Gap(u64, u64, u64),
-    Faulty(Fault),
 }
 
 // Where the block lines end: the last line's place, the number of blocks, and where the last block ends on either side.
@@ -109,13 +91,6 @@ pub struct Ending {
     pub count: u64,
     pub target: u64,
     pub query: u64,
-}
-
-// All block lines: where they end, or the first fault.
-#[derive(Clone, Copy)]
-pub enum Lines {
-    Ended(Ending),
-    Faulty(Fault),
 }
 
 // The columns of a header by number; specs/Columns.antt names the same.
@@ -174,12 +149,12 @@ const CHAIN: [u8; COLUMNS] = [
 const BLOCK: [u8; GAP_COLUMNS] = [kinds::SIZE, kinds::COORDINATE, kinds::COORDINATE];
 
 // What a caller is told of a reading: the one place where a fault becomes a refusal.
-fn answered(x: ChainReading) -> ChainAnswer
+fn answered(x: Result<Chain, Fault>) -> Result<Chain, Refusal>
     ensures { result ≡ chain_answer x }
 {
     match x {
-        ChainReading::Faulty(y) => ChainAnswer::Refused(Refusal::at(y)),
-        ChainReading::Read(r) => ChainAnswer::Accepted(r),
+        Err(y) => Err(Refusal::at(y)),
+        Ok(r) => Ok(r),
     }
 }
 
@@ -211,14 +186,14 @@ fn record_of(values: &[u64], count: u64) -> Chain
 }
 
 // The spans (7).
-fn check_spans(r: Chain, values: &[u64]) -> Stage
+fn check_spans(r: Chain, values: &[u64]) -> Result<(), Fault>
     ensures { result ≡ span_check r values.now }
 {
     let query = text::require(
         blocks::span_fits(r.qStart, r.qEnd, r.qSize),
         Reason::SpanDisagrees,
         columns::place_of(values, Q_END) as usize,
-        Stage::Passes,
+        Ok(()),
     );
     text::require(
         blocks::span_fits(r.tStart, r.tEnd, r.tSize),
@@ -236,30 +211,28 @@ fn is_block_count(n: usize) -> bool
 }
 
 // The limit (11), where so many blocks may still come.
-fn check_limit(line: usize, left: u64) -> Stage
+fn check_limit(line: usize, left: u64) -> Result<(), Fault>
     ensures { result ≡ limit_check line left }
 {
     if left == 0 {
-        return Stage::Faulty(Fault {
+        return Err(Fault {
             reason: Reason::NoRoom,
             place: line,
         });
     }
-    Stage::Passes
+    Ok(())
 }
 
 // The first fault of two stages.
-fn first_of(first: Stage, second: Stage) -> Stage
-    ensures { result ≡ then_check stage.Faulty first second }
+fn first_of(first: Result<(), Fault>, second: Result<(), Fault>) -> Result<(), Fault>
+    ensures { result ≡ then_check Err first second }
 {
-    match first {
-        Stage::Faulty(x) => Stage::Faulty(x),
-        Stage::Passes => second,
-    }
+    first?;
+    second
 }
 
 // Before a block line is read: the limit (11), and only then its number of words (2).
-fn check_line(text: &[u8], line: usize, n: usize, left: u64) -> Stage
+fn check_line(text: &[u8], line: usize, n: usize, left: u64) -> Result<(), Fault>
     ensures { result ≡ line_check text.now line n left }
 {
     let limit = check_limit(line, left);
@@ -268,43 +241,39 @@ fn check_line(text: &[u8], line: usize, n: usize, left: u64) -> Stage
 }
 
 // The block that the values of a line of n words say.
-fn block_of(values: &[u64], n: usize) -> BlockLine
+fn block_of(values: &[u64], n: usize) -> Result<BlockLine, Fault>
     ensures { result ≡ block_is n values.now }
 {
     let size = columns::value_of(values, SIZE);
     if n == LAST_COLUMNS {
-        return BlockLine::Last(size);
+        return Ok(BlockLine::Last(size));
     }
-    BlockLine::Gap(
+    Ok(BlockLine::Gap(
         size,
         columns::value_of(values, DT),
         columns::value_of(values, DQ),
-    )
+    ))
 }
 
 // The columns of a block line of n words.
-fn read_numbers(text: &[u8], line: usize, n: usize) -> BlockLine
+fn read_numbers(text: &[u8], line: usize, n: usize) -> Result<BlockLine, Fault>
     requires { LineCounted text.now line n }
     ensures { NumbersRead text.now line n result }
 {
     let table = BLOCK;
     let mut values = [0u64; 2 * GAP_COLUMNS];
     let mut none = [0u64; 0];
-    match columns::walk_line(text, line, &table[..n], &mut values, &mut none) {
-        Columns::Faulty(x) => BlockLine::Faulty(x),
-        Columns::Next(_) => block_of(&values, n),
-    }
+    columns::walk_line(text, line, &table[..n], &mut values, &mut none)?;
+    block_of(&values, n)
 }
 
 // The block line at a place, where so many blocks may still come.
-fn read_block(text: &[u8], line: usize, left: u64) -> BlockLine
+fn read_block(text: &[u8], line: usize, left: u64) -> Result<BlockLine, Fault>
     ensures { BlockRead text.now line left result }
 {
     let n = text::count_words(text, line);
-    match check_line(text, line, n, left) {
-        Stage::Faulty(x) => BlockLine::Faulty(x),
-        Stage::Passes => read_numbers(text, line, n),
-    }
+    check_line(text, line, n, left)?;
+    read_numbers(text, line, n)
 }
 
 // A number of at least so much, and at most a coordinate, in the word at or after a place.
@@ -381,7 +350,7 @@ fn quick_last(text: &[u8], line: usize) -> Taken
 // A block line, and where the next line begins if one has to.
 #[derive(Clone, Copy)]
 pub struct Step {
-    pub block: BlockLine,
+    pub block: Result<BlockLine, Fault>,
     pub next: usize,
 }
 
@@ -402,7 +371,7 @@ fn take_step(text: &[u8], line: usize, left: u64) -> Step
     }
     let x = quick_gap(text, line);
     if x.good {
-        let block = BlockLine::Gap(x.size, x.dt, x.dq);
+        let block = Ok(BlockLine::Gap(x.size, x.dt, x.dq));
         return Step {
             block,
             next: x.next,
@@ -410,7 +379,7 @@ fn take_step(text: &[u8], line: usize, left: u64) -> Step
     }
     let y = quick_last(text, line);
     if y.good {
-        let block = BlockLine::Last(y.value);
+        let block = Ok(BlockLine::Last(y.value));
         return Step { block, next: line };
     }
     read_step(text, line, left)
@@ -429,7 +398,7 @@ fn put_row(rows: &mut [u64], i: u64, t: u64, q: u64, z: u64)
 }
 
 // The block lines from the one at a place on, the first block starting at target and query: their rows to the working room.
-fn walk_lines(text: &[u8], from: usize, target: u64, query: u64, rows: &mut [u64]) -> Lines
+fn walk_lines(text: &[u8], from: usize, target: u64, query: u64, rows: &mut [u64]) -> Result<Ending, Fault>
     requires { Begins target query rows.old }
     ensures { Walked text.now from target query rows.old rows.new result }
 {
@@ -441,19 +410,19 @@ fn walk_lines(text: &[u8], from: usize, target: u64, query: u64, rows: &mut [u64
         let step = take_step(text, line, left);
         let block = step.block;
         match block {
-            BlockLine::Faulty(x) => {
-                return Lines::Faulty(x);
+            Err(x) => {
+                return Err(x);
             }
-            BlockLine::Last(z) => {
+            Ok(BlockLine::Last(z)) => {
                 put_row(rows, ledger::BLOCK_LIMIT - left, t, q, z);
-                return Lines::Ended(Ending {
+                return Ok(Ending {
                     line,
                     count: ledger::BLOCK_LIMIT - (left - 1),
                     target: t + z,
                     query: q + z,
                 });
             }
-            BlockLine::Gap(z, dt, dq) => {
+            Ok(BlockLine::Gap(z, dt, dq)) => {
                 put_row(rows, ledger::BLOCK_LIMIT - left, t, q, z);
                 t = t + z + dt;
                 q = q + z + dq;
@@ -462,64 +431,56 @@ fn walk_lines(text: &[u8], from: usize, target: u64, query: u64, rows: &mut [u64
         }
         left -= 1;
     }
-    Lines::Faulty(Fault {
+    Err(Fault {
         reason: Reason::WrongCount,
         place: text.len(),
     })
 }
 
 // The blocks (9).
-fn check_fill(text: &[u8], r: Chain, e: Ending) -> Stage
+fn check_fill(text: &[u8], r: Chain, e: Ending) -> Result<(), Fault>
     ensures { result ≡ fill_check text.now r e }
 {
     let ends = (e.target == r.tEnd) & (e.query == r.qEnd);
-    text::require(ends, Reason::BlockRules, text.len(), Stage::Passes)
+    text::require(ends, Reason::BlockRules, text.len(), Ok(()))
 }
 
 // The record, and the blocks.
-fn after_last(text: &[u8], values: &[u64], e: Ending) -> ChainReading
+fn after_last(text: &[u8], values: &[u64], e: Ending) -> Result<Chain, Fault>
     ensures { result ≡ after_last text.now values.now e }
 {
     let r = record_of(values, e.count);
-    match check_fill(text, r, e) {
-        Stage::Faulty(x) => ChainReading::Faulty(x),
-        Stage::Passes => ChainReading::Read(r),
-    }
+    check_fill(text, r, e)?;
+    Ok(r)
 }
 
 // A surplus line, and on.
-fn after_lines(text: &[u8], values: &[u64], e: Ending) -> ChainReading
+fn after_lines(text: &[u8], values: &[u64], e: Ending) -> Result<Chain, Fault>
     ensures { result ≡ after_lines text.now values.now e }
 {
-    match text::check_last_line(text, e.line) {
-        Stage::Faulty(x) => ChainReading::Faulty(x),
-        Stage::Passes => after_last(text, values, e),
-    }
+    text::check_last_line(text, e.line)?;
+    after_last(text, values, e)
 }
 
 // The block lines from the top, and on; the header ends on the line of a place.
-fn after_spans(text: &[u8], end: usize, values: &[u64], rows: &mut [u64]) -> ChainReading
+fn after_spans(text: &[u8], end: usize, values: &[u64], rows: &mut [u64]) -> Result<Chain, Fault>
     requires { Headed text.now end values.now rows.old }
-    ensures { Staged reading.Read (Held text.now) (after_spans text.now values.now) rows.new result }
+    ensures { Staged Ok (Held text.now) (after_spans text.now values.now) rows.new result }
 {
     let first = text::next_line(text, end);
     let target = columns::value_of(values, T_START);
     let query = columns::value_of(values, Q_START);
-    match walk_lines(text, first, target, query, rows) {
-        Lines::Faulty(x) => ChainReading::Faulty(x),
-        Lines::Ended(e) => after_lines(text, values, e),
-    }
+    let e = walk_lines(text, first, target, query, rows)?;
+    after_lines(text, values, e)
 }
 
 // The spans, and on.
-fn after_columns(text: &[u8], end: usize, values: &[u64], rows: &mut [u64]) -> ChainReading
+fn after_columns(text: &[u8], end: usize, values: &[u64], rows: &mut [u64]) -> Result<Chain, Fault>
     requires { Headed text.now end values.now rows.old }
-    ensures { Staged reading.Read (Held text.now) (after_columns text.now values.now) rows.new result }
+    ensures { Staged Ok (Held text.now) (after_columns text.now values.now) rows.new result }
 {
-    match check_spans(record_of(values, 0), values) {
-        Stage::Faulty(x) => ChainReading::Faulty(x),
-        Stage::Passes => after_spans(text, end, values, rows),
-    }
+    check_spans(record_of(values, 0), values)?;
+    after_spans(text, end, values, rows)
 }
 
 // A header taken in one pass: whether it is good, and then its columns.
@@ -614,9 +575,9 @@ fn head_values(x: Head) -> [u64; 2 * COLUMNS]
 }
 
 // The header's number of words, its columns from the left, and on.
-fn after_text(text: &[u8], rows: &mut [u64]) -> ChainReading
+fn after_text(text: &[u8], rows: &mut [u64]) -> Result<Chain, Fault>
     requires { length rows.old ≡ 3 * block_limit }
-    ensures { Staged reading.Read (Held text.now) (after_text text.now) rows.new result }
+    ensures { Staged Ok (Held text.now) (after_text text.now) rows.new result }
 {
     let q = quick_head(text);
     if q.good {
@@ -626,25 +587,21 @@ fn after_text(text: &[u8], rows: &mut [u64]) -> ChainReading
     let table = CHAIN;
     let mut values = [0u64; 2 * COLUMNS];
     let mut none = [0u64; 0];
-    match columns::walk_words(text, &table, &mut values, &mut none) {
-        Columns::Faulty(x) => ChainReading::Faulty(x),
-        Columns::Next(e) => after_columns(text, e, &values, rows),
-    }
+    let e = columns::walk_words(text, &table, &mut values, &mut none)?;
+    after_columns(text, e, &values, rows)
 }
 
 // All checks of a text, the rows of an accepted chain in the working room.
-fn stage(text: &[u8], rows: &mut [u64]) -> ChainReading
+fn stage(text: &[u8], rows: &mut [u64]) -> Result<Chain, Fault>
     requires { length rows.old ≡ 3 * block_limit }
-    ensures { Staged reading.Read (Held text.now) (chain_stages text.now) rows.new result }
+    ensures { Staged Ok (Held text.now) (chain_stages text.now) rows.new result }
 {
-    match text::check_text(text) {
-        Stage::Faulty(x) => ChainReading::Faulty(x),
-        Stage::Passes => after_text(text, rows),
-    }
+    text::check_text(text)?;
+    after_text(text, rows)
 }
 
 // THE TEXT CHECKER: what the reader answers, given room.
-pub fn check_chain_text(text: &[u8]) -> ChainAnswer
+pub fn check_chain_text(text: &[u8]) -> Result<Chain, Refusal>
     ensures { result ≡ chain_check text.now }
 {
     let mut rows = blocks::working_room();
@@ -653,7 +610,7 @@ pub fn check_chain_text(text: &[u8]) -> ChainAnswer
 
 // The reader into working room for any record's blocks: targets, queries and sizes, each after the room for a record's
 // blocks. In room of another length nothing is stored.
-pub fn read_rows(text: &[u8], rows: &mut [u64]) -> ChainAnswer
+pub fn read_rows(text: &[u8], rows: &mut [u64]) -> Result<Chain, Refusal>
     ensures { InRoom text.now rows.old rows.new result }
 {
     if rows.len() != blocks::ROOM {
@@ -670,7 +627,7 @@ fn store_rows(
     targets: &mut [u64],
     queries: &mut [u64],
     sizes: &mut [u64],
-) -> ChainReading
+) -> Result<Chain, Fault>
     requires { Held text.now r rows.now }
     ensures { RowsStored text.now r targets.old targets.new queries.old
         queries.new sizes.old sizes.new result }
@@ -678,7 +635,7 @@ fn store_rows(
     let room = blocks::rows_of(targets, queries, sizes);
     let count = r.blockCount as usize;
     if room < count {
-        return ChainReading::Faulty(Fault {
+        return Err(Fault {
             reason: Reason::NoRoom,
             place: text.len(),
         });
@@ -688,7 +645,7 @@ fn store_rows(
     blocks::copy_numbers(rows, count, targets);
     blocks::copy_numbers(&rows[b..], count, queries);
     blocks::copy_numbers(&rows[c..], count, sizes);
-    ChainReading::Read(r)
+    Ok(r)
 }
 
 // The checks, and the rows of a chain that passes them into the lent slices.
@@ -697,15 +654,13 @@ fn read_blocks(
     targets: &mut [u64],
     queries: &mut [u64],
     sizes: &mut [u64],
-) -> ChainReading
+) -> Result<Chain, Fault>
     ensures { BlocksRead text.now targets.old targets.new queries.old
         queries.new sizes.old sizes.new result }
 {
     let mut rows = blocks::working_room();
-    match stage(text, &mut rows) {
-        ChainReading::Faulty(x) => ChainReading::Faulty(x),
-        ChainReading::Read(r) => store_rows(text, r, &rows, targets, queries, sizes),
-    }
+    let r = stage(text, &mut rows)?;
+    store_rows(text, r, &rows, targets, queries, sizes)
 }
 
 // THE READER: one chain, its blocks to the front of three lent slices. A refusal leaves them as they were, and rows past the
@@ -715,7 +670,7 @@ pub fn read_chain(
     targets: &mut [u64],
     queries: &mut [u64],
     sizes: &mut [u64],
-) -> ChainAnswer
+) -> Result<Chain, Refusal>
     ensures { ChainRead text.now targets.old targets.new queries.old
         queries.new sizes.old sizes.new result }
 {
@@ -779,13 +734,13 @@ fn record_fits(r: Chain, targets: &[u64], queries: &[u64], sizes: &[u64]) -> boo
 }
 
 // THE RECORD CHECKER: a record with the first blockCount rows of three slices; any breach is 9.
-pub fn check_chain(r: Chain, targets: &[u64], queries: &[u64], sizes: &[u64]) -> Check
+pub fn check_chain(r: Chain, targets: &[u64], queries: &[u64], sizes: &[u64]) -> Result<(), Refusal>
     ensures { result ≡ record_check r targets.now queries.now sizes.now }
 {
     text::demand(
         record_fits(r, targets, queries, sizes),
         Reason::BlockRules,
-        Check::Holds,
+        Ok(()),
     )
 }
 
@@ -805,7 +760,7 @@ fn check_write(
     targets: &[u64],
     queries: &[u64],
     sizes: &[u64],
-) -> Check
+) -> Result<(), Refusal>
     ensures { result ≡ write_check r tName.now qName.now targets.now queries.now
         sizes.now }
 {
@@ -815,7 +770,7 @@ fn check_write(
     let blocks = text::demand(
         rows_fit(r, targets, queries, sizes, count),
         Reason::BlockRules,
-        Check::Holds,
+        Ok(()),
     );
     let spans = text::demand(spans_fit(r), Reason::SpanDisagrees, blocks);
     let numbers = text::demand(
@@ -963,19 +918,17 @@ fn write_lines(
     targets: &[u64],
     queries: &[u64],
     sizes: &[u64],
-) -> Writing
+) -> Result<usize, Refusal>
     requires { RowsInUse count targets.now queries.now sizes.now }
     ensures { Wrote (text_of names.now values.now count targets.now queries.now
         sizes.now) buf.old buf.new result }
 {
     let mut none = [0u8; 0];
     let n = put_text(&mut none, names, values, count, targets, queries, sizes);
-    match writing::room_for(n, buf.len()) {
-        Writing::Refused(x) => Writing::Refused(x),
-        Writing::Written(_) => Writing::Written(put_text(
-            buf, names, values, count, targets, queries, sizes,
-        )),
-    }
+    writing::room_for(n, buf.len())?;
+    Ok(put_text(
+        buf, names, values, count, targets, queries, sizes,
+    ))
 }
 
 // Writes the standard text of a record that passed the checks.
@@ -987,7 +940,7 @@ fn write_text(
     queries: &[u64],
     sizes: &[u64],
     buf: &mut [u8],
-) -> Writing
+) -> Result<usize, Refusal>
     requires { Writable r tName.now qName.now targets.now queries.now sizes.now }
     ensures { Wrote (chain_text r tName.now qName.now targets.now queries.now
         sizes.now) buf.old buf.new result }
@@ -1009,12 +962,10 @@ pub fn write_chain(
     queries: &[u64],
     sizes: &[u64],
     buf: &mut [u8],
-) -> Writing
+) -> Result<usize, Refusal>
     ensures { ChainWrote r tName.now qName.now targets.now queries.now
         sizes.now buf.old buf.new result }
 {
-    match check_write(r, tName, qName, targets, queries, sizes) {
-        Check::Refused(x) => Writing::Refused(x),
-        Check::Holds => write_text(r, tName, qName, targets, queries, sizes, buf),
-    }
+    check_write(r, tName, qName, targets, queries, sizes)?;
+    write_text(r, tName, qName, targets, queries, sizes, buf)
 }

@@ -13,7 +13,6 @@ use Rattle.ledger.specs.declared.Strand.TheVariants.{Plus, Minus, Dot}
 use Rattle.ledger.specs.Limits.{text_limit, largest_position}
 use Rattle.ledger.specs.Strands.{strand_letter, is_told}
 use Rattle.text.specs.declared.Class.TheVariants.{Graphic, Allowed, Line}
-use Rattle.text.specs.declared.Check.TheVariants.{Holds}
 use Rattle.text.specs.Scan.{run}
 use Rattle.text.specs.Parts.{part_bytes}
 use Rattle.text.specs.Pieces.{lines_of, line_of, words_of, joined}
@@ -32,7 +31,6 @@ use Rattle.columns.proofs.Meant.{Meant, meant_spells}
 use Rattle.columns.proofs.WordLaws.{all_graphic_lem, and_i, name_written, row_spells, row_worded, Row, row_none, row_more, part_bytes_lem}
 use Rattle.blocks.specs.Blocks.{count_fits, rows_of, row_numbers_fit}
 use Rattle.chain.specs.declared.Chain.{Chain}
-use Rattle.chain.specs.declared.ChainAnswer.TheVariants.{Accepted}
 use Rattle.chain.specs.Columns as column
 use Rattle.chain.specs.Table.{chain_columns, block_columns}
 use Rattle.chain.specs.Records.{chain_targets, chain_queries, chain_sizes}
@@ -43,6 +41,7 @@ use Rattle.chain.specs.Rules.{BlockLines, last_line, more_lines, ChainText, Chai
 use Rattle.chain.proofs.AnswerLaws.{checked_of}
 use Rattle.chain_laws.proofs.RuleLaws.{rules_of}
 use Rattle.chain_laws.proofs.TextLaws.{text_is, text_targets, text_queries, text_sizes}
+use Rattle.std.specs.Prelude.{Ok}
 
 -- what the writer's checks show of a record, its names and its rows
 pub record MayWrite (r : Chain) (tName qName ts qs zs : List ℕ) : Type 0 where
@@ -51,7 +50,7 @@ pub record MayWrite (r : Chain) (tName qName ts qs zs : List ℕ) : Type 0 where
   pub q_shows : All Graphic qName
 
 -- THE WRITER'S CHECKS, ONE BY ONE
-pub may_write : (r : Chain) (tName qName ts qs zs : List ℕ) → write_check r tName qName ts qs zs ≡ Holds → MayWrite r tName qName ts qs zs
+pub may_write : (r : Chain) (tName qName ts qs zs : List ℕ) → write_check r tName qName ts qs zs ≡ (Ok tt) → MayWrite r tName qName ts qs zs
 unfolding write_check names_show chain_valid fields_fit spans_fit rows_fit row_numbers_fit
 may_write r tName qName ts qs zs e =
     let n = r.blockCount in
@@ -273,7 +272,7 @@ module _ (r : Chain) (tName qName ts qs zs : List ℕ) (ok : MayWrite r tName qN
   q_name_read = part_bytes_lem s (word_at s 0 column.q_name) ∙ text_word column.q_name
 
 -- THE ROUND TRIP: the writer's checks hold, and the text is short enough
-module _ (r : Chain) (tName qName ts qs zs : List ℕ) (ok : write_check r tName qName ts qs zs ≡ Holds) (short : length (chain_text r tName qName ts qs zs) ≤ text_limit) where
+module _ (r : Chain) (tName qName ts qs zs : List ℕ) (ok : write_check r tName qName ts qs zs ≡ (Ok tt)) (short : length (chain_text r tName qName ts qs zs) ≤ text_limit) where
   abbrev text : List ℕ
   text = chain_text r tName qName ts qs zs
 
@@ -283,7 +282,7 @@ module _ (r : Chain) (tName qName ts qs zs : List ℕ) (ok : write_check r tName
   read : ChainText text (word_values r tName qName) (lines_of (block_text (r.blockCount - 1) 0 ts qs zs)) (placed text r) (take r.blockCount ts) (take r.blockCount qs) (take r.blockCount zs)
   read = text_read r tName qName ts qs zs may short
 
-  pub back_check : chain_check text ≡ Accepted (placed text r)
+  pub back_check : chain_check text ≡ Ok (placed text r)
   back_check = text_is text _ _ (placed text r) _ _ _ read
 
   pub back_target_name : part_bytes text (placed text r).tName ≡ tName
@@ -302,6 +301,6 @@ module _ (r : Chain) (tName qName ts qs zs : List ℕ) (ok : write_check r tName
   back_sizes = sym (text_sizes text _ _ (placed text r) _ _ _ read)
 
   -- and with room for its blocks the text is read
-  pub back_read : (room : ℕ) → r.blockCount ≤ room → chain_read text room ≡ Accepted (placed text r)
+  pub back_read : (room : ℕ) → r.blockCount ≤ room → chain_read text room ≡ Ok (placed text r)
   unfolding chain_read chain_roomed placed
   back_read room h = rw (checked_of text (placed text r) back_check, le-leb r.blockCount room h)

@@ -10,9 +10,6 @@ use borrow.Author.Tests.{leb-true, ltb-true, eq-eqb}
 use Rattle.ledger.specs.Limits.{block_limit}
 use Rattle.ledger.specs.declared.Fault.{Fault}
 use Rattle.text.specs.declared.Class.TheVariants.{Line}
-use Rattle.text.specs.declared.Stage.{Stage}
-use Rattle.text.specs.declared.Stage.TheVariants.{Passes}
-use Rattle.text.specs.declared.Stage.TheVariants as stage
 use Rattle.text.specs.Scan.{run, end_of}
 use Rattle.text.specs.Checks.{then_check, last_line_check, words_check}
 use Rattle.text.specs.Pieces.{lines_of, line_of, words_of}
@@ -20,9 +17,6 @@ use Rattle.text.specs.Words.{line_end, next_line, word_count}
 use Rattle.text.proofs.Laws.{either, line_last}
 use Rattle.text.proofs.PieceLaws.{lines_none, lines_step}
 use Rattle.text.proofs.StageLaws.{require_passes}
-use Rattle.columns.specs.declared.Columns.{Columns}
-use Rattle.columns.specs.declared.Columns.TheVariants.{Next}
-use Rattle.columns.specs.declared.Columns.TheVariants as columns
 use Rattle.columns.specs.Columns.{columns_from, values_from, value_of, then_next}
 use Rattle.columns.specs.Spells.{firsts}
 use Rattle.columns.proofs.Meant.{Meant, meant_length, meant_spells, spells_meant}
@@ -32,8 +26,6 @@ use Rattle.chain.specs.declared.BlockLine.{BlockLine}
 use Rattle.chain.specs.declared.BlockLine.TheVariants.{Last, Gap}
 use Rattle.chain.specs.declared.BlockLine.TheVariants as block
 use Rattle.chain.specs.declared.Ending.{Ending}
-use Rattle.chain.specs.declared.Lines.TheVariants.{Ended}
-use Rattle.chain.specs.declared.Lines.TheVariants as lines
 use Rattle.chain.specs.Columns as column
 use Rattle.chain.specs.Table.{block_columns}
 use Rattle.chain.specs.Records.{targets_from, queries_from, sizes_from}
@@ -41,6 +33,7 @@ use Rattle.chain.specs.Read.{block_words, limit_check, block_is, block_numbers, 
 use Rattle.chain.specs.Rules.{BlockLines, last_line, more_lines}
 use Rattle.chain.proofs.BlockLaws.{count_split, words_good, gap_holds, last_holds}
 use Rattle.chain.proofs.WalkLaws.{from_last, from_gap}
+use Rattle.std.specs.Prelude.{Ok, Err, Result, ⊤}
 
 -- the lines from a place on
 module _ (s : List ℕ) (i : ℕ) where
@@ -77,27 +70,27 @@ one_is (a ∷ []) e = refl
 one_is (a ∷ b ∷ l) e = absurd (omega arith)
 
 -- a block line that is read
-record Good (s : List ℕ) (line : ℕ) (b : BlockLine) : Type 0 where
-  count : block_words s line (word_count s line) ≡ Passes
+record Good (s : List ℕ) (line : ℕ) (b : Result BlockLine Fault) : Type 0 where
+  count : block_words s line (word_count s line) ≡ (Ok tt)
   end : ℕ
-  read : columns_from (take (word_count s line) block_columns) 0 s line ≡ Next end
+  read : columns_from (take (word_count s line) block_columns) 0 s line ≡ Ok end
   is : b ≡ block_is (word_count s line) (values_from (take (word_count s line) block_columns) 0 s line)
 
 module _ (s : List ℕ) (line : ℕ) where
-  good_of : (b : BlockLine) → ((x : Fault) → b ≡ block.Faulty x → ⊥) → block_line s line ≡ b → Good s line b
+  good_of : (b : Result BlockLine Fault) → ((x : Fault) → b ≡ Err x → ⊥) → block_line s line ≡ b → Good s line b
   unfolding block_line block_numbers
   good_of b never e = go (block_words s line (word_count s line)) (columns_from (take (word_count s line) block_columns) 0 s line) refl refl e
     where
-      go : (c : Stage) (d : Columns) → block_words s line (word_count s line) ≡ c → columns_from (take (word_count s line) block_columns) 0 s line ≡ d
-          → then_check block.Faulty c (then_next block.Faulty d (block_is (word_count s line) (values_from (take (word_count s line) block_columns) 0 s line))) ≡ b → Good s line b
-      go Passes (Next f) p q k = record { count = p; end = f; read = q; is = sym k }
-      go Passes (columns.Faulty x) p q k = absurd (never x (sym k))
-      go (stage.Faulty x) d p q k = absurd (never x (sym k))
+      go : (c : Result ⊤ Fault) (d : Result ℕ Fault) → block_words s line (word_count s line) ≡ c → columns_from (take (word_count s line) block_columns) 0 s line ≡ d
+          → then_check Err c (then_next Err d (block_is (word_count s line) (values_from (take (word_count s line) block_columns) 0 s line))) ≡ b → Good s line b
+      go (Ok tt) (Ok f) p q k = record { count = p; end = f; read = q; is = sym k }
+      go (Ok tt) (Err x) p q k = absurd (never x (sym k))
+      go (Err x) d p q k = absurd (never x (sym k))
 
   abbrev here : List (List ℕ)
   here = words_of (line_of (drop line s))
 
-  three_spell : (z dt dq e : ℕ) → word_count s line ≡ column.gap_count → columns_from (take column.gap_count block_columns) 0 s line ≡ Next e → Gap z dt dq ≡ block_is column.gap_count (values_from (take column.gap_count block_columns) 0 s line) → Meant block_columns 0 here (z ∷ dt ∷ dq ∷ [])
+  three_spell : (z dt dq e : ℕ) → word_count s line ≡ column.gap_count → columns_from (take column.gap_count block_columns) 0 s line ≡ Ok e → Ok (Gap z dt dq) ≡ block_is column.gap_count (values_from (take column.gap_count block_columns) 0 s line) → Meant block_columns 0 here (z ∷ dt ∷ dq ∷ [])
   unfolding block_columns
   three_spell z dt dq e w read is =
       let vs = values_from (take column.gap_count block_columns) 0 s line in
@@ -108,7 +101,7 @@ module _ (s : List ℕ) (line : ℕ) where
       let f : firsts vs ≡ z ∷ dt ∷ dq ∷ [] = three_is (firsts vs) (meant_length sp).1 ∙ rw (a, b, c) in
       rw f at sp
 
-  one_spell : (z e : ℕ) → word_count s line ≡ column.last_count → columns_from (take column.last_count block_columns) 0 s line ≡ Next e → Last z ≡ block_is column.last_count (values_from (take column.last_count block_columns) 0 s line) → Meant (take column.last_count block_columns) 0 here (z ∷ [])
+  one_spell : (z e : ℕ) → word_count s line ≡ column.last_count → columns_from (take column.last_count block_columns) 0 s line ≡ Ok e → Ok (Last z) ≡ block_is column.last_count (values_from (take column.last_count block_columns) 0 s line) → Meant (take column.last_count block_columns) 0 here (z ∷ [])
   unfolding block_columns
   one_spell z e w read is =
       let vs = values_from (take column.last_count block_columns) 0 s line in
@@ -117,21 +110,21 @@ module _ (s : List ℕ) (line : ℕ) where
       let f : firsts vs ≡ z ∷ [] = one_is (firsts vs) (meant_length sp).1 ∙ rw a in
       rw f at sp
 
-  pub gap_spells : (z dt dq : ℕ) → block_line s line ≡ Gap z dt dq → Meant block_columns 0 here (z ∷ dt ∷ dq ∷ [])
+  pub gap_spells : (z dt dq : ℕ) → block_line s line ≡ Ok (Gap z dt dq) → Meant block_columns 0 here (z ∷ dt ∷ dq ∷ [])
   gap_spells z dt dq e =
-      let g = good_of (Gap z dt dq) (λ x q. let k : ◌≡◌ {A = ℕ} 0 1 = cc in omega arith) e in
+      let g = good_of (Ok (Gap z dt dq)) (λ x q. let k : ◌≡◌ {A = ℕ} 0 1 = cc in omega arith) e in
       count_split (word_count s line) (words_good s line (word_count s line) g.count) _
       (λ q. absurd (let k = rw (eq-eqb (word_count s line) column.last_count q) at g.is in let z : ◌≡◌ {A = ℕ} 0 1 = cc in omega arith))
       (λ q. three_spell z dt dq g.end q (rw q at g.read) (rw q at g.is))
 
-  pub last_spells : (z : ℕ) → block_line s line ≡ Last z → Meant (take column.last_count block_columns) 0 here (z ∷ [])
+  pub last_spells : (z : ℕ) → block_line s line ≡ Ok (Last z) → Meant (take column.last_count block_columns) 0 here (z ∷ [])
   last_spells z e =
-      let g = good_of (Last z) (λ x q. let k : ◌≡◌ {A = ℕ} 0 1 = cc in omega arith) e in
+      let g = good_of (Ok (Last z)) (λ x q. let k : ◌≡◌ {A = ℕ} 0 1 = cc in omega arith) e in
       count_split (word_count s line) (words_good s line (word_count s line) g.count) _
       (λ q. one_spell z g.end q (rw q at g.read) (rw q at g.is))
       (λ q. absurd (let k = rw q at g.is in let z : ◌≡◌ {A = ℕ} 0 1 = cc in omega arith))
 
-  pub spells_gap : (z dt dq : ℕ) → Meant block_columns 0 here (z ∷ dt ∷ dq ∷ []) → block_line s line ≡ Gap z dt dq
+  pub spells_gap : (z dt dq : ℕ) → Meant block_columns 0 here (z ∷ dt ∷ dq ∷ []) → block_line s line ≡ Ok (Gap z dt dq)
   unfolding block_line block_words words_check block_numbers block_columns word_count
   spells_gap z dt dq sp =
       let w : length here ≡ column.gap_count = (meant_length sp).0 in
@@ -142,7 +135,7 @@ module _ (s : List ℕ) (line : ℕ) where
       let c : value_of vs column.dq ≡ dq = sym (value_first vs column.dq) ∙ ap (λ (l : List ℕ). get_or l column.dq 0) rd.values in
       rw (w, rd.read, a, b, c)
 
-  pub spells_last : (z : ℕ) → Meant (take column.last_count block_columns) 0 here (z ∷ []) → block_line s line ≡ Last z
+  pub spells_last : (z : ℕ) → Meant (take column.last_count block_columns) 0 here (z ∷ []) → block_line s line ≡ Ok (Last z)
   unfolding block_line block_words words_check block_numbers block_columns word_count
   spells_last z sp =
       let w : length here ≡ column.last_count = (meant_length sp).0 in
@@ -160,14 +153,14 @@ pub record Ends (te qe : ℕ) (s : List ℕ) (k line t q count : ℕ) : Type 0 w
   pub says : BlockLines te qe (lines_of (drop line s)) t q (targets_from n s line t) (queries_from n s line q) (sizes_from n s line)
 
 module _ (te qe : ℕ) (s : List ℕ) (k line t q count : ℕ) (fits : suc k ≤ block_limit) (h : line < length s) where
-  last_ends : (z : ℕ) → block_line s line ≡ Last z → last_line_check s line ≡ Passes → t + z ≡ te → q + z ≡ qe → count ≡ block_limit - k → Ends te qe s (suc k) line t q count
+  last_ends : (z : ℕ) → block_line s line ≡ Ok (Last z) → last_line_check s line ≡ (Ok tt) → t + z ≡ te → q + z ≡ qe → count ≡ block_limit - k → Ends te qe s (suc k) line t q count
   unfolding last_line_check targets_from queries_from sizes_from
   last_ends z g l et eq ec =
       let past : length s ≤ next_line s line = leb-true (length s) (next_line s line) (require_passes _ _ _ l).0 in
       let one : lines_of (drop line s) ≡ line_of (drop line s) ∷ [] = lines_at s line h ∙ ap (λ (x : List (List ℕ)). line_of (drop line s) ∷ x) (lines_past s (next_line s line) past) in
       record { n = 1; some = omega arith; few = omega arith; is = omega arith; says = rw (one, last_holds s line z g) (last_line (meant_spells (last_spells s line z g)) et eq) }
 
-  more_ends : (z dt dq : ℕ) → block_line s line ≡ Gap z dt dq → Ends te qe s k (next_line s line) (t + z + dt) (q + z + dq) count → Ends te qe s (suc k) line t q count
+  more_ends : (z dt dq : ℕ) → block_line s line ≡ Ok (Gap z dt dq) → Ends te qe s k (next_line s line) (t + z + dt) (q + z + dq) count → Ends te qe s (suc k) line t q count
   unfolding targets_from queries_from sizes_from
   more_ends z dt dq g r =
       let v = gap_holds s line z dt dq g in
@@ -175,33 +168,33 @@ module _ (te qe : ℕ) (s : List ℕ) (k line t q count : ℕ) (fits : suc k ≤
       let b = r.is in
       record { n = suc r.n; some = omega arith; few = omega arith; is = omega arith; says = rw (lines_at s line h, v.0, v.1, v.2) (more_lines (meant_spells (gap_spells s line z dt dq g)) r.says) }
 
-pub walk_says : (s : List ℕ) (k : ℕ) → k ≤ block_limit → (line t q : ℕ) (e : Ending) → lines_from k s line t q ≡ Ended e → last_line_check s e.line ≡ Passes → Ends e.target e.query s k line t q e.count
+pub walk_says : (s : List ℕ) (k : ℕ) → k ≤ block_limit → (line t q : ℕ) (e : Ending) → lines_from k s line t q ≡ Ok e → last_line_check s e.line ≡ (Ok tt) → Ends e.target e.query s k line t q e.count
 unfolding lines_from limit_check
 walk_says s zero fits line t q e w l = absurd (go (ltb line (length s)) _ _ w)
   where
-    go : (b : Bool) (x y : Fault) → cond b (lines.Faulty x) (lines.Faulty y) ≡ Ended e → ⊥
+    go : (b : Bool) (x y : Fault) → cond b (Err x) (Err y) ≡ Ok e → ⊥
     go true x y k = let z : ◌≡◌ {A = ℕ} 0 1 = cc in omega arith
     go false x y k = let z : ◌≡◌ {A = ℕ} 0 1 = cc in omega arith
 walk_says s (suc k) fits line t q e w l = go (ltb line (length s)) (block_line s line) _ refl refl w (λ z dt dq v. walk_says s k (omega arith) (next_line s line) (t + z + dt) (q + z + dq) e v l)
   where
-    go : (b : Bool) (x : BlockLine) (y : Fault) → ltb line (length s) ≡ b → block_line s line ≡ x
-        → cond b (then_block x (λ z. Ended (ending_at line (block_limit - k) (t + z) (q + z))) (λ z dt dq. lines_from k s (next_line s line) (t + z + dt) (q + z + dq))) (lines.Faulty y) ≡ Ended e
-        → ((z dt dq : ℕ) → lines_from k s (next_line s line) (t + z + dt) (q + z + dq) ≡ Ended e → Ends e.target e.query s k (next_line s line) (t + z + dt) (q + z + dq) e.count)
+    go : (b : Bool) (x : Result BlockLine Fault) (y : Fault) → ltb line (length s) ≡ b → block_line s line ≡ x
+        → cond b (then_block x (λ z. Ok (ending_at line (block_limit - k) (t + z) (q + z))) (λ z dt dq. lines_from k s (next_line s line) (t + z + dt) (q + z + dq))) (Err y) ≡ Ok e
+        → ((z dt dq : ℕ) → lines_from k s (next_line s line) (t + z + dt) (q + z + dq) ≡ Ok e → Ends e.target e.query s k (next_line s line) (t + z + dt) (q + z + dq) e.count)
         → Ends e.target e.query s (suc k) line t q e.count
-    go true (Last z) y p g v ih =
+    go true (Ok (Last z)) y p g v ih =
         let i : ending_at line (block_limit - k) (t + z) (q + z) ≡ e = cc in
         let el : e.line ≡ line = sym (ap (λ (x : Ending). x.line) i) in
         last_ends e.target e.query s k line t q e.count fits (ltb-true line (length s) p) z g (rw el at l) (ap (λ (x : Ending). x.target) i) (ap (λ (x : Ending). x.query) i) (sym (ap (λ (x : Ending). x.count) i))
-    go true (Gap z dt dq) y p g v ih =
+    go true (Ok (Gap z dt dq)) y p g v ih =
         more_ends e.target e.query s k line t q e.count fits (ltb-true line (length s) p) z dt dq g (ih z dt dq v)
-    go true (block.Faulty x) y p g v ih = absurd (let z : ◌≡◌ {A = ℕ} 0 1 = cc in omega arith)
+    go true (Err x) y p g v ih = absurd (let z : ◌≡◌ {A = ℕ} 0 1 = cc in omega arith)
     go false x y p g v ih = absurd (let z : ◌≡◌ {A = ℕ} 0 1 = cc in omega arith)
 
 -- and block lines that say rows are passed by the walk, with just those rows
 pub record Ran (te qe : ℕ) (s : List ℕ) (k line t q : ℕ) (ts qs zs : List ℕ) : Type 0 where
   pub end : Ending
-  pub ran : lines_from k s line t q ≡ Ended end
-  pub last : last_line_check s end.line ≡ Passes
+  pub ran : lines_from k s line t q ≡ Ok end
+  pub last : last_line_check s end.line ≡ (Ok tt)
   pub target : end.target ≡ te
   pub query : end.query ≡ qe
   pub count : end.count ≡ block_limit - k + length zs
@@ -228,7 +221,7 @@ module _ (te qe : ℕ) (s : List ℕ) (k line t q : ℕ) (fits : suc k ≤ block
   last_ran : (z : ℕ) → ls ≡ [] → Meant (take column.last_count block_columns) 0 (words_of l) (z ∷ []) → t + z ≡ te → q + z ≡ qe → Ran te qe s (suc k) line t q (t ∷ []) (q ∷ []) (z ∷ [])
   unfolding targets_from queries_from sizes_from
   last_ran z none sp et eq =
-      let g : block_line s line ≡ Last z = spells_last s line z (rw this_line at sp) in
+      let g : block_line s line ≡ Ok (Last z) = spells_last s line z (rw this_line at sp) in
       let past : length s ≤ next_line s line = no_line s (next_line s line) (rest_lines ∙ none) in
       let c : block_limit - k ≡ block_limit - suc k + 1 = omega arith in
       record {
@@ -246,7 +239,7 @@ module _ (te qe : ℕ) (s : List ℕ) (k line t q : ℕ) (fits : suc k ≤ block
   more_ran : (z dt dq : ℕ) (ts qs zs : List ℕ) → Meant block_columns 0 (words_of l) (z ∷ dt ∷ dq ∷ []) → Ran te qe s k (next_line s line) (t + z + dt) (q + z + dq) ts qs zs → Ran te qe s (suc k) line t q (t ∷ ts) (q ∷ qs) (z ∷ zs)
   unfolding targets_from queries_from sizes_from
   more_ran z dt dq ts qs zs sp r =
-      let g : block_line s line ≡ Gap z dt dq = spells_gap s line z dt dq (rw this_line at sp) in
+      let g : block_line s line ≡ Ok (Gap z dt dq) = spells_gap s line z dt dq (rw this_line at sp) in
       let v = gap_holds s line z dt dq g in
       let c = r.count in
       let d : r.end.count ≡ block_limit - suc k + suc (length zs) = omega arith in

@@ -9,7 +9,6 @@ use lib.Dec.{eqb}
 use borrow.Author.Tests.{eqb-true, eq-eqb}
 use Rattle.ledger.specs.Limits.{block_limit}
 use Rattle.ledger.specs.Strands.{strand_of, strand_letter, strand_is}
-use Rattle.text.specs.declared.Stage.TheVariants.{Passes}
 use Rattle.text.specs.Checks.{text_check, last_line_check}
 use Rattle.text.specs.Pieces.{lines_of, line_of}
 use Rattle.text.specs.Words.{next_line, word_at, word_count, bytes_of}
@@ -17,14 +16,10 @@ use Rattle.text.proofs.CheckLaws as textLaws
 use Rattle.text.proofs.StageLaws.{require_passes, went}
 use Rattle.text.proofs.TextLaws.{both}
 use Rattle.text.proofs.PieceLaws.{word_bytes}
-use Rattle.numbers.specs.declared.Spelt.TheVariants.{Means}
 use Rattle.kinds.specs.declared.Kind.TheVariants.{Name}
 use Rattle.kinds.specs.Kinds.{spelt}
 use Rattle.kinds.proofs.RangeLaws.{name_spelt, strand_spelt}
 use Rattle.columns.proofs.Meant.{meant_length, meant_spells, spells_meant}
-use Rattle.columns.specs.declared.Columns.{Columns}
-use Rattle.columns.specs.declared.Columns.TheVariants.{Next}
-use Rattle.columns.specs.declared.Columns.TheVariants as columns
 use Rattle.columns.specs.Columns.{columns_from, values_from, value_of, place_of, then_next}
 use Rattle.columns.specs.OneLine.{count_check}
 use Rattle.columns.proofs.OneLineLaws.{count_of_lem, count_is}
@@ -37,12 +32,6 @@ use Rattle.columns.proofs.PlaceLaws.{spelt_at, value_first, value_second}
 use Rattle.columns.proofs.WordLaws.{word_length, strand_is_lem, letter_is}
 use Rattle.chain.specs.declared.Chain.{Chain}
 use Rattle.chain.specs.declared.Ending.{Ending}
-use Rattle.chain.specs.declared.Lines.{Lines}
-use Rattle.chain.specs.declared.Lines.TheVariants.{Ended}
-use Rattle.chain.specs.declared.Lines.TheVariants as lines
-use Rattle.chain.specs.declared.ChainReading.{ChainReading}
-use Rattle.chain.specs.declared.ChainReading.TheVariants.{Read, Faulty}
-use Rattle.chain.specs.declared.ChainAnswer.TheVariants.{Accepted}
 use Rattle.chain.specs.Columns as column
 use Rattle.chain.specs.Table.{chain_columns}
 use Rattle.chain.specs.Records.{name_of, chain_record, sizes_from, chain_targets, chain_queries, chain_sizes}
@@ -52,6 +41,8 @@ use Rattle.chain.proofs.AnswerLaws.{read_apart, checked_of, checked_is}
 use Rattle.chain.proofs.StageLaws.{head_spells}
 use Rattle.chain_laws.proofs.RuleLaws.{span_of, span_is}
 use Rattle.chain_laws.proofs.LineLaws.{lines_at, line_there, Ends, walk_says, Ran, lines_run}
+use Rattle.std.specs.Prelude.{Ok, Err, Result}
+use Rattle.ledger.specs.declared.Fault.{Fault}
 
 -- the values of a header: two numbers for each of its words
 abbrev pub head_values : List ℕ → List ℕ
@@ -59,83 +50,83 @@ head_values s = values_from chain_columns 0 s 0
 
 -- what the row of checks found of a text that is accepted with the record r
 record Accepts (s : List ℕ) (r : Chain) : Type 0 where
-  text : text_check s ≡ Passes
-  head : count_check s 0 column.header_count ≡ Passes
+  text : text_check s ≡ (Ok tt)
+  head : count_check s 0 column.header_count ≡ (Ok tt)
   end : ℕ
-  read : columns_from chain_columns 0 s 0 ≡ Next end
-  spans : span_check (chain_record (head_values s) 0) (head_values s) ≡ Passes
+  read : columns_from chain_columns 0 s 0 ≡ Ok end
+  spans : span_check (chain_record (head_values s) 0) (head_values s) ≡ (Ok tt)
   ending : Ending
-  walk : lines_from block_limit s (next_line s 0) (value_of (head_values s) column.t_start) (value_of (head_values s) column.q_start) ≡ Ended ending
-  line : last_line_check s ending.line ≡ Passes
-  fill : fill_check s (chain_record (head_values s) ending.count) ending ≡ Passes
+  walk : lines_from block_limit s (next_line s 0) (value_of (head_values s) column.t_start) (value_of (head_values s) column.q_start) ≡ Ok ending
+  line : last_line_check s ending.line ≡ (Ok tt)
+  fill : fill_check s (chain_record (head_values s) ending.count) ending ≡ (Ok tt)
   is : r ≡ chain_record (head_values s) ending.count
 
 -- columns that went on, and block lines
-record Went (c : Columns) (rest : ChainReading) (r : Chain) : Type 0 where
+record Went (c : Result ℕ Fault) (rest : Result Chain Fault) (r : Chain) : Type 0 where
   end : ℕ
-  read : c ≡ Next end
-  on : rest ≡ Read r
+  read : c ≡ Ok end
+  on : rest ≡ Ok r
 
-next_then : (c : Columns) (rest : ChainReading) (r : Chain) → then_next Faulty c rest ≡ Read r → Went c rest r
-next_then (Next n) rest r e = record { end = n; read = refl; on = e }
-next_then (columns.Faulty x) rest r e = absurd (read_apart r x e)
+next_then : (c : Result ℕ Fault) (rest : Result Chain Fault) (r : Chain) → then_next Err c rest ≡ Ok r → Went c rest r
+next_then (Ok n) rest r e = record { end = n; read = refl; on = e }
+next_then (Err x) rest r e = absurd (read_apart r x e)
 
-record Walks (l : Lines) (rest : Ending → ChainReading) (r : Chain) : Type 0 where
+record Walks (l : Result Ending Fault) (rest : Ending → Result Chain Fault) (r : Chain) : Type 0 where
   end : Ending
-  read : l ≡ Ended end
-  on : rest end ≡ Read r
+  read : l ≡ Ok end
+  on : rest end ≡ Ok r
 
-lines_then : (l : Lines) (rest : Ending → ChainReading) (r : Chain) → then_lines l rest ≡ Read r → Walks l rest r
-lines_then (Ended n) rest r e = record { end = n; read = refl; on = e }
-lines_then (lines.Faulty x) rest r e = absurd (read_apart r x e)
+lines_then : (l : Result Ending Fault) (rest : Ending → Result Chain Fault) (r : Chain) → then_lines l rest ≡ Ok r → Walks l rest r
+lines_then (Ok n) rest r e = record { end = n; read = refl; on = e }
+lines_then (Err x) rest r e = absurd (read_apart r x e)
 
 module _ (s : List ℕ) (r : Chain) where
-  accepts_of : chain_stages s ≡ Read r → Accepts s r
+  accepts_of : chain_stages s ≡ Ok r → Accepts s r
   unfolding chain_stages after_text after_words after_columns after_spans after_lines after_last
   accepts_of e =
       let vs = head_values s in
-      let a = went Faulty (text_check s) (after_text s) (Read r) (read_apart r) e in
-      let b = went Faulty (count_check s 0 column.header_count) (after_words s) (Read r) (read_apart r) a.1 in
+      let a = went Err (text_check s) (after_text s) (Ok r) (read_apart r) e in
+      let b = went Err (count_check s 0 column.header_count) (after_words s) (Ok r) (read_apart r) a.1 in
       let c = next_then (columns_from chain_columns 0 s 0) (after_columns s vs) r b.1 in
-      let d = went Faulty (span_check (chain_record vs 0) vs) (after_spans s vs) (Read r) (read_apart r) c.on in
+      let d = went Err (span_check (chain_record vs 0) vs) (after_spans s vs) (Ok r) (read_apart r) c.on in
       let f = lines_then (lines_from block_limit s (next_line s 0) (value_of vs column.t_start) (value_of vs column.q_start)) (λ x. after_lines s vs x) r d.1 in
-      let g = went Faulty (last_line_check s f.end.line) (after_last s vs f.end) (Read r) (read_apart r) f.on in
-      let h = went Faulty (fill_check s (chain_record vs f.end.count) f.end) (Read (chain_record vs f.end.count)) (Read r) (read_apart r) g.1 in
+      let g = went Err (last_line_check s f.end.line) (after_last s vs f.end) (Ok r) (read_apart r) f.on in
+      let h = went Err (fill_check s (chain_record vs f.end.count) f.end) (Ok (chain_record vs f.end.count)) (Ok r) (read_apart r) g.1 in
       let i : chain_record vs f.end.count ≡ r = cc h.1 in
       record { text = a.0; head = b.0; end = c.end; read = c.read; spans = d.0; ending = f.end; walk = f.read; line = g.0; fill = h.0; is = sym i }
 
-  accepts_is : Accepts s r → chain_stages s ≡ Read r
+  accepts_is : Accepts s r → chain_stages s ≡ Ok r
   unfolding chain_stages after_text after_words after_columns after_spans after_lines after_last
   accepts_is a = rw (a.text, a.head, a.read, a.spans, a.walk, a.line, a.fill, a.is)
 
 -- the spans
-spans_hold : (r : Chain) (vs : List ℕ) → span_check r vs ≡ Passes → (span_fits r.tStart r.tEnd r.tSize ≡ true) × (span_fits r.qStart r.qEnd r.qSize ≡ true)
+spans_hold : (r : Chain) (vs : List ℕ) → span_check r vs ≡ (Ok tt) → (span_fits r.tStart r.tEnd r.tSize ≡ true) × (span_fits r.qStart r.qEnd r.qSize ≡ true)
 unfolding span_check
 spans_hold r vs e =
     let a = require_passes (span_fits r.tStart r.tEnd r.tSize) _ _ e in
     let b = require_passes (span_fits r.qStart r.qEnd r.qSize) _ _ a.1 in
     (a.0, b.0)
 
-hold_spans : (r : Chain) (vs : List ℕ) → span_fits r.tStart r.tEnd r.tSize ≡ true → span_fits r.qStart r.qEnd r.qSize ≡ true → span_check r vs ≡ Passes
+hold_spans : (r : Chain) (vs : List ℕ) → span_fits r.tStart r.tEnd r.tSize ≡ true → span_fits r.qStart r.qEnd r.qSize ≡ true → span_check r vs ≡ (Ok tt)
 unfolding span_check
 hold_spans r vs a b = rw (a, b)
 
-fill_holds : (s : List ℕ) (r : Chain) (e : Ending) → fill_check s r e ≡ Passes → (e.target ≡ r.tEnd) × (e.query ≡ r.qEnd)
+fill_holds : (s : List ℕ) (r : Chain) (e : Ending) → fill_check s r e ≡ (Ok tt) → (e.target ≡ r.tEnd) × (e.query ≡ r.qEnd)
 unfolding fill_check
 fill_holds s r e h =
     let a = both (eqb e.target r.tEnd) (eqb e.query r.qEnd) (require_passes _ _ _ h).0 in
     (eqb-true _ _ a.0, eqb-true _ _ a.1)
 
-hold_fill : (s : List ℕ) (r : Chain) (e : Ending) → e.target ≡ r.tEnd → e.query ≡ r.qEnd → fill_check s r e ≡ Passes
+hold_fill : (s : List ℕ) (r : Chain) (e : Ending) → e.target ≡ r.tEnd → e.query ≡ r.qEnd → fill_check s r e ≡ (Ok tt)
 unfolding fill_check
 hold_fill s r e a b = rw (eq-eqb e.target r.tEnd a, eq-eqb e.query r.qEnd b)
 
 -- the columns of a header that is read, by their numbers
-module _ (s : List ℕ) (e : ℕ) (count : word_count s 0 ≡ column.header_count) (read : columns_from chain_columns 0 s 0 ≡ Next e) (k : ℕ) (h : k < column.header_count) where
+module _ (s : List ℕ) (e : ℕ) (count : word_count s 0 ≡ column.header_count) (read : columns_from chain_columns 0 s 0 ≡ Ok e) (k : ℕ) (h : k < column.header_count) where
   abbrev vs : List ℕ
   vs = values_from chain_columns 0 s 0
 
-  value_spelt : spelt (kind_at chain_columns k) (count_before chain_columns 0 (firsts vs) 0 k) (bytes_of s (word_at s 0 k)) ≡ Means (value_of vs k)
+  value_spelt : spelt (kind_at chain_columns k) (count_before chain_columns 0 (firsts vs) 0 k) (bytes_of s (word_at s 0 k)) ≡ Ok (value_of vs k)
   unfolding chain_columns
   value_spelt =
       let p = spelt_at (head_spells s e count read) k h in
@@ -176,7 +167,7 @@ sizes_length zero s line = refl
 sizes_length (suc n) s line = ap suc (sizes_length n s (next_line s line))
 
 -- AN ACCEPTED TEXT IS A CHAIN that says its record and its rows
-module _ (s : List ℕ) (r : Chain) (ok : chain_check s ≡ Accepted r) where
+module _ (s : List ℕ) (r : Chain) (ok : chain_check s ≡ Ok r) where
   abbrev a : Accepts s r
   a = accepts_of s r (checked_of s r ok)
 
@@ -249,7 +240,7 @@ module _ (s : List ℕ) (r : Chain) (ok : chain_check s ≡ Accepted r) where
         few = rw i (omega (arith, ends_count, ends.few));
       }
 
-walk_as : (k : ℕ) (s : List ℕ) (line t t' q q' : ℕ) (e : Ending) → t ≡ t' → q ≡ q' → lines_from k s line t q ≡ Ended e → lines_from k s line t' q' ≡ Ended e
+walk_as : (k : ℕ) (s : List ℕ) (line t t' q q' : ℕ) (e : Ending) → t ≡ t' → q ≡ q' → lines_from k s line t q ≡ Ok e → lines_from k s line t' q' ≡ Ok e
 walk_as k s line t t' q q' e a b h = rw (a, b) at h
 
 -- AND A CHAIN IS ACCEPTED, with the record and the rows that it says
@@ -295,7 +286,7 @@ module _ (s vs : List ℕ) (ls : List (List ℕ)) (r : Chain) (ts qs zs : List �
       chain_same r (chain_record (head_values s) ran.end.count) (c.score ∙ value_at column.score) (c.tName ∙ part_at column.t_name (omega arith) refl) (c.tSize ∙ value_at column.t_size) t_start t_end
       (c.qName ∙ part_at column.q_name (omega arith) refl) (c.qSize ∙ value_at column.q_size) (strand_is_lem r.qStrand (value_of (head_values s) column.q_strand) (c.qStrand ∙ value_at column.q_strand)) q_start q_end (c.id ∙ value_at column.id) ran_count
 
-  spans_are : span_check (chain_record (head_values s) 0) (head_values s) ≡ Passes
+  spans_are : span_check (chain_record (head_values s) 0) (head_values s) ≡ (Ok tt)
   unfolding chain_record
   spans_are =
       let us = head_values s in
@@ -303,11 +294,11 @@ module _ (s vs : List ℕ) (ls : List (List ℕ)) (r : Chain) (ts qs zs : List �
       let q : span_fits (value_of us column.q_start) (value_of us column.q_end) (value_of us column.q_size) ≡ true = rw (q_start, q_end, c.qSize ∙ value_at column.q_size) at (span_is r.qStart r.qEnd r.qSize c.q_span c.q_inside) in
       hold_spans (chain_record us 0) us t q
 
-  filled : fill_check s (chain_record (head_values s) ran.end.count) ran.end ≡ Passes
+  filled : fill_check s (chain_record (head_values s) ran.end.count) ran.end ≡ (Ok tt)
   unfolding chain_record
   filled = hold_fill s (chain_record (head_values s) ran.end.count) ran.end (ran.target ∙ t_end) (ran.query ∙ q_end)
 
-  pub text_is : chain_check s ≡ Accepted r
+  pub text_is : chain_check s ≡ Ok r
   text_is =
       checked_is s r (accepts_is s r (record {
         text = textLaws.text_is s c.short c.allowed;

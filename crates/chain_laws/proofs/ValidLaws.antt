@@ -29,7 +29,6 @@ use Rattle.blocks.specs.Blocks.{order_from, blocks_fill, all_between}
 use Rattle.blocks.specs.Rules.{RowsInUse}
 use Rattle.blocks.proofs.RuleLaws.{fills_of, ranged_of, fill_low, wider}
 use Rattle.chain.specs.declared.Chain.{Chain}
-use Rattle.chain.specs.declared.ChainAnswer.TheVariants.{Accepted}
 use Rattle.chain.specs.Columns as column
 use Rattle.chain.specs.Table.{chain_columns, block_columns}
 use Rattle.chain.specs.Records.{chain_targets, chain_queries, chain_sizes}
@@ -38,6 +37,7 @@ use Rattle.chain.specs.Tests.{chain_valid}
 use Rattle.chain.specs.Rules.{BlockLines, last_line, more_lines, ChainText, ChainRules}
 use Rattle.chain_laws.proofs.RuleLaws.{rules_is}
 use Rattle.chain_laws.proofs.TextLaws.{text_of_lem}
+use Rattle.std.specs.Prelude.{Ok}
 
 -- a block before others that start after its end
 fill_more : (t z a last : ℕ) (ss zs : List ℕ) → t + z ≤ a → blocks_fill a last ss zs ≡ true → blocks_fill t last (t ∷ ss) (z ∷ zs) ≡ true
@@ -179,5 +179,5 @@ module _ (s vs : List ℕ) (ls : List (List ℕ)) (r : Chain) (ts qs zs : List �
       }
 
 -- AN ACCEPTED RECORD IS VALID
-pub accepted_valid : (s : List ℕ) (r : Chain) → chain_check s ≡ Accepted r → chain_valid r (chain_targets s r) (chain_queries s r) (chain_sizes s r) ≡ true
+pub accepted_valid : (s : List ℕ) (r : Chain) → chain_check s ≡ Ok r → chain_valid r (chain_targets s r) (chain_queries s r) (chain_sizes s r) ≡ true
 accepted_valid s r ok = rules_is r (chain_targets s r) (chain_queries s r) (chain_sizes s r) (text_rules s _ _ r (chain_targets s r) (chain_queries s r) (chain_sizes s r) (text_of_lem s r ok))

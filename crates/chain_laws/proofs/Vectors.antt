@@ -8,7 +8,6 @@ use Rattle.ledger.specs.declared.Strand.TheVariants.{Minus}
 use Rattle.ledger.specs.declared.Row.{Row}
 use Rattle.ledger.specs.Parts.{part_at}
 use Rattle.ledger.specs.Limits.{text_limit}
-use Rattle.text.specs.declared.Check.TheVariants.{Holds}
 use Rattle.text.specs.Scan.{run, end_of}
 use Rattle.text.specs.Parts.{part_bytes}
 use Rattle.text.specs.Pieces.{joined}
@@ -16,13 +15,13 @@ use Rattle.writing.specs.Digits.{digits_in, digits}
 use Rattle.blocks.specs.Blocks.{order_from, blocks_fill, all_between, row_numbers_fit}
 use Rattle.blocks.specs.Rows.{row_as, targets_of, queries_of, sizes_of}
 use Rattle.chain.specs.declared.Chain.{Chain}
-use Rattle.chain.specs.declared.ChainAnswer.TheVariants.{Accepted}
 use Rattle.chain.specs.Records.{chain_targets, chain_queries, chain_sizes}
 use Rattle.chain.specs.Read.{chain_read}
 use Rattle.chain.specs.Rules.{placed}
 use Rattle.chain.specs.Tests.{names_fit, fields_fit, spans_fit, rows_fit}
 use Rattle.chain.specs.Write.{names_show, write_check, head_words, gap_words, block_text, chain_text}
 use Rattle.chain_laws.proofs.BackLaws.{back_read, back_target_name, back_targets, back_queries, back_sizes}
+use Rattle.std.specs.Prelude.{Ok}
 
 -- its record, as it is read, and its rows; worked examples elsewhere cite these
 abbrev pub chain_a : Chain
@@ -70,7 +69,7 @@ sample =
     ∷ 57 ∷ 10 ∷ []
 
 -- it may be written
-pub sample_written : write_check chain_a t_a q_b targets queries sizes_lem ≡ Holds
+pub sample_written : write_check chain_a t_a q_b targets queries sizes_lem ≡ (Ok tt)
 unfolding write_check names_show names_fit fields_fit row_numbers_fit spans_fit rows_fit end_of run order_from blocks_fill all_between
 sample_written = refl
 
@@ -83,7 +82,7 @@ sample_short : length (chain_text chain_a t_a q_b targets queries sizes_lem) ≤
 sample_short = rw sample_text (omega arith)
 
 -- which reads back
-pub sample_back : chain_read sample 3 ≡ Accepted (placed sample chain_a)
+pub sample_back : chain_read sample 3 ≡ Ok (placed sample chain_a)
 sample_back = rw sample_text at (back_read chain_a t_a q_b targets queries sizes_lem sample_written sample_short 3 (omega arith))
 
 pub sample_name : part_bytes sample (placed sample chain_a).tName ≡ t_a

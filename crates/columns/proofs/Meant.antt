@@ -4,17 +4,17 @@ use mathlib.Core.List.{List, [], ◌∷◌}
 use Prim.Native.Nat.{ℕ, zero, suc, ◌<◌}
 use native.Mathlib.Omega.{arith}
 use lib.ListN.{length, get_or}
-use Rattle.numbers.specs.declared.Spelt.TheVariants.{Means}
 use Rattle.kinds.specs.declared.Kind.{Kind}
 use Rattle.kinds.specs.declared.Kind.TheVariants.{Name}
 use Rattle.kinds.specs.Kinds.{spelt, count_after}
 use Rattle.kinds.proofs.SpeltAsLaws.{numbers_in, spelt_as, as_spelt}
 use Rattle.columns.specs.Spells.{Spells, spells_none, spells_more}
+use Rattle.std.specs.Prelude.{Ok}
 
 -- the reader takes the words ws for the values vs, n being the last count before them
 pub data Meant : List Kind → ℕ → List (List ℕ) → List ℕ → Type 0 where
   meant_none : {n : ℕ} → Meant [] n [] []
-  meant_more : {c : Kind} {cs : List Kind} {n v : ℕ} {w : List ℕ} {ws : List (List ℕ)} {vs : List ℕ} → spelt c n w ≡ Means v → Meant cs (count_after c v n) ws vs → Meant (c ∷ cs) n (w ∷ ws) (v ∷ vs)
+  meant_more : {c : Kind} {cs : List Kind} {n v : ℕ} {w : List ℕ} {ws : List (List ℕ)} {vs : List ℕ} → spelt c n w ≡ Ok v → Meant cs (count_after c v n) ws vs → Meant (c ∷ cs) n (w ∷ ws) (v ∷ vs)
 
 -- values are as many as the columns
 pub meant_length : {cs : List Kind} {n : ℕ} {ws : List (List ℕ)} {vs : List ℕ} → Meant cs n ws vs → (length ws ≡ length cs) × (length vs ≡ length cs)

@@ -7,16 +7,16 @@ use native.Mathlib.Omega.{arith}
 use lib.ListN.{length, set, get_or, take, drop, length-take}
 use lib.Seq.{sets, length-sets, sets-eq, drop-set-add, take-set-le, take_at, drop_at}
 use Rattle.text.specs.Words.{next_word, word_at, bytes_of}
-use Rattle.numbers.specs.declared.Spelt.{Spelt}
-use Rattle.numbers.specs.declared.Spelt.TheVariants.{Means, Faulty}
 use Rattle.kinds.specs.declared.Kind.{Kind}
 use Rattle.kinds.specs.Kinds.{spelt, items_in, count_after, is_list, pick_base, base_by}
-use Rattle.columns.specs.declared.Columns.TheVariants.{Next}
 use Rattle.columns.specs.Columns.{field_of, field_from, then_columns, columns_from, values_from, lists_by}
 use Rattle.columns.specs.Spells.{firsts, seconds}
 use Rattle.columns.proofs.Meant.{Meant, meant_none, meant_more}
 use Rattle.columns.specs.Places.{kind_at, count_before, base_before}
 use Rattle.columns.proofs.SpellsLaws.{word_later}
+use Rattle.std.specs.Prelude.{Ok, Err, Result}
+use Rattle.ledger.specs.declared.Fault.{Fault}
+use Rattle.ledger.specs.Refusals.{fault_at}
 
 -- the count before a column does not look at values before the first
 count_later : (cs : List Kind) (n v : ℕ) (vs : List ℕ) (j k : ℕ) → count_before cs n (v ∷ vs) (suc j) k ≡ count_before cs n vs j k
@@ -25,7 +25,7 @@ count_later (c ∷ cs) n v vs j zero = refl
 count_later (c ∷ cs) n v vs j (suc k) = count_later cs (count_after c (get_or vs j 0) n) v vs (suc j) k
 
 -- words that spell values: word k spells value k
-pub spelt_at : {cs : List Kind} {n : ℕ} {ws : List (List ℕ)} {vs : List ℕ} → Meant cs n ws vs → (k : ℕ) → k < length cs → spelt (kind_at cs k) (count_before cs n vs 0 k) (get_or ws k []) ≡ Means (get_or vs k 0)
+pub spelt_at : {cs : List Kind} {n : ℕ} {ws : List (List ℕ)} {vs : List ℕ} → Meant cs n ws vs → (k : ℕ) → k < length cs → spelt (kind_at cs k) (count_before cs n vs 0 k) (get_or ws k []) ≡ Ok (get_or vs k 0)
 spelt_at meant_none k h = absurd (omega arith)
 spelt_at (meant_more p t) zero h = p
 spelt_at (meant_more {c = c} {cs = cs} {n = n} {v = v} {vs = vs} p t) (suc k) h = rw (count_later cs (count_after c v n) v vs 0 k) (spelt_at t k (omega arith))
@@ -56,19 +56,19 @@ value_second (v ∷ p ∷ vs) (suc k) =
 -- a line that is read: its first word spells a value, and the rest is read after it
 record Head (c : Kind) (cs : List Kind) (n : ℕ) (s : List ℕ) (at e : ℕ) : Type 0 where
   value : ℕ
-  says : spelt c n (bytes_of s (next_word s at)) ≡ Means value
-  rest : columns_from cs (count_after c value n) s (next_word s at).end ≡ Next e
+  says : spelt c n (bytes_of s (next_word s at)) ≡ Ok value
+  rest : columns_from cs (count_after c value n) s (next_word s at).end ≡ Ok e
 
-head : (c : Kind) (cs : List Kind) (n : ℕ) (s : List ℕ) (at e : ℕ) → columns_from (c ∷ cs) n s at ≡ Next e → Head c cs n s at e
+head : (c : Kind) (cs : List Kind) (n : ℕ) (s : List ℕ) (at e : ℕ) → columns_from (c ∷ cs) n s at ≡ Ok e → Head c cs n s at e
 unfolding columns_from field_from
 head c cs n s at e q = go (spelt c n (bytes_of s (next_word s at))) refl q
   where
-    go : (x : Spelt) → spelt c n (bytes_of s (next_word s at)) ≡ x → then_columns (field_of x (next_word s at)) (λ v w. columns_from cs (count_after c v n) s w.end) ≡ Next e → Head c cs n s at e
-    go (Means v) p q = record { value = v; says = p; rest = q }
-    go (Faulty why off) p q = absurd (let y : ◌≡◌ {A = ℕ} 0 1 = cc in omega arith)
+    go : (x : Result ℕ Fault) → spelt c n (bytes_of s (next_word s at)) ≡ x → then_columns (field_of x (next_word s at)) (λ v w. columns_from cs (count_after c v n) s w.end) ≡ Ok e → Head c cs n s at e
+    go (Ok v) p q = record { value = v; says = p; rest = q }
+    go (Err (fault_at why off)) p q = absurd (let y : ◌≡◌ {A = ℕ} 0 1 = cc in omega arith)
 
 -- two numbers for each column
-pub values_length : (cs : List Kind) (n : ℕ) (s : List ℕ) (at e : ℕ) → columns_from cs n s at ≡ Next e → length (values_from cs n s at) ≡ 2 * length cs
+pub values_length : (cs : List Kind) (n : ℕ) (s : List ℕ) (at e : ℕ) → columns_from cs n s at ≡ Ok e → length (values_from cs n s at) ≡ 2 * length cs
 unfolding values_from field_from
 values_length [] n s at e q = refl
 values_length (c ∷ cs) n s at e q =
@@ -96,7 +96,7 @@ base_grows true stride base = omega arith
 base_grows false stride base = omega arith
 
 -- the lists of a line leave what stands before their base, and the length of the table
-pub lists_keep : (stride : ℕ) (cs : List Kind) (n : ℕ) (s : List ℕ) (at e base : ℕ) (d : List ℕ) → columns_from cs n s at ≡ Next e → (b m : ℕ) → b + m ≤ base → take m (drop b (lists_by stride cs n s at base d)) ≡ take m (drop b d)
+pub lists_keep : (stride : ℕ) (cs : List Kind) (n : ℕ) (s : List ℕ) (at e base : ℕ) (d : List ℕ) → columns_from cs n s at ≡ Ok e → (b m : ℕ) → b + m ≤ base → take m (drop b (lists_by stride cs n s at base d)) ≡ take m (drop b d)
 unfolding lists_by field_from
 lists_keep stride [] n s at e base d q b m h = refl
 lists_keep stride (c ∷ cs) n s at e base d q b m h =
@@ -105,7 +105,7 @@ lists_keep stride (c ∷ cs) n s at e base d q b m h =
     rw f.says
     (lists_keep stride cs (count_after c f.value n) s (next_word s at).end e (base_by stride c base) (sets d base xs) f.rest b m (omega (arith, base_grows (is_list c) stride base)) ∙ sets_keep d base xs b m h)
 
-pub lists_length : (stride : ℕ) (cs : List Kind) (n : ℕ) (s : List ℕ) (at e base : ℕ) (d : List ℕ) → columns_from cs n s at ≡ Next e → length (lists_by stride cs n s at base d) ≡ length d
+pub lists_length : (stride : ℕ) (cs : List Kind) (n : ℕ) (s : List ℕ) (at e base : ℕ) (d : List ℕ) → columns_from cs n s at ≡ Ok e → length (lists_by stride cs n s at base d) ≡ length d
 unfolding lists_by field_from
 lists_length stride [] n s at e base d q = refl
 lists_length stride (c ∷ cs) n s at e base d q =
@@ -114,7 +114,7 @@ lists_length stride (c ∷ cs) n s at e base d q =
     rw f.says (lists_length stride cs (count_after c f.value n) s (next_word s at).end e (base_by stride c base) (sets d base xs) f.rest ∙ length-sets d base xs)
 
 -- the list of column k stands at its place
-pub lists_at : (stride : ℕ) (cs : List Kind) (n : ℕ) (s : List ℕ) (at e base : ℕ) (d : List ℕ) → columns_from cs n s at ≡ Next e → (k : ℕ) → k < length cs → is_list (kind_at cs k) ≡ true → (m : ℕ)
+pub lists_at : (stride : ℕ) (cs : List Kind) (n : ℕ) (s : List ℕ) (at e base : ℕ) (d : List ℕ) → columns_from cs n s at ≡ Ok e → (k : ℕ) → k < length cs → is_list (kind_at cs k) ≡ true → (m : ℕ)
     → length (items_in (kind_at cs k) (bytes_of s (word_at s at k))) ≡ m → m ≤ stride → base_before stride cs base k + m ≤ length d
     → take m (drop (base_before stride cs base k) (lists_by stride cs n s at base d)) ≡ items_in (kind_at cs k) (bytes_of s (word_at s at k))
 unfolding lists_by field_from word_at

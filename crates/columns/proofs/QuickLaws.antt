@@ -16,37 +16,35 @@ use Rattle.text.specs.Scan.{is_in, end_of, Scanned}
 use Rattle.text.specs.Words.{next_word, bytes_of, line_end}
 use Rattle.text.proofs.Laws.{end_of_stop, end_of_past, class_within, blank_line, either}
 use Rattle.text.proofs.PieceLaws.{count_none}
-use Rattle.numbers.specs.declared.Spelt.{Spelt}
-use Rattle.numbers.specs.declared.Spelt.TheVariants.{Means, Faulty}
 use Rattle.numbers.specs.declared.Taken.{Taken}
 use Rattle.numbers.specs.Numbers.{NumberTaken}
 use Rattle.kinds.specs.declared.Range.{Range}
 use Rattle.kinds.specs.declared.Kind.{Kind}
 use Rattle.kinds.specs.declared.Kind.TheVariants.{Number}
 use Rattle.kinds.specs.Kinds.{kind_of, least_of, most_of, spelt, items_in, count_after, base_by}
-use Rattle.columns.specs.declared.Field.{Field}
-use Rattle.columns.specs.declared.Field.TheVariants.{Good}
-use Rattle.columns.specs.declared.Columns.TheVariants.{Next}
 use Rattle.columns.specs.declared.Quick.{Quick}
 use Rattle.columns.specs.Columns.{column_limit, table_of, field_of, field_from, columns_from, values_from, lists_by, few_blocks, is_line_end, FieldRead, WordTaken, QuickWalked}
 use Rattle.columns.proofs.ReadLaws.{field_word, codes_in}
 use Rattle.columns.proofs.WalkLaws.{walk_through}
+use Rattle.std.specs.Prelude.{Ok, Err, Result}
+use Rattle.ledger.specs.declared.Fault.{Fault}
+use Rattle.ledger.specs.Refusals.{fault_at}
 
 -- ---- one word
-good_means : (x : Spelt) (y w : Extent) (v : ℕ) → field_of x y ≡ Good v w → x ≡ Means v
-good_means (Means u) y w v e = cc
-good_means (Faulty why off) y w v e = absurd (let z : ◌≡◌ {A = ℕ} 0 1 = cc in omega arith)
+good_means : (x : Result ℕ Fault) (y w : Extent) (v : ℕ) → field_of x y ≡ Ok (v, w) → x ≡ Ok v
+good_means (Ok u) y w v e = cc
+good_means (Err (fault_at why off)) y w v e = absurd (let z : ◌≡◌ {A = ℕ} 0 1 = cc in omega arith)
 
-module _ (k : Kind) (n : ℕ) (s : List ℕ) (at base : ℕ) (d d' : List ℕ) (r : Field) (read : FieldRead k n s at base d d' r) where
+module _ (k : Kind) (n : ℕ) (s : List ℕ) (at base : ℕ) (d d' : List ℕ) (r : Result (ℕ × Extent) Fault) (read : FieldRead k n s at base d d' r) where
   long_same : length d' ≡ length d
   long_same = rw read.stored (length-sets d base (items_in k (bytes_of s (next_word s at))))
 
-  pub word_good : (v : ℕ) (w : Extent) → r ≡ Good v w → WordTaken k n s (end_of Blank s at) base d d' (record { good = true; value = v; end = w.end })
+  pub word_good : (v : ℕ) (w : Extent) → r ≡ Ok (v, w) → WordTaken k n s (end_of Blank s at) base d d' (record { good = true; value = v; end = w.end })
   unfolding field_from next_word
   word_good v w q =
-      let f : field_from k n s at ≡ Good v w = sym read.result ∙ q in
+      let f : field_from k n s at ≡ Ok (v, w) = sym read.result ∙ q in
       let e : w ≡ next_word s at = field_word k n s at v w f in
-      let m : spelt k n (bytes_of s (next_word s at)) ≡ Means v = good_means (spelt k n (bytes_of s (next_word s at))) (next_word s at) w v f in
+      let m : spelt k n (bytes_of s (next_word s at)) ≡ Ok v = good_means (spelt k n (bytes_of s (next_word s at))) (next_word s at) w v f in
       record { ends = λ g. rw e; means = λ g. rw e m; stored = λ g. rw e read.stored; long = long_same }
 
   pub word_bad : (v e : ℕ) → WordTaken k n s (end_of Blank s at) base d d' (record { good = false; value = v; end = e })
@@ -92,7 +90,7 @@ codes_more (x ∷ xs) zero ds h = refl
 codes_more (x ∷ xs) (suc k) ds h = ap (λ (l : List Kind). kind_of x ∷ l) (codes_more xs k ds (omega arith))
 
 field_taken : (kind : Kind) (n : ℕ) (s : List ℕ) (at a base : ℕ) (d d' : List ℕ) (x : Taken) → Scanned Blank s at a → WordTaken kind n s a base d d' x → x.good ≡ true
-    → field_from kind n s at ≡ Good x.value (record { start = a; end = x.end })
+    → field_from kind n s at ≡ Ok (x.value, (record { start = a; end = x.end }))
 unfolding field_from next_word
 field_taken kind n s at a base d d' x sc t g = rw (← sc.is, ← (t.ends g), t.means g)
 
@@ -119,7 +117,7 @@ module _ (table s : List ℕ) (from : ℕ) (out₀ lists₀ : List ℕ) (k n bas
       let cs = take k (map kind_of table) in
       let l : length (map kind_of table) ≡ length table = length-map table kind_of in
       let all : cs ++ [] ≡ cs = append-nil cs in
-      let read : columns_from cs 0 s from ≡ Next at = sym (rw all at (passed.read [])) in
+      let read : columns_from cs 0 s from ≡ Ok at = sym (rw all at (passed.read [])) in
       let through = walk_through cs 0 s from at read in
       let stops : (c : Class) → is_in c 10 ≡ false → t ≡ true → end_of c s e ≡ e = λ c other g. line_stops c other s e (sym et ∙ g) in
       let none : t ≡ true → (next_word s at).start ≡ (next_word s at).end = λ g. rw (← sc.is) (sym (stops Word refl g)) in

@@ -12,16 +12,11 @@ use Rattle.ledger.specs.declared.Fault.{Fault}
 use Rattle.text.specs.declared.Extent.{Extent}
 use Rattle.text.specs.Words.{next_word, bytes_of}
 use Rattle.text.proofs.Laws.{cut_bytes, either}
-use Rattle.numbers.specs.declared.Spelt.{Spelt}
-use Rattle.numbers.specs.declared.Spelt.TheVariants.{Means, Faulty}
 use Rattle.kinds.specs.declared.Kind.{Kind}
 use Rattle.kinds.specs.Kinds.{kind_of, spelt, items_in, count_after, is_list, base_by, base_after, Spelled}
-use Rattle.columns.specs.declared.Field.{Field}
-use Rattle.columns.specs.declared.Field.TheVariants.{Good, Bad}
-use Rattle.columns.specs.declared.Columns.{Columns}
-use Rattle.columns.specs.declared.Columns.TheVariants.{Next}
-use Rattle.columns.specs.declared.Columns.TheVariants as columns
 use Rattle.columns.specs.Columns.{column_limit, table_of, field_of, field_from, columns_from, values_from, lists_by, lists_from, FieldRead, ColumnsWalked, ColumnsRead}
+use Rattle.std.specs.Prelude.{Ok, Err, Result}
+use Rattle.ledger.specs.Refusals.{fault_at}
 
 pub pair_stored : (b b₁ b₂ : List ℕ) (i j v p : ℕ) → b₁ ≡ set b i v → b₂ ≡ set b₁ j p → b₂ ≡ set (set b i v) j p
 pair_stored b b₁ b₂ i j v p e f = rw (f, e)
@@ -34,42 +29,42 @@ module _ (stride : ℕ) (k : Kind) (t : Bool) (et : t ≡ is_list k) (base : ℕ
   pub base_other : t ≡ false → base ≡ base_by stride k base
   base_other q = rw (← et, q)
 
-pub spell_cut : (k : Kind) (n : ℕ) (s : List ℕ) (w : Extent) (a e base : ℕ) (d d' : List ℕ) (r : Spelt) → e ≡ min w.end (length s) → a ≡ min w.start e
+pub spell_cut : (k : Kind) (n : ℕ) (s : List ℕ) (w : Extent) (a e base : ℕ) (d d' : List ℕ) (r : Result ℕ Fault) → e ≡ min w.end (length s) → a ≡ min w.start e
     → Spelled (spelt k n (take (e - a) (drop a s))) (take (e - a) (drop a s)) (items_in k (take (e - a) (drop a s))) base d d' r
     → Spelled (spelt k n (bytes_of s w)) (bytes_of s w) (items_in k (bytes_of s w)) base d d' r
 spell_cut k n s w a e base d d' r ee ea h = rw (cut_bytes s w a e ee ea) at h
 
 -- the field at a place
-module _ (k : Kind) (n : ℕ) (s : List ℕ) (at : ℕ) (w : Extent) (ew : w ≡ next_word s at) (r : Spelt) (base : ℕ) (d d' : List ℕ) (er : Spelled (spelt k n (bytes_of s w)) (bytes_of s w) (items_in k (bytes_of s w)) base d d' r) where
+module _ (k : Kind) (n : ℕ) (s : List ℕ) (at : ℕ) (w : Extent) (ew : w ≡ next_word s at) (r : Result ℕ Fault) (base : ℕ) (d d' : List ℕ) (er : Spelled (spelt k n (bytes_of s w)) (bytes_of s w) (items_in k (bytes_of s w)) base d d' r) where
   held : d' ≡ sets d base (items_in k (bytes_of s (next_word s at)))
   held = rw (← ew) er.stored
 
-  pub field_good : (v : ℕ) → r ≡ Means v → FieldRead k n s at base d d' (Good v w)
+  pub field_good : (v : ℕ) → r ≡ Ok v → FieldRead k n s at base d d' (Ok (v, w))
   unfolding field_from
   field_good v q = record { result = rw (← ew, ← er.is, q); stored = held }
 
-  pub field_bad : (why : Reason) (off : ℕ) → r ≡ Faulty why off → FieldRead k n s at base d d' (Bad (record { reason = why; place = w.start + off }))
+  pub field_bad : (why : Reason) (off : ℕ) → r ≡ Err (fault_at why off) → FieldRead k n s at base d d' (Err (record { reason = why; place = w.start + off }))
   unfolding field_from
   field_bad why off q = record { result = rw (← ew, ← er.is, q); stored = held }
 
-  pub field_near : (why : Reason) (off : ℕ) → r ≡ Faulty why off → w.start ≤ w.end → w.start + off ≤ w.end
+  pub field_near : (why : Reason) (off : ℕ) → r ≡ Err (fault_at why off) → w.start ≤ w.end → w.start + off ≤ w.end
   unfolding bytes_of
   field_near why off q h =
       let m : off ≤ length (bytes_of s w) = rw q at er.near in
       omega (arith, length-take (w.end - w.start) (drop w.start s))
 
 -- a good field stands at its word
-good_word : (x : Spelt) (y w : Extent) (v : ℕ) → field_of x y ≡ Good v w → w ≡ y
-good_word (Means u) y w v e = cc
-good_word (Faulty why off) y w v e = absurd (let z : ◌≡◌ {A = ℕ} 0 1 = cc in omega arith)
+good_word : (x : Result ℕ Fault) (y w : Extent) (v : ℕ) → field_of x y ≡ Ok (v, w) → w ≡ y
+good_word (Ok u) y w v e = cc
+good_word (Err (fault_at why off)) y w v e = absurd (let z : ◌≡◌ {A = ℕ} 0 1 = cc in omega arith)
 
-pub field_word : (k : Kind) (n : ℕ) (s : List ℕ) (at v : ℕ) (w : Extent) → field_from k n s at ≡ Good v w → w ≡ next_word s at
+pub field_word : (k : Kind) (n : ℕ) (s : List ℕ) (at v : ℕ) (w : Extent) → field_from k n s at ≡ Ok (v, w) → w ≡ next_word s at
 unfolding field_from
 field_word k n s at v w e = good_word (spelt k n (bytes_of s (next_word s at))) (next_word s at) w v e
 
 -- a turn of the loop over a table, and its ends
 module _ (table s : List ℕ) (from at n k : ℕ) where
-  pub columns_done : columns_from (map kind_of (drop k table)) n s at ≡ columns_from (map kind_of table) 0 s from → length table ≤ k → Next at ≡ columns_from (map kind_of table) 0 s from
+  pub columns_done : columns_from (map kind_of (drop k table)) n s at ≡ columns_from (map kind_of table) 0 s from → length table ≤ k → Ok at ≡ columns_from (map kind_of table) 0 s from
   unfolding columns_from
   columns_done inv h = rw (drop_of_length-le table h) at inv
 
@@ -83,12 +78,12 @@ module _ (table s : List ℕ) (from at n k : ℕ) where
   unfolding lists_by
   lists_done base d₀ d inv h = rw (drop_of_length-le table h) at inv
 
-  module _ (h : k < length table) (kind : Kind) (ek : kind ≡ kind_of (get_or table k 0)) (f : Field) (ef : f ≡ field_from kind n s at) where
-    pub columns_bad : columns_from (map kind_of (drop k table)) n s at ≡ columns_from (map kind_of table) 0 s from → (x : Fault) → f ≡ Bad x → columns.Faulty x ≡ columns_from (map kind_of table) 0 s from
+  module _ (h : k < length table) (kind : Kind) (ek : kind ≡ kind_of (get_or table k 0)) (f : Result (ℕ × Extent) Fault) (ef : f ≡ field_from kind n s at) where
+    pub columns_bad : columns_from (map kind_of (drop k table)) n s at ≡ columns_from (map kind_of table) 0 s from → (x : Fault) → f ≡ Err x → Err x ≡ columns_from (map kind_of table) 0 s from
     unfolding columns_from
     columns_bad inv x q = rw (drop-cons table k 0 h, ← ek, ← ef, q) at inv
 
-    module _ (v : ℕ) (w : Extent) (q : f ≡ Good v w) (n' : ℕ) (en : n' ≡ count_after kind v n) where
+    module _ (v : ℕ) (w : Extent) (q : f ≡ Ok (v, w)) (n' : ℕ) (en : n' ≡ count_after kind v n) where
       pub columns_more : columns_from (map kind_of (drop k table)) n s at ≡ columns_from (map kind_of table) 0 s from
           → columns_from (map kind_of (drop (k + 1) table)) n' s w.end ≡ columns_from (map kind_of table) 0 s from
       unfolding columns_from
@@ -127,19 +122,19 @@ codes_length n codes e = rw length-take (omega arith)
 pub codes_few : (n : ℕ) (codes : List ℕ) → n ≡ min column_limit (length codes) → length (take n codes) ≤ column_limit
 codes_few n codes e = rw length-take (omega arith)
 
-pub walked_line : (codes s : List ℕ) (from n : ℕ) (b b' d d' : List ℕ) (r : Columns) → n ≡ min column_limit (length codes) → ColumnsWalked (map kind_of (take n codes)) s from b b' d d' r → ColumnsWalked (table_of codes) s from b b' d d' r
+pub walked_line : (codes s : List ℕ) (from n : ℕ) (b b' d d' : List ℕ) (r : Result ℕ Fault) → n ≡ min column_limit (length codes) → ColumnsWalked (map kind_of (take n codes)) s from b b' d d' r → ColumnsWalked (table_of codes) s from b b' d d' r
 walked_line codes s from n b b' d d' r en h = rw (codes_in n codes en) at h
 
 -- a walk that stores nothing, and the walk that stores
-module _ (codes s : List ℕ) (from n : ℕ) (en : n ≡ min column_limit (length codes)) (o o' l l' : List ℕ) (x : Columns) (first : ColumnsWalked (map kind_of (take n codes)) s from o o' l l' x) where
+module _ (codes s : List ℕ) (from n : ℕ) (en : n ≡ min column_limit (length codes)) (o o' l l' : List ℕ) (x : Result ℕ Fault) (first : ColumnsWalked (map kind_of (take n codes)) s from o o' l l' x) where
   first_is : x ≡ columns_from (table_of codes) 0 s from
   first_is = rw (codes_in n codes en) at first.result
 
-  pub read_refused : (b d : List ℕ) (y : Fault) → x ≡ columns.Faulty y → ColumnsRead (table_of codes) s from b b d d (columns.Faulty y)
+  pub read_refused : (b d : List ℕ) (y : Fault) → x ≡ Err y → ColumnsRead (table_of codes) s from b b d d (Err y)
   read_refused b d y q = record { result = sym q ∙ first_is; stored = refl; held = refl }
 
-  pub read_walked : (e : ℕ) (b b' d d' : List ℕ) (r : Columns) → x ≡ Next e → ColumnsWalked (map kind_of (take n codes)) s from b b' d d' r → ColumnsRead (table_of codes) s from b b' d d' r
+  pub read_walked : (e : ℕ) (b b' d d' : List ℕ) (r : Result ℕ Fault) → x ≡ Ok e → ColumnsWalked (map kind_of (take n codes)) s from b b' d d' r → ColumnsRead (table_of codes) s from b b' d d' r
   read_walked e b b' d d' r q h =
       let g : ColumnsWalked (table_of codes) s from b b' d d' r = rw (codes_in n codes en) at h in
-      let z : r ≡ Next e = g.result ∙ sym first_is ∙ q in
+      let z : r ≡ Ok e = g.result ∙ sym first_is ∙ q in
       record { result = g.result; stored = rw z (g.stored e z); held = rw z (g.held e z) }

@@ -7,14 +7,14 @@ use lib.ListN.{length, replicate, get_or, take, length-take, length-replicate}
 use lib.Seq.{sets, take_all}
 use Rattle.kinds.specs.declared.Kind.{Kind}
 use Rattle.kinds.specs.Kinds.{kind_of}
-use Rattle.columns.specs.declared.Columns.{Columns}
-use Rattle.columns.specs.declared.Columns.TheVariants.{Next}
 use Rattle.columns.specs.Columns.{column_limit, table_of, columns_from, values_from, lists_from, ColumnsWalked}
 use Rattle.columns.proofs.PlaceLaws.{values_length}
 use Rattle.columns.proofs.WordLaws.{map_take, stored_at, zeros}
+use Rattle.std.specs.Prelude.{Ok, Result}
+use Rattle.ledger.specs.declared.Fault.{Fault}
 
 -- the values of a line that is read, stored in a table of m zeros
-pub values_stored : (cs : List Kind) (s : List ℕ) (from m e : ℕ) (b : List ℕ) → 2 * length cs ≤ m → columns_from cs 0 s from ≡ Next e → b ≡ sets (replicate m 0) 0 (values_from cs 0 s from)
+pub values_stored : (cs : List Kind) (s : List ℕ) (from m e : ℕ) (b : List ℕ) → 2 * length cs ≤ m → columns_from cs 0 s from ≡ Ok e → b ≡ sets (replicate m 0) 0 (values_from cs 0 s from)
     → (i : ℕ) → get_or b i 0 ≡ get_or (values_from cs 0 s from) i 0
 values_stored cs s from m e b room read st i =
     let l : length (values_from cs 0 s from) ≤ length {A = ℕ} (replicate m 0) = rw (values_length cs 0 s from e read, length-replicate {A = ℕ} m 0) room in
@@ -31,12 +31,12 @@ module _ (codes : List ℕ) (kinds : List Kind) (same : map kind_of codes ≡ ki
       rw (take_all column_limit (take n codes) z, ← same) (map_take kind_of n codes)
 
   -- a line read into a table of m zeros
-  module _ (s : List ℕ) (from m : ℕ) (room : 2 * n ≤ m) (b' d d' : List ℕ) (x : Columns) (read : ColumnsWalked (table_of (take n codes)) s from (replicate m 0) b' d d' x) where
+  module _ (s : List ℕ) (from m : ℕ) (room : 2 * n ≤ m) (b' d d' : List ℕ) (x : Result ℕ Fault) (read : ColumnsWalked (table_of (take n codes)) s from (replicate m 0) b' d d' x) where
     pub read_is : x ≡ columns_from (take n kinds) 0 s from
     read_is = rw table_is at read.result
 
-    module _ (e : ℕ) (q : x ≡ Next e) where
-      pub read_next : columns_from (take n kinds) 0 s from ≡ Next e
+    module _ (e : ℕ) (q : x ≡ Ok e) where
+      pub read_next : columns_from (take n kinds) 0 s from ≡ Ok e
       read_next = sym read_is ∙ q
 
       pub values_same : (i : ℕ) → get_or b' i 0 ≡ get_or (values_from (take n kinds) 0 s from) i 0

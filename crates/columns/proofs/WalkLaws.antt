@@ -12,8 +12,6 @@ use Rattle.text.specs.Words.{next_word, word_count, bytes_of, line_end}
 use Rattle.text.specs.Pieces.{pieces_of}
 use Rattle.text.proofs.Laws.{word_line_end}
 use Rattle.text.proofs.PieceLaws.{count_more}
-use Rattle.numbers.specs.declared.Spelt.{Spelt}
-use Rattle.numbers.specs.declared.Spelt.TheVariants.{Means, Faulty}
 use Rattle.numbers.specs.declared.Taken.{Taken}
 use Rattle.numbers.specs.Numbers.{well_spelt, number_of, NumberTaken}
 use Rattle.numbers.specs.Lists.{items_of, test_items, open_end, list_end, list_of}
@@ -22,15 +20,14 @@ use Rattle.kinds.specs.declared.Range.{Range}
 use Rattle.kinds.specs.declared.Kind.{Kind}
 use Rattle.kinds.specs.declared.Kind.TheVariants.{Name, Number, Count, Items, Stranded, Word, Colour}
 use Rattle.kinds.specs.Kinds.{least_of, most_of, same_bytes, name_of, strand_of, fixed_of, colour_of, spelt, count_after}
-use Rattle.columns.specs.declared.Columns.TheVariants.{Next}
-use Rattle.columns.specs.declared.Columns.TheVariants as columns
-use Rattle.columns.specs.declared.Field.{Field}
-use Rattle.columns.specs.declared.Field.TheVariants.{Good}
 use Rattle.columns.specs.declared.Got.{Got}
 use Rattle.columns.specs.Columns.{field_from, then_columns, columns_from, values_from, FieldRead, FieldTaken}
+use Rattle.std.specs.Prelude.{Ok, Err, Result}
+use Rattle.ledger.specs.declared.Fault.{Fault}
+use Rattle.ledger.specs.Refusals.{fault_at}
 
 -- a word of no bytes spells nothing
-no_value : (k : Kind) (n v : ℕ) → spelt k n [] ≡ Means v → ◌≡◌ {A = ℕ} 0 1
+no_value : (k : Kind) (n v : ℕ) → spelt k n [] ≡ Ok v → ◌≡◌ {A = ℕ} 0 1
 unfolding spelt number_of well_spelt name_of strand_of fixed_of colour_of same_bytes list_of list_end open_end test_items items_of pieces_of
 no_value Name n v e = cc
 no_value (Number r) n v e = cc
@@ -41,11 +38,11 @@ no_value (Word fixed.Chain) n v e = cc
 no_value (Word fixed.Plus) n v e = cc
 no_value Colour n v e = cc
 
-pub some_bytes : (k : Kind) (n v : ℕ) (w : List ℕ) → spelt k n w ≡ Means v → 0 < length w
+pub some_bytes : (k : Kind) (n v : ℕ) (w : List ℕ) → spelt k n w ≡ Ok v → 0 < length w
 some_bytes k n v [] e = absurd (let z = no_value k n v e in omega arith)
 some_bytes k n v (b ∷ w) e = omega arith
 
-pub word_some : (k : Kind) (n v : ℕ) (s : List ℕ) (at : ℕ) → spelt k n (bytes_of s (next_word s at)) ≡ Means v → (next_word s at).start < (next_word s at).end
+pub word_some : (k : Kind) (n v : ℕ) (s : List ℕ) (at : ℕ) → spelt k n (bytes_of s (next_word s at)) ≡ Ok v → (next_word s at).start < (next_word s at).end
 unfolding bytes_of
 word_some k n v s at e =
     let h : 0 < length (take ((next_word s at).end - (next_word s at).start) (drop (next_word s at).start s)) = some_bytes k n v (bytes_of s (next_word s at)) e in
@@ -56,27 +53,27 @@ pub record Through (cs : List Kind) (s : List ℕ) (at e : ℕ) : Type 0 where
   pub count : word_count s at ≡ length cs + word_count s e
   pub line : line_end s e ≡ line_end s at
 
-pub walk_through : (cs : List Kind) (n : ℕ) (s : List ℕ) (at e : ℕ) → columns_from cs n s at ≡ Next e → Through cs s at e
+pub walk_through : (cs : List Kind) (n : ℕ) (s : List ℕ) (at e : ℕ) → columns_from cs n s at ≡ Ok e → Through cs s at e
 unfolding columns_from field_from
 walk_through [] n s at e q =
     let z : at ≡ e = cc in
     record { count = rw z (omega arith); line = rw z }
 walk_through (c ∷ cs) n s at e q = go (spelt c n (bytes_of s (next_word s at))) refl (λ v k. walk_through cs (count_after c v n) s (next_word s at).end e k) q
   where
-    go : (x : Spelt) → spelt c n (bytes_of s (next_word s at)) ≡ x
-        → ((v : ℕ) → columns_from cs (count_after c v n) s (next_word s at).end ≡ Next e → Through cs s (next_word s at).end e)
-        → then_columns (field_from c n s at) (λ v w. columns_from cs (count_after c v n) s w.end) ≡ Next e
+    go : (x : Result ℕ Fault) → spelt c n (bytes_of s (next_word s at)) ≡ x
+        → ((v : ℕ) → columns_from cs (count_after c v n) s (next_word s at).end ≡ Ok e → Through cs s (next_word s at).end e)
+        → then_columns (field_from c n s at) (λ v w. columns_from cs (count_after c v n) s w.end) ≡ Ok e
         → Through (c ∷ cs) s at e
-    go (Means v) p k q =
-        let z : columns_from cs (count_after c v n) s (next_word s at).end ≡ Next e = rw p at q in
+    go (Ok v) p k q =
+        let z : columns_from cs (count_after c v n) s (next_word s at).end ≡ Ok e = rw p at q in
         let t = k v z in
         record { count = omega (arith, t.count, count_more s at (word_some c n v s at p)); line = t.line ∙ word_line_end s at }
-    go (Faulty why off) p k q =
-        let z : columns.Faulty (record { reason = why; place = (next_word s at).start + off }) ≡ Next e = rw p at q in
+    go (Err (fault_at why off)) p k q =
+        let z : Err (record { reason = why; place = (next_word s at).start + off }) ≡ Ok e = rw p at q in
         absurd (let y : ◌≡◌ {A = ℕ} 0 1 = cc in omega arith)
 
 -- a field taken alone
-pub taken_good : (k : Kind) (s : List ℕ) (at base : ℕ) (d d' : List ℕ) (r : Field) → FieldRead k 0 s at base d d' r → (v : ℕ) (w : Extent) → r ≡ Good v w → FieldTaken k s at (record { good = true; value = v; start = w.start; end = w.end })
+pub taken_good : (k : Kind) (s : List ℕ) (at base : ℕ) (d d' : List ℕ) (r : Result (ℕ × Extent) Fault) → FieldRead k 0 s at base d d' r → (v : ℕ) (w : Extent) → r ≡ Ok (v, w) → FieldTaken k s at (record { good = true; value = v; start = w.start; end = w.end })
 taken_good k s at base d d' r h v w q = record { is = λ g. sym h.result ∙ q }
 
 pub taken_bad : (k : Kind) (s : List ℕ) (at v a e : ℕ) → FieldTaken k s at (record { good = false; value = v; start = a; end = e })
@@ -89,7 +86,7 @@ taken_number range s at a least most x el em sc t = record { is = λ g. rw (← 
 
 -- fields taken one after the other
 pub record Run (cs : List Kind) (s : List ℕ) (at : ℕ) (vs : List ℕ) (e : ℕ) : Type 0 where
-  pub read : columns_from cs 0 s at ≡ Next e
+  pub read : columns_from cs 0 s at ≡ Ok e
   pub values : values_from cs 0 s at ≡ vs
 
 pub run_none : (s : List ℕ) (at : ℕ) → Run [] s at [] at

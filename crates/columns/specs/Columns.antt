@@ -1,5 +1,5 @@
 -- A line read by its table of columns.
-use Rattle.std.specs.Prelude.{ℕ, ◌+◌, ◌*◌, ◌≤◌, ◌≡◌, Bool, true, ◌||◌, List, [], ◌∷◌, map, length, take, get_or, leb, eqb}
+use Rattle.std.specs.Prelude.{ℕ, ◌+◌, ◌*◌, ◌≤◌, ◌≡◌, Bool, true, ◌||◌, List, [], ◌∷◌, map, length, take, get_or, leb, eqb, Ok, Err, Result}
 use Rattle.std.proofs.lemmas.List.Edits.{sets}
 use Rattle.ledger.specs.declared.Fault.{Fault}
 use Rattle.ledger.specs.Limits.{block_limit}
@@ -7,18 +7,12 @@ use Rattle.text.specs.declared.Extent.{Extent}
 use Rattle.text.specs.declared.Class.TheVariants.{Word}
 use Rattle.text.specs.Scan.{end_of}
 use Rattle.text.specs.Words.{next_word, word_count, bytes_of, line_end}
-use Rattle.numbers.specs.declared.Spelt.{Spelt}
-use Rattle.numbers.specs.declared.Spelt.TheVariants.{Means, Faulty}
 use Rattle.numbers.specs.declared.Taken.{Taken}
 use Rattle.kinds.specs.declared.Kind.{Kind}
-use Rattle.columns.specs.declared.Field.{Field}
-use Rattle.columns.specs.declared.Field.TheVariants.{Good, Bad}
 use Rattle.columns.specs.declared.Got.{Got}
 use Rattle.columns.specs.declared.Quick.{Quick}
-use Rattle.columns.specs.declared.Columns.{Columns}
-use Rattle.columns.specs.declared.Columns.TheVariants.{Next}
-use Rattle.columns.specs.declared.Columns.TheVariants as columns
 use Rattle.kinds.specs.Kinds.{kind_of, spelt, items_in, count_after, base_by}
+use Rattle.ledger.specs.Refusals.{fault_at}
 
 -- a table has at most so many columns; what stands past them is not read
 abbrev pub column_limit : ℕ
@@ -28,26 +22,26 @@ column_limit = 64
 unfoldable pub table_of : List ℕ → List Kind
 table_of codes = map kind_of (take column_limit codes)
 
-abbrev pub field_of : Spelt → Extent → Field
-field_of (Means v) w = Good v w
-field_of (Faulty why at) w = Bad (record { reason = why; place = w.start + at })
+abbrev pub field_of : Result ℕ Fault → Extent → Result (ℕ × Extent) Fault
+field_of (Ok v) w = Ok (v, w)
+field_of (Err (fault_at why at)) w = Err (record { reason = why; place = w.start + at })
 
 -- the word at or after a place, read as a column of a kind: its value and where it stands
-unfoldable pub field_from : Kind → ℕ → List ℕ → ℕ → Field
+unfoldable pub field_from : Kind → ℕ → List ℕ → ℕ → Result (ℕ × Extent) Fault
 field_from k n s at = field_of (spelt k n (bytes_of s (next_word s at))) (next_word s at)
 
-abbrev pub then_columns : Field → (ℕ → Extent → Columns) → Columns
-then_columns (Good v w) rest = rest v w
-then_columns (Bad x) rest = columns.Faulty x
+abbrev pub then_columns : Result (ℕ × Extent) Fault → (ℕ → Extent → Result ℕ Fault) → Result ℕ Fault
+then_columns (Ok (v, w)) rest = rest v w
+then_columns (Err x) rest = Err x
 
 -- the columns of a table from the left, n being the last count: the first refusal, or the place after the last word
-unfoldable pub columns_from : List Kind → ℕ → List ℕ → ℕ → Columns
-columns_from [] n s at = Next at
+unfoldable pub columns_from : List Kind → ℕ → List ℕ → ℕ → Result ℕ Fault
+columns_from [] n s at = Ok at
 columns_from (k ∷ ks) n s at = then_columns (field_from k n s at) (λ v w. columns_from ks (count_after k v n) s w.end)
 
-abbrev pub then_numbers : Field → (ℕ → Extent → List ℕ) → List ℕ
-then_numbers (Good v w) rest = rest v w
-then_numbers (Bad x) rest = []
+abbrev pub then_numbers : Result (ℕ × Extent) Fault → (ℕ → Extent → List ℕ) → List ℕ
+then_numbers (Ok (v, w)) rest = rest v w
+then_numbers (Err x) rest = []
 
 -- what they hold, two numbers for each column: its value, and where its word starts
 unfoldable pub values_from : List Kind → ℕ → List ℕ → ℕ → List ℕ
@@ -65,19 +59,19 @@ abbrev pub lists_from : List Kind → ℕ → List ℕ → ℕ → ℕ → List 
 lists_from ks n s at base d = lists_by block_limit ks n s at base d
 
 -- what reading one field promises
-pub record FieldRead (k : Kind) (n : ℕ) (s : List ℕ) (at base : ℕ) (before after : List ℕ) (r : Field) : Type 0 where
+pub record FieldRead (k : Kind) (n : ℕ) (s : List ℕ) (at base : ℕ) (before after : List ℕ) (r : Result (ℕ × Extent) Fault) : Type 0 where
   pub result : r ≡ field_from k n s at
   pub stored : after ≡ sets before base (items_in k (bytes_of s (next_word s at)))
 
 -- what taking one field alone promises: where it is good, it is the field that is no list's
 pub record FieldTaken (k : Kind) (s : List ℕ) (at : ℕ) (r : Got) : Type 0 where
-  pub is : r.good ≡ true → field_from k 0 s at ≡ Good r.value (record { start = r.start; end = r.end })
+  pub is : r.good ≡ true → field_from k 0 s at ≡ Ok (r.value, (record { start = r.start; end = r.end }))
 
 -- what one walk over the columns promises
-pub record ColumnsWalked (table : List Kind) (s : List ℕ) (from : ℕ) (out out' lists lists' : List ℕ) (r : Columns) : Type 0 where
+pub record ColumnsWalked (table : List Kind) (s : List ℕ) (from : ℕ) (out out' lists lists' : List ℕ) (r : Result ℕ Fault) : Type 0 where
   pub result : r ≡ columns_from table 0 s from
-  pub stored : (e : ℕ) → r ≡ Next e → out' ≡ sets out 0 (values_from table 0 s from)
-  pub held : (e : ℕ) → r ≡ Next e → lists' ≡ lists_from table 0 s from 0 lists
+  pub stored : (e : ℕ) → r ≡ Ok e → out' ≡ sets out 0 (values_from table 0 s from)
+  pub held : (e : ℕ) → r ≡ Ok e → lists' ≡ lists_from table 0 s from 0 lists
 
 -- the value of column k, and where its word starts
 abbrev pub value_of : List ℕ → ℕ → ℕ
@@ -87,17 +81,17 @@ abbrev pub place_of : List ℕ → ℕ → ℕ
 place_of vs k = get_or vs (2 * k + 1) 0
 
 -- where the columns are good go on, else stop with the fault: `stop` makes the answer of a fault
-abbrev pub then_next : {A : Type 0} → (Fault → A) → Columns → A → A
-then_next stop (Next e) rest = rest
-then_next stop (columns.Faulty x) rest = stop x
+abbrev pub then_next : {A : Type 0} → (Fault → A) → Result ℕ Fault → A → A
+then_next stop (Ok e) rest = rest
+then_next stop (Err x) rest = stop x
 
 -- what a table holds after the columns were read, or not
-abbrev pub table_after : Columns → List ℕ → List ℕ → List ℕ
-table_after (Next e) after before = after
-table_after (columns.Faulty x) after before = before
+abbrev pub table_after : Result ℕ Fault → List ℕ → List ℕ → List ℕ
+table_after (Ok e) after before = after
+table_after (Err x) after before = before
 
 -- what reading a line by its table promises: the answer, the values and the lists; a refusal leaves both tables as they were
-pub record ColumnsRead (table : List Kind) (s : List ℕ) (from : ℕ) (out out' lists lists' : List ℕ) (r : Columns) : Type 0 where
+pub record ColumnsRead (table : List Kind) (s : List ℕ) (from : ℕ) (out out' lists lists' : List ℕ) (r : Result ℕ Fault) : Type 0 where
   pub result : r ≡ columns_from table 0 s from
   pub stored : out' ≡ table_after r (sets out 0 (values_from table 0 s from)) out
   pub held : lists' ≡ table_after r (lists_from table 0 s from 0 lists) lists
@@ -114,14 +108,14 @@ is_line_end s i = leb (length s) i || eqb (get_or s i 0) 10
 -- what taking the word that begins at a place promises, where it is good: what it spells by its kind, its end, and its numbers where it is a list
 pub record WordTaken (k : Kind) (n : ℕ) (s : List ℕ) (start base : ℕ) (before after : List ℕ) (r : Taken) : Type 0 where
   pub ends : r.good ≡ true → r.end ≡ end_of Word s start
-  pub means : r.good ≡ true → spelt k n (bytes_of s (record { start = start; end = r.end })) ≡ Means r.value
+  pub means : r.good ≡ true → spelt k n (bytes_of s (record { start = start; end = r.end })) ≡ Ok r.value
   pub stored : r.good ≡ true → after ≡ sets before base (items_in k (bytes_of s (record { start = start; end = r.end })))
   pub long : length after ≡ length before
 
 -- what taking a line's words promises, where it is good: they are those of so many columns, what they hold is stored, the line ends after them
 pub record QuickWalked (table : List Kind) (s : List ℕ) (from : ℕ) (out out' lists lists' : List ℕ) (r : Quick) : Type 0 where
   pub few : r.good ≡ true → r.count ≤ length table
-  pub read : r.good ≡ true → columns_from (take r.count table) 0 s from ≡ Next r.last
+  pub read : r.good ≡ true → columns_from (take r.count table) 0 s from ≡ Ok r.last
   pub words : r.good ≡ true → word_count s from ≡ r.count
   pub line : r.good ≡ true → line_end s from ≡ r.end
   pub stored : r.good ≡ true → out' ≡ sets out 0 (values_from (take r.count table) 0 s from)

@@ -1,13 +1,9 @@
 -- A line written by its table of columns: the standard text.
-use Rattle.std.specs.Prelude.{ℕ, zero, suc, ◌+◌, ◌*◌, List, [], ◌∷◌, ◌++◌, get_or}
+use Rattle.std.specs.Prelude.{ℕ, zero, suc, ◌+◌, ◌*◌, List, [], ◌∷◌, ◌++◌, get_or, Ok, Err, Result, ⊤}
 use Rattle.kinds.specs.declared.Kind.{Kind}
 use Rattle.kinds.specs.Kinds.{base_after}
 use Rattle.kinds.specs.Words.{word_of}
-use Rattle.text.specs.declared.Check.{Check}
-use Rattle.text.specs.declared.Check.TheVariants.{Holds}
-use Rattle.writing.specs.declared.Writing.{Writing}
-use Rattle.text.specs.declared.Check.TheVariants as check
-use Rattle.writing.specs.declared.Writing.TheVariants as writing
+use Rattle.ledger.specs.declared.Refusal.{Refusal}
 
 -- what stands before column k: nothing before the first, then the separator
 abbrev pub gap_of : ℕ → ℕ → List ℕ
@@ -27,9 +23,9 @@ unfoldable pub fed_line : List Kind → ℕ → List ℕ → List ℕ → List �
 fed_line table sep t vs ls = line_text table sep t vs ls ++ (10 ∷ [])
 
 -- a writer: where its checks hold go on, else stop with the refusal
-abbrev pub then_write : Check → Writing → Writing
-then_write Holds rest = rest
-then_write (check.Refused x) rest = writing.Refused x
+abbrev pub then_write : Result ⊤ Refusal → Result ℕ Refusal → Result ℕ Refusal
+then_write (Ok tt) rest = rest
+then_write (Err x) rest = Err x
 
 -- the words of the columns from number k on
 unfoldable pub words_from : ℕ → ℕ → List Kind → List ℕ → List ℕ → List ℕ → List (List ℕ)

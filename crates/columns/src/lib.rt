@@ -1,13 +1,12 @@
 // A line by its table of columns: one loop reads a line by any table, and one writes it.
 #![tactic(auto)]
 
-ghost use Rattle.std.specs.Prelude.{◌≡◌, ◌+◌, ◌*◌, ◌≤◌, min, map, length, set, get_or};
+ghost use Rattle.std.specs.Prelude.{◌≡◌, ◌+◌, ◌*◌, ◌≤◌, min, map, length, set, get_or, Err};
 ghost use Rattle.ledger.specs.Limits.{name_limit, block_limit};
 ghost use Rattle.text.specs.declared.Class.TheVariants.{Blank};
 ghost use Rattle.text.specs.Scan.{end_of};
 ghost use Rattle.text.specs.Words.{bytes_of};
 ghost use Rattle.text.specs.Checks.{then_check};
-ghost use Rattle.columns.specs.declared.Columns.TheVariants as columns;
 ghost use Rattle.writing.specs.Puts.{Put};
 ghost use Rattle.writing.specs.Answers.{Wrote};
 ghost use Rattle.kinds.specs.declared.Kind.TheVariants.{Number};
@@ -18,27 +17,12 @@ ghost use Rattle.columns.specs.Names.{names_in, length_fits, all_graphic};
 ghost use Rattle.columns.specs.Lines.{gap_of, line_from, line_text, fed_line};
 
 use kinds::{Kind, Range};
-use ledger::{Fault, Reason};
-use numbers::{Spelt, Taken};
-use text::{Class, Extent, Stage};
-use writing::Writing;
+use ledger::{Fault, Reason, Refusal};
+use numbers::Taken;
+use text::{Class, Extent};
 
 // A table has at most so many columns.
 pub const COLUMN_LIMIT: usize = 64;
-
-// One column read: its value and where its word stands, or the fault.
-#[derive(Clone, Copy)]
-pub enum Field {
-    Good(u64, Extent),
-    Bad(Fault),
-}
-
-// All columns read: the place after the last word, or the first fault.
-#[derive(Clone, Copy)]
-pub enum Columns {
-    Next(usize),
-    Faulty(Fault),
-}
 
 // What an extent of a text spells. What lies outside the text holds no bytes.
 fn spell_in(
@@ -48,7 +32,7 @@ fn spell_in(
     word: Extent,
     base: usize,
     lists: &mut [u64],
-) -> Spelt
+) -> Result<u64, Fault>
     ensures { Spelled (spelt kind count (bytes_of text.now word)) (bytes_of
         text.now word) (items_in kind (bytes_of text.now word)) base lists.old
         lists.new result }
@@ -66,13 +50,13 @@ fn read_field(
     at: usize,
     base: usize,
     lists: &mut [u64],
-) -> Field
+) -> Result<(u64, Extent), Fault>
     ensures { FieldRead kind count text.now at base lists.old lists.new result }
 {
     let w = text::next_word(text, at);
     match spell_in(kind, count, text, w, base, lists) {
-        Spelt::Means(v) => Field::Good(v, w),
-        Spelt::Faulty(reason, off) => Field::Bad(Fault {
+        Ok(v) => Ok((v, w)),
+        Err(Fault { reason: reason, place: off }) => Err(Fault {
             reason,
             place: w.start + off,
         }),
@@ -94,13 +78,13 @@ pub fn take_field(kind: Kind, text: &[u8], at: usize) -> Got
 {
     let mut none = [0u64; 0];
     match read_field(kind, 0, text, at, 0, &mut none) {
-        Field::Good(v, w) => Got {
+        Ok((v, w)) => Got {
             good: true,
             value: v,
             start: w.start,
             end: w.end,
         },
-        Field::Bad(x) => Got {
+        Err(x) => Got {
             good: false,
             value: 0,
             start: x.place,
@@ -151,7 +135,7 @@ fn walk_columns(
     table: &[u8],
     out: &mut [u64],
     lists: &mut [u64],
-) -> Columns
+) -> Result<usize, Fault>
     requires { length table.now ≤ column_limit }
     ensures { ColumnsWalked (map kind_of table.now) text.now from out.old out.new
         lists.old lists.new result }
@@ -162,20 +146,14 @@ fn walk_columns(
     let mut k = 0;
     while k < table.len() {
         let kind = kinds::kind_of(table[k]);
-        match read_field(kind, count, text, at, base, lists) {
-            Field::Good(v, w) => {
-                store_pair(out, k, v, w.start as u64);
-                count = kinds::count_after(kind, v, count);
-                base = base_after(kind, base);
-                at = w.end;
-            }
-            Field::Bad(x) => {
-                return Columns::Faulty(x);
-            }
-        }
+        let (v, w) = read_field(kind, count, text, at, base, lists)?;
+        store_pair(out, k, v, w.start as u64);
+        count = kinds::count_after(kind, v, count);
+        base = base_after(kind, base);
+        at = w.end;
         k += 1;
     }
-    Columns::Next(at)
+    Ok(at)
 }
 
 // Reads the words of a line from a place on by a table of columns, in order: for each its value and where its word starts, and the
@@ -186,17 +164,15 @@ pub fn read_columns(
     table: &[u8],
     out: &mut [u64],
     lists: &mut [u64],
-) -> Columns
+) -> Result<usize, Fault>
     ensures { ColumnsRead (table_of table.now) text.now from out.old out.new
         lists.old lists.new result }
 {
     let n = ledger::least(COLUMN_LIMIT, table.len());
     let mut no_values = [0u64; 0];
     let mut no_lists = [0u64; 0];
-    match walk_columns(text, from, &table[..n], &mut no_values, &mut no_lists) {
-        Columns::Faulty(x) => Columns::Faulty(x),
-        Columns::Next(_) => walk_columns(text, from, &table[..n], out, lists),
-    }
+    walk_columns(text, from, &table[..n], &mut no_values, &mut no_lists)?;
+    walk_columns(text, from, &table[..n], out, lists)
 }
 
 // The same in one walk, for a caller's own working room: a refusal may leave anything in both tables.
@@ -206,7 +182,7 @@ pub fn walk_line(
     table: &[u8],
     out: &mut [u64],
     lists: &mut [u64],
-) -> Columns
+) -> Result<usize, Fault>
     ensures { ColumnsWalked (table_of table.now) text.now from out.old out.new
         lists.old lists.new result }
 {
@@ -314,20 +290,18 @@ pub fn write_line(
     text: &[u8],
     values: &[u64],
     lists: &[u64],
-) -> Writing
+) -> Result<usize, Refusal>
     ensures { Wrote (fed_line (table_of table.now) sep text.now values.now
         lists.now) buf.old buf.new result }
 {
     let mut none = [0u8; 0];
     let n = put_line(&mut none, 0, table, sep, text, values, lists);
-    match writing::room_for(n, buf.len()) {
-        Writing::Refused(x) => Writing::Refused(x),
-        Writing::Written(_) => Writing::Written(put_line(buf, 0, table, sep, text, values, lists)),
-    }
+    writing::room_for(n, buf.len())?;
+    Ok(put_line(buf, 0, table, sep, text, values, lists))
 }
 
 // The number of words of the line that begins at a place (2).
-pub fn check_count(text: &[u8], line: usize, n: usize) -> Stage
+pub fn check_count(text: &[u8], line: usize, n: usize) -> Result<(), Fault>
     ensures { result ≡ count_check text.now line n }
 {
     let count = text::count_words(text, line);
@@ -335,50 +309,42 @@ pub fn check_count(text: &[u8], line: usize, n: usize) -> Stage
 }
 
 // What was found of the columns, where the number of words is good.
-fn count_first(text: &[u8], n: usize, found: Columns) -> Columns
-    ensures { result ≡ then_check columns.Faulty (count_check text.now 0 n) found }
+fn count_first(text: &[u8], n: usize, found: Result<usize, Fault>) -> Result<usize, Fault>
+    ensures { result ≡ then_check Err (count_check text.now 0 n) found }
 {
-    match check_count(text, 0, n) {
-        Stage::Faulty(x) => Columns::Faulty(x),
-        Stage::Passes => found,
-    }
+    check_count(text, 0, n)?;
+    found
 }
 
 // The number of words and the columns of a text's first line in one walk, for a caller's own working room. A good walk
 // that no word follows has passed as many words as there are columns, so the words are counted in other cases only.
-pub fn walk_words(text: &[u8], table: &[u8], out: &mut [u64], lists: &mut [u64]) -> Columns
+pub fn walk_words(text: &[u8], table: &[u8], out: &mut [u64], lists: &mut [u64]) -> Result<usize, Fault>
     ensures { WordsWalked (table_of table.now) text.now out.old out.new
         lists.old lists.new result }
 {
     let n = ledger::least(COLUMN_LIMIT, table.len());
     match walk_line(text, 0, table, out, lists) {
-        Columns::Faulty(x) => count_first(text, n, Columns::Faulty(x)),
-        Columns::Next(e) => {
+        Err(x) => count_first(text, n, Err(x)),
+        Ok(e) => {
             let w = text::next_word(text, e);
             if w.start == w.end {
-                return Columns::Next(e);
+                return Ok(e);
             }
-            count_first(text, n, Columns::Next(e))
+            count_first(text, n, Ok(e))
         }
     }
 }
 
 // Reads a text of one line by its table in one walk, for a caller's own working room: a refusal may leave anything in
 // both tables.
-pub fn walk_text(text: &[u8], table: &[u8], out: &mut [u64], lists: &mut [u64]) -> Columns
+pub fn walk_text(text: &[u8], table: &[u8], out: &mut [u64], lists: &mut [u64]) -> Result<usize, Fault>
     ensures { LineWalked (table_of table.now) text.now out.old out.new
         lists.old lists.new result }
 {
-    match text::check_text(text) {
-        Stage::Faulty(x) => Columns::Faulty(x),
-        Stage::Passes => match walk_words(text, table, out, lists) {
-            Columns::Faulty(x) => Columns::Faulty(x),
-            Columns::Next(e) => match text::check_last_line(text, e) {
-                Stage::Faulty(x) => Columns::Faulty(x),
-                Stage::Passes => Columns::Next(e),
-            },
-        },
-    }
+    text::check_text(text)?;
+    let e = walk_words(text, table, out, lists)?;
+    text::check_last_line(text, e)?;
+    Ok(e)
 }
 
 // A line's words taken in one walk. Where they are good: how many there are, where the last of them ends, and where the line does.
@@ -406,12 +372,12 @@ fn quick_word(
         lists.new result }
 {
     match read_field(kind, count, text, at, base, lists) {
-        Field::Good(value, w) => Taken {
+        Ok((value, w)) => Taken {
             good: true,
             value,
             end: w.end,
         },
-        Field::Bad(_) => Taken {
+        Err(_) => Taken {
             good: false,
             value: 0,
             end: at,

@@ -7,7 +7,6 @@ use native.Mathlib.Omega.{arith}
 use lib.ListN.{length, get_or, get_or-eq_default}
 use Rattle.ledger.specs.declared.Row.{Row}
 use Rattle.ledger.specs.Limits.{text_limit}
-use Rattle.text.specs.declared.Check.TheVariants.{Holds}
 use Rattle.text.specs.declared.Class.TheVariants.{Graphic}
 use Rattle.text.specs.Words.{word_count}
 use Rattle.text.proofs.Laws.{either}
@@ -18,7 +17,6 @@ use Rattle.writing.specs.Answers.{room_answer}
 use Rattle.blocks.specs.Blocks.{shifted, sums_from}
 use Rattle.blocks.specs.Rows.{table_of, targets_of, queries_of, sizes_of}
 use Rattle.bed.specs.declared.Bed.{Bed}
-use Rattle.bed.specs.declared.BedAnswer.TheVariants.{Accepted}
 use Rattle.bed.specs.Records.{bed_targets, bed_queries, bed_sizes, bed_rows}
 use Rattle.bed.specs.Read.{bed_read, bed_check}
 use Rattle.bed.specs.Rules.{BedLine, BedRules, named, placed}
@@ -41,6 +39,7 @@ use Rattle.demands.proofs.RowLaws.{holds_if}
 use Rattle.demands.proofs.FormatLaws.{Shown, demand2_of}
 use Rattle.demands.proofs.FormatLaws as demands
 use Rattle.demands.proofs.LengthLaws.{bed_short}
+use Rattle.std.specs.Prelude.{Ok}
 
 -- the test of a record sees only the lengths of its names
 valid_named : (r : Bed) (ns : Names) (ts qs zs : List ℕ) → length ns.first ≡ r.chrom.length → length ns.second ≡ r.name.length → bed_valid r ts qs zs ≡ true → bed_valid (named r ns.first ns.second) ts qs zs ≡ true
@@ -48,17 +47,17 @@ unfolding bed_valid strand_fits fields_fit spans_fit rows_fit
 valid_named r ns ts qs zs e f h = rw (e, f) h
 
 -- a valid record passes the writer's checks
-passes : (r : Bed) (ns : Names) (ts qs zs : List ℕ) → BedRules (named r ns.first ns.second) ts qs zs → All Graphic ns.first → All Graphic ns.second → write_check r ns.first ns.second ts qs zs ≡ Holds
+passes : (r : Bed) (ns : Names) (ts qs zs : List ℕ) → BedRules (named r ns.first ns.second) ts qs zs → All Graphic ns.first → All Graphic ns.second → write_check r ns.first ns.second ts qs zs ≡ (Ok tt)
 unfolding write_check names_show strand_fits fields_fit spans_fit rows_fit
 passes r ns ts qs zs k c d = let q = named r ns.first ns.second in valid_writes q ns.first ns.second ts qs zs (rules_is q ts qs zs k) refl refl c d
 
 -- ---- an accepted line: its names, and its rows
-module _ (s : List ℕ) (r : Bed) (ok : bed_check s ≡ Accepted r) where
+module _ (s : List ℕ) (r : Bed) (ok : bed_check s ≡ Ok r) where
   names_valid : (ts qs zs : List ℕ) → bed_valid r ts qs zs ≡ true → bed_valid (named r (bed_names s r).first (bed_names s r).second) ts qs zs ≡ true
   names_valid ts qs zs v = valid_named r (bed_names s r) ts qs zs (chrom_shows s r ok).1 (name_shows s r ok).1 v
 
 -- and the table that it left
-left : (s : List ℕ) (before after : List Row) (r : Bed) → RowsRead s before after (Accepted r) → BedValid r (bed_names s r) after
+left : (s : List ℕ) (before after : List Row) (r : Bed) → RowsRead s before after (Ok r) → BedValid r (bed_names s r) after
 unfolding record_check
 left s before after r h =
     let ok = (read_of (bed_reads s) (length before) r (sym h.is)).0 in
@@ -82,7 +81,7 @@ module _ (r : Bed) (ns : Names) (table : List Row) (ok : BedValid r ns table) wh
   abbrev text : List ℕ
   text = bed_text r ns.first ns.second ts zs
 
-  may : write_check r ns.first ns.second ts qs zs ≡ Holds
+  may : write_check r ns.first ns.second ts qs zs ≡ (Ok tt)
   may = passes r ns ts qs zs ok.rules ok.chrom_shows ok.name_shows
 
   pub short : length text ≤ text_limit
@@ -103,7 +102,7 @@ module _ (r : Bed) (ns : Names) (table : List Row) (ok : BedValid r ns table) wh
       λ i. record { first = a i; second = b i }
 
 -- what a text spells is what its checker accepts, with the rows of its block columns
-pub spelt_check : (s : List ℕ) (r : Bed) (rows : List Row) → BedSpells s r rows → bed_check s ≡ Accepted r
+pub spelt_check : (s : List ℕ) (r : Bed) (rows : List Row) → BedSpells s r rows → bed_check s ≡ Ok r
 spelt_check s r rows p = line_is s r _ _ _ _ p.line
 
 pub spelt_rows : (s : List ℕ) (r : Bed) (rows : List Row) → BedSpells s r rows → rows ≡ bed_rows s r
@@ -113,7 +112,7 @@ spelt_rows s r rows p =
     let b = line_sizes s r _ _ _ _ p.line in
     p.rows_said ∙ (λ i. table_of (shifted r.chromStart (a i)) (sums_from 0 (b i)) (b i))
 
-pub spelt_of : (s : List ℕ) (r : Bed) → bed_check s ≡ Accepted r → BedSpells s r (bed_rows s r)
+pub spelt_of : (s : List ℕ) (r : Bed) → bed_check s ≡ Ok r → BedSpells s r (bed_rows s r)
 unfolding bed_targets bed_queries
 spelt_of s r ok = record { values = _; lists = _; starts = _; sizes = _; line = line_of_lem s r ok; rows_said = refl }
 

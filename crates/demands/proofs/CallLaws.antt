@@ -13,18 +13,13 @@ use Rattle.ledger.specs.declared.Reason.TheVariants.{NoRoom, NoPair}
 use Rattle.ledger.specs.declared.Refusal.{Refusal}
 use Rattle.ledger.specs.Limits.{largest_number}
 use Rattle.ledger.specs.Reasons.{reason_number}
-use Rattle.text.specs.declared.Check.TheVariants as check
 use Rattle.ledger.specs.Refusals.{require}
 use Rattle.text.specs.Checks.{refused}
 use Rattle.numbers.specs.Ranges.{Between, between_none, between_more}
 use Rattle.chain.specs.declared.Chain.{Chain}
-use Rattle.chain.specs.declared.ChainAnswer.{ChainAnswer}
-use Rattle.chain.specs.declared.ChainAnswer.TheVariants as chain
 use Rattle.chain.specs.Records.{chain_rows}
 use Rattle.chain.specs.Read.{chain_check}
 use Rattle.region.specs.declared.Region.{Region}
-use Rattle.region.specs.declared.RegionAnswer.{RegionAnswer}
-use Rattle.region.specs.declared.RegionAnswer.TheVariants as region
 use Rattle.region.specs.declared.Tally.{Tally}
 use Rattle.region.specs.Tallies.{tally_step, Sent, zero_tally, sent_through}
 use Rattle.region.specs.Batches.{sent_as, sent_if, region_size, regions_in, rows_bytes, room_in_bytes, sent_bytes, sent_text, text_batch_check}
@@ -45,6 +40,7 @@ use Rattle.demands.specs.Desk.{TallyCode}
 use Rattle.demands.specs.Calls.{EntryCall, single, many, text_of, sent_with, Called, called_none, called_single, called_many, Sends, sends_none, sends_chain, sends_other, Batches}
 use Rattle.demands.proofs.RefusalLaws.{tally_at, lifted_step}
 use Rattle.demands.proofs.ChainDemand2.{spelt_check, spelt_rows, spelt_of}
+use Rattle.std.specs.Prelude.{Ok, Err, Result}
 
 -- a tally of three 8-byte numbers is read back from its bytes, and a good one is such
 module _ (t : Tally) (rest : List ℕ) where
@@ -81,9 +77,9 @@ module _ (t u : Tally) (rest b' : List ℕ) (a : ℕ) where
       let e : length (tally_bytes u) ≡ length (tally_bytes t) = three u rest ∙ sym (three t rest) in
       h ∙ ap (λ (l : List ℕ). tally_bytes u ++ l) (ap (λ (n : ℕ). drop n (tally_bytes t ++ rest)) e ∙ past t rest)
 
-  left_bytes : (x : RegionAnswer) → ((y : Refusal) → x ≡ region.Refused y → (y.reason ≡ NoPair → ⊥) → u ≡ t) → Answered (of_tallied x u) (tally_bytes t ++ rest) b' a → b' ≡ tally_bytes u ++ rest
-  left_bytes (region.Lifted x) f h = new_bytes h.left
-  left_bytes (region.Refused y) f h = go (eqb (reason_number y.reason) (reason_number NoPair)) refl h
+  left_bytes : (x : Result Region Refusal) → ((y : Refusal) → x ≡ Err y → (y.reason ≡ NoPair → ⊥) → u ≡ t) → Answered (of_tallied x u) (tally_bytes t ++ rest) b' a → b' ≡ tally_bytes u ++ rest
+  left_bytes (Ok x) f h = new_bytes h.left
+  left_bytes (Err y) f h = go (eqb (reason_number y.reason) (reason_number NoPair)) refl h
     where
       go : (v : Bool) → eqb (reason_number y.reason) (reason_number NoPair) ≡ v
           → Answered (cond v (record { answer = refusal_code y; bytes = tally_bytes u }) (refuses y)) (tally_bytes t ++ rest) b' a → b' ≡ tally_bytes u ++ rest
@@ -105,16 +101,16 @@ module _ (t : Tally) (g : Between 0 largest_number (t.asked ∷ t.kept ∷ t.dro
   unfolding tallied
   other_left f = go (chain_check s) refl h
     where
-      go : (x : ChainAnswer) → chain_check s ≡ x
+      go : (x : Result Chain Refusal) → chain_check s ≡ x
           → Answered (of_chain x (λ c. tally_outcome (tally_step (tally_in (tally_bytes t ++ rest)) c (chain_rows s c) start end))) (tally_bytes t ++ rest) b' a → b' ≡ tally_bytes t ++ rest
-      go (chain.Accepted c) e w = absurd (f c (chain_rows s c) (spelt_of s c e))
-      go (chain.Refused y) e w = w.left
+      go (Ok c) e w = absurd (f c (chain_rows s c) (spelt_of s c e))
+      go (Err y) e w = w.left
 
 -- its answer: the kept bases, or the refusal
-tally_code : (x : RegionAnswer) (u : Tally) (b b' : List ℕ) (a : ℕ) → ((r : Region) → x ≡ region.Lifted r → r.kept ≤ most_told) → ((y : Refusal) → x ≡ region.Refused y → y.place ≡ 0) → Answered (of_tallied x u) b b' a
+tally_code : (x : Result Region Refusal) (u : Tally) (b b' : List ℕ) (a : ℕ) → ((r : Region) → x ≡ Ok r → r.kept ≤ most_told) → ((y : Refusal) → x ≡ Err y → y.place ≡ 0) → Answered (of_tallied x u) b b' a
     → TallyCode x a
-tally_code (region.Lifted r) u b b' a f g h = h.is ∙ sym (told_itself r.kept (f r refl))
-tally_code (region.Refused y) u b b' a f g h = go (eqb (reason_number y.reason) (reason_number NoPair)) h
+tally_code (Ok r) u b b' a f g h = h.is ∙ sym (told_itself r.kept (f r refl))
+tally_code (Err y) u b b' a f g h = go (eqb (reason_number y.reason) (reason_number NoPair)) h
   where
     coded : a ≡ refusal_code y → a ≡ 16 * y.place + reason_number y.reason
     coded e = e ∙ ap (λ (n : ℕ). n + reason_number y.reason) (sym (told_itself y.place (omega (arith, g y refl))))
@@ -124,13 +120,13 @@ tally_code (region.Refused y) u b b' a f g h = go (eqb (reason_number y.reason) 
     go false k = coded k.is
 
 -- kept bases are told as they are
-kept_told : (t : Tally) (c : Chain) (rows : List Row) (a e : ℕ) (r : Region) → (tally_step t c rows a e).answer ≡ region.Lifted r → r.kept ≤ most_told
+kept_told : (t : Tally) (c : Chain) (rows : List Row) (a e : ℕ) (r : Region) → (tally_step t c rows a e).answer ≡ Ok r → r.kept ≤ most_told
 kept_told t c rows a e r h =
     let l = lifted_step t c rows a e r h in
     let w = region_lifted_lem c rows a e r l in
     omega (arith, lifted_length c rows a e r l, (accepted_rules c rows w.ok).t_most, w.last)
 
-pub tally_told : (s : List ℕ) (c : Chain) (rows : List Row) → ChainSpells s c rows → (t u : Tally) (start end : ℕ) (x : RegionAnswer) → RegionTallied t c rows start end u x
+pub tally_told : (s : List ℕ) (c : Chain) (rows : List Row) → ChainSpells s c rows → (t u : Tally) (start end : ℕ) (x : Result Region Refusal) → RegionTallied t c rows start end u x
     → Between 0 largest_number (t.asked ∷ t.kept ∷ t.dropped ∷ []) → (rest b' : List ℕ) (a : ℕ) → Answered (tallied s start end (tally_bytes t ++ rest)) (tally_bytes t ++ rest) b' a
     → TallyCode x a × (b' ≡ tally_bytes u ++ rest)
 tally_told s c rows p t u start end x w g rest b' a h =
@@ -152,7 +148,7 @@ module _ (s : List ℕ) (c : Chain) (rows : List Row) (p : ChainSpells s c rows)
   unfolding sent_text
   text_sends = rw (spelt_check s c rows p, ← spelt_rows s c rows p)
 
-  pub text_checks : text_batch_check s regions room ≡ require (room_in_bytes regions room) (refused NoRoom) check.Holds
+  pub text_checks : text_batch_check s regions room ≡ require (room_in_bytes regions room) (refused NoRoom) (Ok tt)
   unfolding text_batch_check
   text_checks = rw (spelt_check s c rows p)
 
@@ -161,7 +157,7 @@ module _ (s : List ℕ) (c : Chain) (rows : List Row) (p : ChainSpells s c rows)
   unfolding tally_after sent_bytes sent_through
   many_left t g rest b' h = (rw (text_checks, text_sends, tally_back t rest g) at h) ∙ go (room_in_bytes regions room)
     where
-      go : (v : Bool) → on_check (require v (refused NoRoom) check.Holds) (λ _. tally_bytes t ++ rest) (tally_kept (sent_through t (sent_if v (map (sent_as c rows) (regions_in regions)))) (tally_bytes t ++ rest))
+      go : (v : Bool) → on_check (require v (refused NoRoom) (Ok tt)) (λ _. tally_bytes t ++ rest) (tally_kept (sent_through t (sent_if v (map (sent_as c rows) (regions_in regions)))) (tally_bytes t ++ rest))
           ≡ tally_bytes (sent_through t (sent_if v (map (sent_as c rows) (regions_in regions)))) ++ rest
       go true = kept_front t (sent_through t (map (sent_as c rows) (regions_in regions))) rest
       go false = refl
@@ -170,22 +166,22 @@ many_other : (s regions lent : List ℕ) (room : ℕ) → ((c : Chain) (rows : L
 unfolding tally_after text_batch_check
 many_other s regions lent room f = go (chain_check s) refl (room_in_bytes regions room)
   where
-    go : (x : ChainAnswer) → chain_check s ≡ x → (v : Bool)
-        → on_check (require v (refused NoRoom) (of_checked check.Refused (λ _. check.Holds) x)) (λ _. lent) (tally_kept (sent_through (tally_in lent) (sent_text s regions room)) lent) ≡ lent
-    go (chain.Accepted c) e v = absurd (f c (chain_rows s c) (spelt_of s c e))
-    go (chain.Refused y) e true = refl
-    go (chain.Refused y) e false = refl
+    go : (x : Result Chain Refusal) → chain_check s ≡ x → (v : Bool)
+        → on_check (require v (refused NoRoom) (of_checked Err (λ _. (Ok tt)) x)) (λ _. lent) (tally_kept (sent_through (tally_in lent) (sent_text s regions room)) lent) ≡ lent
+    go (Ok c) e v = absurd (f c (chain_rows s c) (spelt_of s c e))
+    go (Err y) e true = refl
+    go (Err y) e false = refl
 
 -- with room for its rows, a batch tells those of `lift_batch`
 module _ (s : List ℕ) (c : Chain) (rows : List Row) (p : ChainSpells s c rows) (regions : List ℕ) (room : ℕ) (fits : room_in_bytes regions room ≡ true) where
-  pub check_holds : text_batch_check s regions room ≡ check.Holds
+  pub check_holds : text_batch_check s regions room ≡ (Ok tt)
   check_holds = rw fits at (text_checks s c rows p regions room)
 
   pub sends_all : sent_text s regions room ≡ map (sent_as c rows) (regions_in regions)
   unfolding sent_bytes
   sends_all = rw fits at (text_sends s c rows p regions room)
 
-  pub batch_given : (t u : Tally) (lentRows leftRows : List (List ℕ)) → BatchLifted t c rows (regions_in regions) lentRows u leftRows check.Holds → length lentRows ≡ length (regions_in regions)
+  pub batch_given : (t u : Tally) (lentRows leftRows : List (List ℕ)) → BatchLifted t c rows (regions_in regions) lentRows u leftRows (Ok tt) → length lentRows ≡ length (regions_in regions)
       → Between 0 largest_number (t.asked ∷ t.kept ∷ t.dropped ∷ []) → (rest : List ℕ) → batch_lifted s regions (tally_bytes t ++ rest) room ≡ gives (length (regions_in regions)) (rows_bytes leftRows)
   unfolding batch_lifted
   batch_given t u lentRows leftRows d e g rest =
@@ -193,7 +189,7 @@ module _ (s : List ℕ) (c : Chain) (rows : List Row) (p : ChainSpells s c rows)
       let full = batch_full t c rows (regions_in regions) lentRows leftRows _ d e in
       rw (check_holds, sends_all, tally_back t rest g, full, n)
 
-  pub batch_kept : (t u : Tally) (lentRows leftRows : List (List ℕ)) → BatchLifted t c rows (regions_in regions) lentRows u leftRows check.Holds → length lentRows ≡ length (regions_in regions)
+  pub batch_kept : (t u : Tally) (lentRows leftRows : List (List ℕ)) → BatchLifted t c rows (regions_in regions) lentRows u leftRows (Ok tt) → length lentRows ≡ length (regions_in regions)
       → Between 0 largest_number (t.asked ∷ t.kept ∷ t.dropped ∷ []) → (rest : List ℕ) → tally_after s regions (tally_bytes t ++ rest) room ≡ tally_bytes u ++ rest
   unfolding tally_after
   batch_kept t u lentRows leftRows d e g rest =
@@ -227,9 +223,9 @@ sends : (ks : List EntryCall) → (rs : List Sent) × Sends ks rs
 sends [] = ([], sends_none)
 sends (k ∷ ks) = go (chain_check (text_of k)) refl (sends ks)
   where
-    go : (x : ChainAnswer) → chain_check (text_of k) ≡ x → (rs : List Sent) × Sends ks rs → (rs : List Sent) × Sends (k ∷ ks) rs
-    go (chain.Accepted c) e w = (sent_with k c (chain_rows (text_of k) c) ++ w.0, sends_chain (spelt_of (text_of k) c e) w.1)
-    go (chain.Refused y) e w = (w.0, sends_other {k = k} (λ c rows p. let z = sym (spelt_check (text_of k) c rows p) ∙ e in let o : ◌≡◌ {A = ℕ} 0 1 = cc in omega arith) w.1)
+    go : (x : Result Chain Refusal) → chain_check (text_of k) ≡ x → (rs : List Sent) × Sends ks rs → (rs : List Sent) × Sends (k ∷ ks) rs
+    go (Ok c) e w = (sent_with k c (chain_rows (text_of k) c) ++ w.0, sends_chain (spelt_of (text_of k) c e) w.1)
+    go (Err y) e w = (w.0, sends_other {k = k} (λ c rows p. let z = sym (spelt_check (text_of k) c rows p) ∙ e in let o : ◌≡◌ {A = ℕ} 0 1 = cc in omega arith) w.1)
 
 -- DEMAND 3 OF THE TALLY IN LENT BYTES
 pub batches : Batches

@@ -6,7 +6,6 @@ use Prim.Native.Nat.{ℕ, ◌≤◌}
 use lib.ListN.{length, take, drop}
 use Rattle.ledger.specs.declared.Row.{Row}
 use Rattle.ledger.specs.Limits.{text_limit}
-use Rattle.text.specs.declared.Check.TheVariants.{Holds}
 use Rattle.text.specs.declared.Class.TheVariants.{Graphic}
 use Rattle.text.specs.Words.{next_line}
 use Rattle.text.specs.Pieces.{lines_of}
@@ -18,7 +17,6 @@ use Rattle.writing.specs.Answers.{room_answer}
 use Rattle.blocks.specs.Blocks.{count_fits, rows_of, row_numbers_fit}
 use Rattle.blocks.specs.Rows.{table_of, targets_of, queries_of, sizes_of}
 use Rattle.chain.specs.declared.Chain.{Chain}
-use Rattle.chain.specs.declared.ChainAnswer.TheVariants.{Accepted}
 use Rattle.chain.specs.Records.{chain_targets, chain_queries, chain_sizes, chain_rows}
 use Rattle.chain.specs.Read.{chain_read, chain_check}
 use Rattle.chain.specs.Table.{chain_columns}
@@ -42,6 +40,7 @@ use Rattle.demands.proofs.FormatLaws.{Shown, demand2_of}
 use Rattle.demands.proofs.FormatLaws as demands
 use Rattle.demands.proofs.LengthLaws.{chain_short}
 use Rattle.columns.proofs.WordLaws.{graphic_all}
+use Rattle.std.specs.Prelude.{Ok}
 
 -- the test of a record sees only the lengths of its names
 pub valid_named : (r : Chain) (ns : Names) (ts qs zs : List ℕ) → length ns.first ≡ r.tName.length → length ns.second ≡ r.qName.length → chain_valid r ts qs zs ≡ true → chain_valid (named r ns.first ns.second) ts qs zs ≡ true
@@ -49,7 +48,7 @@ unfolding chain_valid fields_fit spans_fit rows_fit
 valid_named r ns ts qs zs e f h = rw (e, f) h
 
 -- a valid record passes the writer's checks
-passes : (r : Chain) (ns : Names) (ts qs zs : List ℕ) → ChainRules (named r ns.first ns.second) ts qs zs → All Graphic ns.first → All Graphic ns.second → write_check r ns.first ns.second ts qs zs ≡ Holds
+passes : (r : Chain) (ns : Names) (ts qs zs : List ℕ) → ChainRules (named r ns.first ns.second) ts qs zs → All Graphic ns.first → All Graphic ns.second → write_check r ns.first ns.second ts qs zs ≡ (Ok tt)
 unfolding write_check names_show chain_valid fields_fit spans_fit rows_fit
 passes r ns ts qs zs k c d =
     let n = r.blockCount in
@@ -63,7 +62,7 @@ passes r ns ts qs zs k c d =
     rw (count.0, names.0, graphic_all ns.first c, graphic_all ns.second d, strand.0, fields.0, numbers.0, spans.0, spans.1)
 
 -- ---- an accepted text: its names, and its rows
-module _ (s : List ℕ) (r : Chain) (ok : chain_check s ≡ Accepted r) where
+module _ (s : List ℕ) (r : Chain) (ok : chain_check s ≡ Ok r) where
   said : ChainText s (firsts (values_from chain_columns 0 s 0)) (lines_of (drop (next_line s 0) s)) r (chain_targets s r) (chain_queries s r) (chain_sizes s r)
   said = text_of_lem s r ok
 
@@ -77,7 +76,7 @@ module _ (s : List ℕ) (r : Chain) (ok : chain_check s ≡ Accepted r) where
   names_valid ts qs zs v = valid_named r (chain_names s r) ts qs zs target_shows.1 query_shows.1 v
 
 -- and the table that it left
-left : (s : List ℕ) (before after : List Row) (r : Chain) → RowsRead s before after (Accepted r) → ChainValid r (chain_names s r) after
+left : (s : List ℕ) (before after : List Row) (r : Chain) → RowsRead s before after (Ok r) → ChainValid r (chain_names s r) after
 unfolding record_check
 left s before after r h =
     let ok = (read_of (chain_reads s) (length before) r (sym h.is)).0 in
@@ -101,7 +100,7 @@ module _ (r : Chain) (ns : Names) (table : List Row) (ok : ChainValid r ns table
   abbrev text : List ℕ
   text = chain_text r ns.first ns.second ts qs zs
 
-  may : write_check r ns.first ns.second ts qs zs ≡ Holds
+  may : write_check r ns.first ns.second ts qs zs ≡ (Ok tt)
   may = passes r ns ts qs zs ok.rules ok.target_shows ok.query_shows
 
   pub short : length text ≤ text_limit
@@ -122,7 +121,7 @@ module _ (r : Chain) (ns : Names) (table : List Row) (ok : ChainValid r ns table
       λ i. record { first = a i; second = b i }
 
 -- what a text spells is what its checker accepts, with the rows of its block lines
-pub spelt_check : (s : List ℕ) (r : Chain) (rows : List Row) → ChainSpells s r rows → chain_check s ≡ Accepted r
+pub spelt_check : (s : List ℕ) (r : Chain) (rows : List Row) → ChainSpells s r rows → chain_check s ≡ Ok r
 spelt_check s r rows p = text_is s _ _ r _ _ _ p.text
 
 pub spelt_rows : (s : List ℕ) (r : Chain) (rows : List Row) → ChainSpells s r rows → rows ≡ chain_rows s r
@@ -132,7 +131,7 @@ spelt_rows s r rows p =
     let c = text_sizes s _ _ r _ _ _ p.text in
     p.rows_said ∙ (λ i. table_of (a i) (b i) (c i))
 
-pub spelt_of : (s : List ℕ) (r : Chain) → chain_check s ≡ Accepted r → ChainSpells s r (chain_rows s r)
+pub spelt_of : (s : List ℕ) (r : Chain) → chain_check s ≡ Ok r → ChainSpells s r (chain_rows s r)
 spelt_of s r ok = record { values = _; block_lines = _; targets = _; queries = _; sizes = _; text = text_of_lem s r ok; rows_said = refl }
 
 -- its names are its words

@@ -22,7 +22,6 @@ use Rattle.chain.specs.Tests.{names_fit, fields_fit, spans_fit, rows_fit, chain_
 use Rattle.chain.specs.Write.{head_words, gap_words, block_text, chain_text}
 use Rattle.text.specs.Pieces.{joined}
 use Rattle.writing.specs.Digits.{digits_in, digits}
-use Rattle.chain.specs.declared.ChainAnswer.TheVariants as chain
 use Rattle.lift.specs.Accepted.{accepted}
 use Rattle.lift.specs.Pairs.{block_pairs, pairs_of, pairs, partner_of}
 use Rattle.lift.specs.Positions.{lift_position}
@@ -30,9 +29,10 @@ use Rattle.region.specs.Regions.{count_of, kept, dropped, partners_in, least, bo
 use Rattle.turn.specs.Turns.{turned_rows, turned, turn}
 use Rattle.demands.specs.Samples.{position_of, region_of, turned_text, read_chain, Outcome, lifted, lifted_region, bytes, refused, answer_to, chain_a, chain_turned, chain_long}
 use Rattle.demands.specs.Samples as samples
+use Rattle.std.specs.Prelude.{Ok}
 
 -- what the reader makes of chain A
-read_a : chain_read chain_a block_limit ≡ chain.Accepted recordA
+read_a : chain_read chain_a block_limit ≡ Ok recordA
 unfolding run end_of pieces_of lines_of non_empty words_of line_of line_end next_line next_word word_at word_count bytes_of text_check last_line_check well_spelt value_from value number_of same_bytes name_of strand_of fixed_of spelt field_from columns_from values_from chain_columns block_columns chain_record line_values words_check count_check span_check block_words block_numbers block_line lines_from fill_check after_last after_lines after_spans after_columns after_words after_text chain_check chain_stages chain_roomed chain_read
 read_a = refl
 

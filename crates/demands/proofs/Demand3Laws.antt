@@ -11,18 +11,13 @@ use borrow.Author.Tests.{lt-leb, le-leb}
 use Rattle.ledger.specs.Refusals.{without_text}
 use Rattle.ledger.specs.declared.Row.{Row}
 use Rattle.ledger.specs.declared.Reason.TheVariants.{NoRoom}
-use Rattle.text.specs.declared.Check.{Check}
-use Rattle.text.specs.declared.Check.TheVariants as check
 use Rattle.chain.specs.declared.Chain.{Chain}
-use Rattle.chain.specs.declared.ChainAnswer.TheVariants.{Accepted}
 use Rattle.chain.specs.Records.{chain_targets, chain_queries, chain_sizes, chain_rows}
 use Rattle.chain.specs.Write.{record_check}
 use Rattle.chain_laws.proofs.ValidLaws.{accepted_valid}
 use Rattle.table_chain.specs.Rows.{RowsRead}
 use Rattle.table_chain.proofs.RowLaws.{chain_reads}
 use Rattle.table_chain.proofs.TableLaws.{left_valid}
-use Rattle.lift.specs.declared.Partner.{Partner}
-use Rattle.lift.specs.declared.Partner.TheVariants.{Base, Alone}
 use Rattle.lift.specs.Accepted.{used, accepted}
 use Rattle.lift.specs.Pairs.{pairs, partner_of, is_partner, stands}
 use Rattle.lift.proofs.RunLaws.{either}
@@ -32,15 +27,12 @@ use Rattle.lift.proofs.ConversionLaws.{converts_twice}
 use Rattle.lift.proofs.PairLaws.{found_mem}
 use Rattle.lift.proofs.PositionLaws.{lifts_exactly, one_partner, pair_found, pair_inside}
 use Rattle.region.specs.declared.Region.{Region}
-use Rattle.region.specs.declared.RegionAnswer.TheVariants as region
 use Rattle.region.specs.Regions.{lift_region}
 use Rattle.region.specs.declared.Tally.{Tally}
 use Rattle.region.specs.Tallies.{tally_step}
 use Rattle.region.specs.Batches.{answer_row, sent_as, batch_check}
 use Rattle.region.proofs.BatchLaws.{batch_row, batch_rest, batch_many, batch_tally, batch_left}
 use Rattle.region.proofs.RegionLaws.{region_lifted_lem, lifted_length, region_inside, region_holds, region_smallest}
-use Rattle.turn.specs.declared.TurnAnswer.{TurnAnswer}
-use Rattle.turn.specs.declared.TurnAnswer.TheVariants.{Turned}
 use Rattle.turn.specs.Turns.{turned, turned_rows}
 use Rattle.turn.proofs.TurnLaws.{turns, Turning, turning}
 use Rattle.table_turn.specs.Turns.{table_after}
@@ -52,17 +44,19 @@ use Rattle.demands.specs.Demand3.{InPair, Turns, RegionCounts, BatchRows, Demand
 use Rattle.demands.proofs.RowLaws.{read_count, front_rows, holds_if}
 use Rattle.demands.proofs.RefusalLaws.{position_refused, region_refused, turn_refused, tally_refused}
 use Rattle.demands.proofs.ChainDemand2.{spelt_check, spelt_rows}
+use Rattle.std.specs.Prelude.{Ok, Err, Some, None, Result, Option, ⊤}
+use Rattle.ledger.specs.declared.Refusal.{Refusal}
 
 -- ---- the chains that demand 2 accepts
 pub spelled_accepted : (s : List ℕ) (c : Chain) (rows : List Row) → ChainSpells s c rows → accepted c rows ≡ true
 spelled_accepted s c rows p =
     rw (spelt_rows s c rows p) (sym (table_accepted c (chain_targets s c) (chain_queries s c) (chain_sizes s c)) ∙ accepted_valid s c (spelt_check s c rows p))
 
-read_accepted : (s : List ℕ) (before after : List Row) (c : Chain) → RowsRead s before after (Accepted c) → accepted c after ≡ true
+read_accepted : (s : List ℕ) (before after : List Row) (c : Chain) → RowsRead s before after (Ok c) → accepted c after ≡ true
 unfolding accepted record_check
 read_accepted s before after c h = holds_if _ (left_valid s c before after h)
 
-read_used : (s : List ℕ) (before after : List Row) (c : Chain) (rows : List Row) → RowsRead s before after (Accepted c) → ChainSpells s c rows → used c after ≡ rows
+read_used : (s : List ℕ) (before after : List Row) (c : Chain) (rows : List Row) → RowsRead s before after (Ok c) → ChainSpells s c rows → used c after ≡ rows
 read_used s before after c rows h p =
     let n = read_count (chain_reads s) c (spelt_check s c rows p) in
     let e : c.blockCount ≡ length rows = sym (ap length (spelt_rows s c rows p) ∙ n) in
@@ -73,9 +67,9 @@ read_used s before after c rows h p =
 stands_exactly : (c : Chain) (rows : List Row) → accepted c rows ≡ true → (p : ℕ) → (stands p (pairs c rows) ≡ true) ↔ ((q : ℕ) × InPair c rows p q)
 stands_exactly c rows ok p = (go (partner_of p (pairs c rows)) refl, λ w. ap is_partner (pair_found c rows ok p w.0 w.1))
   where
-    go : (x : Partner) → partner_of p (pairs c rows) ≡ x → is_partner (partner_of p (pairs c rows)) ≡ true → (q : ℕ) × InPair c rows p q
-    go Alone e h = absurd (let w : ◌≡◌ {A = Bool} false true = rw e at h in let z : ◌≡◌ {A = ℕ} 0 1 = cc in omega arith)
-    go (Base q) e h = (q, found_mem p q (pairs c rows) e)
+    go : (x : Option ℕ) → partner_of p (pairs c rows) ≡ x → is_partner (partner_of p (pairs c rows)) ≡ true → (q : ℕ) × InPair c rows p q
+    go None e h = absurd (let w : ◌≡◌ {A = Bool} false true = rw e at h in let z : ◌≡◌ {A = ℕ} 0 1 = cc in omega arith)
+    go (Some q) e h = (q, found_mem p q (pairs c rows) e)
 
 turned_count : (c : Chain) → (turned c).blockCount ≡ c.blockCount
 unfolding turned
@@ -94,11 +88,11 @@ turns_of c rows d rows' t =
       target_converted = t.target_converted;
       lifts_back = λ p q e. t.lifts_back p q _ e;
       restored = λ lent left x k room.
-          let e : x ≡ Turned c = k.is ∙ turns d rows' (length lent) t.is_accepted (rw count room) ∙ ap Turned t.restored in
-          (e, k.table ∙ ap (λ (y : TurnAnswer). table_after y (turned_rows d rows') lent) e ∙ ap (λ (l : List Row). l ++ drop c.blockCount lent) t.restored_rows);
+          let e : x ≡ Ok c = k.is ∙ turns d rows' (length lent) t.is_accepted (rw count room) ∙ ap Ok t.restored in
+          (e, k.table ∙ ap (λ (y : Result Chain Refusal). table_after y (turned_rows d rows') lent) e ∙ ap (λ (l : List Row). l ++ drop c.blockCount lent) t.restored_rows);
     }
 
-region_counts : (c : Chain) (rows : List Row) (a e : ℕ) (r : Region) → lift_region c rows a e ≡ region.Lifted r → RegionCounts c rows a e r
+region_counts : (c : Chain) (rows : List Row) (a e : ℕ) (r : Region) → lift_region c rows a e ≡ Ok r → RegionCounts c rows a e r
 region_counts c rows a e r h =
     let w = region_lifted_lem c rows a e r h in
     record {
@@ -111,19 +105,19 @@ region_counts c rows a e r h =
     }
 
 -- a batch, by the single calls
-module _ (t u : Tally) (c : Chain) (rows : List Row) (regions before after : List (List ℕ)) (x : Check) (h : BatchLifted t c rows regions before u after x) where
-  refuses : length before < length regions → x ≡ check.Refused (without_text NoRoom)
+module _ (t u : Tally) (c : Chain) (rows : List Row) (regions before after : List (List ℕ)) (x : Result ⊤ Refusal) (h : BatchLifted t c rows regions before u after x) where
+  refuses : length before < length regions → x ≡ Err (without_text NoRoom)
   unfolding batch_check
   refuses k = rw (lt-leb (length regions) (length before) k) at h.check
 
-  holds : length regions ≤ length before → x ≡ check.Holds
+  holds : length regions ≤ length before → x ≡ (Ok tt)
   unfolding batch_check
   holds k = rw (le-leb (length regions) (length before) k) at h.check
 
-  eleven_if : x ≡ check.Refused (without_text NoRoom) → length before < length regions
+  eleven_if : x ≡ Err (without_text NoRoom) → length before < length regions
   eleven_if e = either (length regions) (length before) _ (λ k. absurd (let w = sym (holds k) ∙ e in let z : ◌≡◌ {A = ℕ} 0 1 = cc in omega arith)) (λ k. k)
 
-  holds_only : x ≡ check.Holds → length regions ≤ length before
+  holds_only : x ≡ (Ok tt) → length regions ≤ length before
   holds_only e = either (length regions) (length before) _ (λ k. k) (λ k. absurd (let w = sym (refuses k) ∙ e in let z : ◌≡◌ {A = ℕ} 0 1 = cc in omega arith))
 
   batch_rows : BatchRows t c rows regions before after u x

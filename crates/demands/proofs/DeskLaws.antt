@@ -30,26 +30,17 @@ use Rattle.psl.specs.declared.Psl.{Psl}
 use Rattle.psl.specs.Records.{psl_targets, psl_queries, psl_sizes}
 use Rattle.psl.specs.Write.{psl_text, psl_write}
 use Rattle.chain.specs.declared.Chain.{Chain}
-use Rattle.chain.specs.declared.ChainAnswer.TheVariants as chainAnswer
-use Rattle.text.specs.declared.Check.{Check}
-use Rattle.text.specs.declared.Check.TheVariants as checkAnswer
 use Rattle.text.specs.Checks.{refused}
 use Rattle.chain.specs.Read.{chain_check}
 use Rattle.chain.specs.Rules.{named}
 use Rattle.chain.specs.Write.{chain_text, chain_write}
 use Rattle.chain_laws.proofs.RuleLaws.{rules_of}
-use Rattle.number_line.specs.declared.NumbersAnswer.{NumbersAnswer}
-use Rattle.number_line.specs.declared.NumbersAnswer.TheVariants as numbersAnswer
 use Rattle.number_line.specs.Numbers.{largest_listed, numbers_in, numbers_check}
 use Rattle.number_line.specs.Rules.{NumbersText}
 use Rattle.number_line.proofs.LineLaws.{numbers_of, numbers_is}
-use Rattle.lift.specs.declared.PositionAnswer.{PositionAnswer}
-use Rattle.lift.specs.declared.PositionAnswer.TheVariants as position
 use Rattle.lift.specs.Accepted.{accepted}
 use Rattle.lift.specs.Positions.{lift_position}
 use Rattle.lift.proofs.AcceptLaws.{accepted_rules}
-use Rattle.region.specs.declared.RegionAnswer.{RegionAnswer}
-use Rattle.region.specs.declared.RegionAnswer.TheVariants as region
 use Rattle.region.specs.Regions.{lift_region}
 use Rattle.turn.specs.Turns.{turned, turned_rows}
 use Rattle.turn.proofs.TurnLaws.{turns, counted_lem, turned_accepted}
@@ -80,6 +71,8 @@ use Rattle.demands.proofs.CallLaws.{tally_told, batch_given, batch_kept}
 use Rattle.region.specs.Batches.{answer_rows, region_size, regions_in, rows_bytes, room_in_bytes, sent_text, text_batch_check}
 use Rattle.region.proofs.ByteLaws.{regions_length}
 use Rattle.demands.proofs.Demand3Laws.{spelled_accepted}
+use Rattle.std.specs.Prelude.{Ok, Err, Result, ⊤, ℤ}
+use Rattle.region.specs.declared.Region.{Region}
 
 -- ---- outcomes, as an answer and the lent bytes
 module _ (b b' : List ℕ) (a : ℕ) where
@@ -314,9 +307,9 @@ numbers_only : (s b b' : List ℕ) (a : ℕ) → Answered (numbers_given s (leng
 unfolding numbers_given
 numbers_only s b b' a h z = go (numbers_check s) _ refl h.is
   where
-    go : (x : NumbersAnswer) (rest : Outcome) → numbers_check s ≡ x → a ≡ (of_numbers x rest).answer → SpellsNumbers s
-    go (numbersAnswer.Accepted n) rest e q = record { numbers = numbers_in s; spells = (numbers_of s n e).0 }
-    go (numbersAnswer.Refused x) rest e q = absurd (no_count x a q z)
+    go : (x : Result ℕ Refusal) (rest : Outcome) → numbers_check s ≡ x → a ≡ (of_numbers x rest).answer → SpellsNumbers s
+    go (Ok n) rest e q = record { numbers = numbers_in s; spells = (numbers_of s n e).0 }
+    go (Err x) rest e q = absurd (no_count x a q z)
 
 -- bytes at the front tell their numbers
 same_numbers : (vs ws x y : List ℕ) → Between 0 largest_number vs → Between 0 largest_number ws → length vs ≡ length ws → words_bytes vs ++ x ≡ words_bytes ws ++ y → vs ≡ ws
@@ -344,7 +337,7 @@ numbers_exactly s vs p b b' a h = (
   λ t. (numbers_told s vs t.0 b b' a h).enough (omega (arith, words_length vs, t.1)),
 )
 
-numbers_low : (s : List ℕ) (x : Refusal) → numbersAnswer.Refused x ≡ numbers_check s → x.place ≤ most_told
+numbers_low : (s : List ℕ) (x : Refusal) → Err x ≡ numbers_check s → x.place ≤ most_told
 numbers_low s x e =
     let q : x.place ≤ length s = rw (← e) at (numbers_in_lem s) in
     either (length s) text_limit _ (λ h. omega arith) (λ h. let z : x.place ≡ 0 = rw (← e) at (numbers_long s h) in omega arith)
@@ -360,20 +353,20 @@ numbers_calls = record {
 }
 
 -- ---- lifts and turns of a chain's text
-spelt_or : (s : List ℕ) (P : Type 0) → (SpellsOne chain s → P) → ((x : Refusal) → chain_check s ≡ chainAnswer.Refused x → P) → P
+spelt_or : (s : List ℕ) (P : Type 0) → (SpellsOne chain s → P) → ((x : Refusal) → chain_check s ≡ Err x → P) → P
 unfolding chain
 spelt_or s P f g = (chain_reads s).cases (chain_check s) P (λ r e. f (record { one = r; rows = _; spells = ofChain.spelt_of s r e })) g
 
-position_told : (y : PositionAnswer) (end : ℕ) (b b' : List ℕ) (a : ℕ) → end ≤ most_told → ((x : Refusal) → y ≡ position.Refused x → x.place ≡ 0) → Answered (of_position y end (length b)) b b' a → PositionTold y end b b' a
-position_told (position.Lifted q d) end b b' a h f k = numbers_given_lem b b' a end (q ∷ in_word d ∷ []) h (omega arith) k
-position_told (position.Refused x) end b b' a h f k = refused_by b b' a x (omega (arith, f x refl)) k
+position_told : (y : Result (ℕ × ℤ) Refusal) (end : ℕ) (b b' : List ℕ) (a : ℕ) → end ≤ most_told → ((x : Refusal) → y ≡ Err x → x.place ≡ 0) → Answered (of_position y end (length b)) b b' a → PositionTold y end b b' a
+position_told (Ok (q, d)) end b b' a h f k = numbers_given_lem b b' a end (q ∷ in_word d ∷ []) h (omega arith) k
+position_told (Err x) end b b' a h f k = refused_by b b' a x (omega (arith, f x refl)) k
 
-region_told : (y : RegionAnswer) (end : ℕ) (b b' : List ℕ) (a : ℕ) → end ≤ most_told → ((x : Refusal) → y ≡ region.Refused x → x.place ≡ 0) → Answered (of_region y end (length b)) b b' a → RegionTold y end b b' a
-region_told (region.Lifted r) end b b' a h f k = numbers_given_lem b b' a end (r.kept ∷ r.dropped ∷ r.start ∷ r.end ∷ []) h (omega arith) k
-region_told (region.Refused x) end b b' a h f k = refused_by b b' a x (omega (arith, f x refl)) k
+region_told : (y : Result Region Refusal) (end : ℕ) (b b' : List ℕ) (a : ℕ) → end ≤ most_told → ((x : Refusal) → y ≡ Err x → x.place ≡ 0) → Answered (of_region y end (length b)) b b' a → RegionTold y end b b' a
+region_told (Ok r) end b b' a h f k = numbers_given_lem b b' a end (r.kept ∷ r.dropped ∷ r.start ∷ r.end ∷ []) h (omega arith) k
+region_told (Err x) end b b' a h f k = refused_by b b' a x (omega (arith, f x refl)) k
 
 -- a batch
-check_none : (c : Check) (bytes lent : List ℕ) (n : ℕ) (x : Refusal) → c ≡ checkAnswer.Refused x → x.place ≤ most_told → (b b' lent' kept : List ℕ) (a : ℕ) → Answered (on_check c refuses (gives n bytes)) b b' a
+check_none : (c : Result ⊤ Refusal) (bytes lent : List ℕ) (n : ℕ) (x : Refusal) → c ≡ Err x → x.place ≤ most_told → (b b' lent' kept : List ℕ) (a : ℕ) → Answered (on_check c refuses (gives n bytes)) b b' a
     → lent' ≡ on_check c (λ _. lent) kept → RefusedBy x b b' a × (lent' ≡ lent)
 check_none c bytes lent n x e h b b' lent' kept a k l = (refused_by b b' a x h (rw e at k), rw e at l)
 
@@ -381,14 +374,14 @@ batch_only : (s regions lent lent' b b' : List ℕ) (a : ℕ) → BatchTold s re
 unfolding batch_lifted text_batch_check
 batch_only s regions lent lent' b b' a h z = spelt_or s _ (λ y. y) (λ x e. absurd (go (room_in_bytes regions (length b)) x (rw e at h.rows_told.is)))
   where
-    go : (v : Bool) (x : Refusal) → a ≡ (on_check (require v (refused NoRoom) (checkAnswer.Refused x)) refuses (gives (length regions / region_size) (rows_bytes (answer_rows (tally_in lent) (sent_text s regions (length b)))))).answer → ⊥
+    go : (v : Bool) (x : Refusal) → a ≡ (on_check (require v (refused NoRoom) (Err x)) refuses (gives (length regions / region_size) (rows_bytes (answer_rows (tally_in lent) (sent_text s regions (length b)))))).answer → ⊥
     go true x e = no_count x a e z
     go false x e = no_count (without_text NoRoom) a e z
 
 chain_calls : ChainsAtDesk
 unfolding chain position_lifted region_lifted turned_text tallied turned batch_lifted tally_after text_batch_check
 chain_calls =
-    let refused : (s : List ℕ) (x : Refusal) → Refuses chain s x → chain_check s ≡ chainAnswer.Refused x = λ s x w. refused_of (chain_reads s) (length w.before) x w.wide w.reads.is in
+    let refused : (s : List ℕ) (x : Refusal) → Refuses chain s x → chain_check s ≡ Err x = λ s x w. refused_of (chain_reads s) (length w.before) x w.wide w.reads.is in
     let low : (s : List ℕ) (x : Refusal) → Refuses chain s x → x.place ≤ most_told = λ s x w. omega (arith, chain_entries.low_place s x w) in
     record {
       positions = λ s c rows p q b b' a h.

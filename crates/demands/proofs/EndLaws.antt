@@ -15,54 +15,37 @@ use Rattle.ledger.specs.declared.Refusal.{Refusal}
 use Rattle.ledger.specs.Limits.{block_limit, text_limit, tally_limit, in_coordinates}
 use Rattle.ledger.specs.Reasons.{reason_number}
 use Rattle.ledger.specs.Strands.{is_told}
-use Rattle.text.specs.declared.Check.{Check}
-use Rattle.text.specs.declared.Check.TheVariants.{Holds}
-use Rattle.text.specs.declared.Check.TheVariants as check
 use Rattle.text.specs.Checks.{refused}
-use Rattle.writing.specs.declared.Writing.TheVariants as writing
 use Rattle.writing.specs.Answers.{room_answer}
 use Rattle.writing.specs.Answers as answers
 use Rattle.columns.specs.Lines.{then_write}
 use Rattle.blocks.specs.Blocks.{count_fits, rows_of, row_numbers_fit}
 use Rattle.bed.specs.declared.Bed.{Bed}
-use Rattle.bed.specs.declared.BedAnswer.{BedAnswer}
-use Rattle.bed.specs.declared.BedAnswer.TheVariants as bedAnswer
 use Rattle.bed.specs.Read.{bed_check}
 use Rattle.bed.specs.Tests as bedTests
 use Rattle.bed.specs.Write as bed
 use Rattle.psl.specs.declared.Psl.{Psl}
-use Rattle.psl.specs.declared.PslAnswer.{PslAnswer}
-use Rattle.psl.specs.declared.PslAnswer.TheVariants as pslAnswer
 use Rattle.psl.specs.Read.{psl_check}
 use Rattle.psl.specs.Rows.{rows_fit, counts_fit}
 use Rattle.psl.specs.Tests as pslTests
 use Rattle.psl.specs.Write as psl
 use Rattle.chain.specs.declared.Chain.{Chain}
-use Rattle.chain.specs.declared.ChainAnswer.{ChainAnswer}
-use Rattle.chain.specs.declared.ChainAnswer.TheVariants as chainAnswer
 use Rattle.chain.specs.Records.{chain_rows}
 use Rattle.chain.specs.Read.{chain_check}
 use Rattle.chain.specs.Tests as chainTests
 use Rattle.chain.specs.Write as chain
-use Rattle.number_line.specs.declared.NumbersAnswer.{NumbersAnswer}
-use Rattle.number_line.specs.declared.NumbersAnswer.TheVariants as numbersAnswer
 use Rattle.number_line.specs.Numbers.{numbers_in, numbers_check}
-use Rattle.lift.specs.declared.Partner.{Partner}
-use Rattle.lift.specs.declared.Partner.TheVariants.{Base, Alone}
 use Rattle.lift.specs.Accepted.{accepted}
 use Rattle.lift.specs.Conversion.{not_converted, other_strand, converted}
-use Rattle.lift.specs.declared.SpanAnswer.TheVariants as span
 use Rattle.lift.specs.Pairs.{pairs, partner_of}
 use Rattle.lift.specs.Positions as positions
 use Rattle.region.specs.declared.Region.{Region}
-use Rattle.region.specs.declared.RegionAnswer.TheVariants as region
 use Rattle.region.specs.declared.Tally.{Tally}
 use Rattle.region.specs.declared.Tallied.{Tallied}
 use Rattle.region.specs.Regions as regions
 use Rattle.region.specs.Tallies as tallies
 use Rattle.region.specs.Batches.{answer_rows, region_size, rows_bytes, room_in_bytes, sent_text, text_batch_check}
 use Rattle.lift.specs.Texts.{of_checked}
-use Rattle.turn.specs.declared.TurnAnswer.TheVariants.{Turned}
 use Rattle.turn.specs.Turns as turns
 use Rattle.binary.specs.Bytes.{words_bytes}
 use Rattle.answers.specs.Answers.{most_told, told, Outcome, gives, refuses, refusal_code, Answered, roomed, numbered, recorded, no_room_at}
@@ -70,6 +53,7 @@ use Rattle.entries.specs.Entries.{by_kind, of_bed, of_psl, of_chain, of_numbers,
 use Rattle.demands.specs.Demand1.{Ended, with_count, with_place}
 use Rattle.demands.proofs.PlaceLaws.{place_of_lem, demanded}
 use Rattle.demands.proofs.TextPlaceLaws.{bed_place, bed_in, psl_place, psl_in, numbers_place, numbers_in_lem, chain_place, chain_in}
+use Rattle.std.specs.Prelude.{Ok, Err, Some, None, Result, Option, ⊤}
 
 -- an outcome that ends so
 abbrev Ends : ℕ → Outcome → Type 0
@@ -97,43 +81,43 @@ kind_ends end kind x y z p q r =
     pick_ends end (eqb kind 1) x _ p (pick_ends end (eqb kind 2) y _ q (pick_ends end (eqb kind 3) z _ r (code_ends end (without_text BadWord) zero-le)))
 
 -- a text of a format
-bed_ends : (end : ℕ) (a : BedAnswer) (rest : Bed → Outcome) → bed_place a ≤ end → ((r : Bed) → Ends end (rest r)) → Ends end (of_bed a rest)
-bed_ends end (bedAnswer.Accepted r) rest h f = f r
-bed_ends end (bedAnswer.Refused x) rest h f = code_ends end x h
+bed_ends : (end : ℕ) (a : Result Bed Refusal) (rest : Bed → Outcome) → bed_place a ≤ end → ((r : Bed) → Ends end (rest r)) → Ends end (of_bed a rest)
+bed_ends end (Ok r) rest h f = f r
+bed_ends end (Err x) rest h f = code_ends end x h
 
-psl_ends : (end : ℕ) (a : PslAnswer) (rest : Psl → Outcome) → psl_place a ≤ end → ((r : Psl) → Ends end (rest r)) → Ends end (of_psl a rest)
-psl_ends end (pslAnswer.Accepted r) rest h f = f r
-psl_ends end (pslAnswer.Refused x) rest h f = code_ends end x h
+psl_ends : (end : ℕ) (a : Result Psl Refusal) (rest : Psl → Outcome) → psl_place a ≤ end → ((r : Psl) → Ends end (rest r)) → Ends end (of_psl a rest)
+psl_ends end (Ok r) rest h f = f r
+psl_ends end (Err x) rest h f = code_ends end x h
 
-chain_ends : (end : ℕ) (a : ChainAnswer) (rest : Chain → Outcome) → chain_place a ≤ end → ((r : Chain) → Ends end (rest r)) → Ends end (of_chain a rest)
-chain_ends end (chainAnswer.Accepted r) rest h f = f r
-chain_ends end (chainAnswer.Refused x) rest h f = code_ends end x h
+chain_ends : (end : ℕ) (a : Result Chain Refusal) (rest : Chain → Outcome) → chain_place a ≤ end → ((r : Chain) → Ends end (rest r)) → Ends end (of_chain a rest)
+chain_ends end (Ok r) rest h f = f r
+chain_ends end (Err x) rest h f = code_ends end x h
 
-listed_ends : (end : ℕ) (a : NumbersAnswer) (rest : Outcome) → numbers_place a ≤ end → Ends end rest → Ends end (of_numbers a rest)
-listed_ends end (numbersAnswer.Accepted n) rest h f = f
-listed_ends end (numbersAnswer.Refused x) rest h f = code_ends end x h
+listed_ends : (end : ℕ) (a : Result ℕ Refusal) (rest : Outcome) → numbers_place a ≤ end → Ends end rest → Ends end (of_numbers a rest)
+listed_ends end (Ok n) rest h f = f
+listed_ends end (Err x) rest h f = code_ends end x h
 
 -- ---- writers refuse at place 0, which their entry tells at the text's end for want of room
-writing_ends : (end : ℕ) (c : Check) (n room : ℕ) (bytes : List ℕ) → place_of_lem c ≤ 0 → Ends end (written end (then_write c (room_answer n room)) bytes)
+writing_ends : (end : ℕ) (c : Result ⊤ Refusal) (n room : ℕ) (bytes : List ℕ) → place_of_lem c ≤ 0 → Ends end (written end (then_write c (room_answer n room)) bytes)
 unfolding room_answer
-writing_ends end (check.Refused x) n room bytes h = code_ends end (at_end end x) (go (eqb (reason_number x.reason) (reason_number NoRoom)))
+writing_ends end (Err x) n room bytes h = code_ends end (at_end end x) (go (eqb (reason_number x.reason) (reason_number NoRoom)))
   where
     go : (t : Bool) → (cond t (no_room_at end) x).place ≤ end
     go true = le_refl end
     go false = omega arith
-writing_ends end Holds n room bytes h = go (leb n text_limit) (leb n room)
+writing_ends end (Ok tt) n room bytes h = go (leb n text_limit) (leb n room)
   where
-    go : (t u : Bool) → Ends end (written end (require t (answers.unwritten TextTooLong) (require u (answers.unwritten NoRoom) (writing.Written n))) bytes)
+    go : (t u : Bool) → Ends end (written end (require t (answers.unwritten TextTooLong) (require u (answers.unwritten NoRoom) (Ok n))) bytes)
     go true true = gives_ends end n bytes
     go true false = code_ends end (no_room_at end) (le_refl end)
     go false u = code_ends end (without_text TextTooLong) zero-le
 
-write_place : (c : Check) (n room : ℕ) (x : Refusal) → place_of_lem c ≤ 0 → writing.Refused x ≡ then_write c (room_answer n room) → x.place ≡ 0
+write_place : (c : Result ⊤ Refusal) (n room : ℕ) (x : Refusal) → place_of_lem c ≤ 0 → Err x ≡ then_write c (room_answer n room) → x.place ≡ 0
 unfolding room_answer
-write_place (check.Refused y) n room x h e = let q : x ≡ y = cc in rw q (omega arith)
-write_place Holds n room x h e = go (leb n text_limit) (leb n room) e
+write_place (Err y) n room x h e = let q : x ≡ y = cc in rw q (omega arith)
+write_place (Ok tt) n room x h e = go (leb n text_limit) (leb n room) e
   where
-    go : (t u : Bool) → writing.Refused x ≡ require t (answers.unwritten TextTooLong) (require u (answers.unwritten NoRoom) (writing.Written n)) → x.place ≡ 0
+    go : (t u : Bool) → Err x ≡ require t (answers.unwritten TextTooLong) (require u (answers.unwritten NoRoom) (Ok n)) → x.place ≡ 0
     go true true k = absurd (let z : ◌≡◌ {A = ℕ} 0 1 = cc in omega arith)
     go true false k = cc
     go false u k = cc
@@ -146,7 +130,7 @@ bed_place_lem r chrom name ts qs zs =
     (demanded (bed.names_show r chrom name && bedTests.strand_fits r) BadWord _
     (demanded (bedTests.fields_fit r && row_numbers_fit (take n ts) (take n qs) (take n zs)) NumberOutOfRange _
     (demanded (bedTests.spans_fit r) SpanDisagrees _
-    (demanded (bedTests.rows_fit r (take n ts) (take n qs) (take n zs)) BlockRules Holds zero-le))))
+    (demanded (bedTests.rows_fit r (take n ts) (take n qs) (take n zs)) BlockRules (Ok tt) zero-le))))
 
 psl_place_lem : (r : Psl) (query target ts qs zs : List ℕ) → place_of_lem (psl.write_check r query target ts qs zs) ≤ 0
 unfolding psl.write_check
@@ -157,7 +141,7 @@ psl_place_lem r query target ts qs zs =
     (demanded (pslTests.fields_fit r && row_numbers_fit (take n ts) (take n qs) (take n zs)) NumberOutOfRange _
     (demanded (pslTests.spans_fit r) SpanDisagrees _
     (demanded (rows_fit r (take n ts) (take n qs) (take n zs)) BlockRules _
-    (demanded (counts_fit r.counts (take n ts) (take n qs) (take n zs)) CountsDisagree Holds zero-le)))))
+    (demanded (counts_fit r.counts (take n ts) (take n qs) (take n zs)) CountsDisagree (Ok tt) zero-le)))))
 
 chain_place_lem : (r : Chain) (target query ts qs zs : List ℕ) → place_of_lem (chain.write_check r target query ts qs zs) ≤ 0
 unfolding chain.write_check
@@ -167,19 +151,19 @@ chain_place_lem r target query ts qs zs =
     (demanded (chain.names_show target query && is_told r.qStrand) BadWord _
     (demanded (chainTests.fields_fit r && row_numbers_fit (take n ts) (take n qs) (take n zs)) NumberOutOfRange _
     (demanded (chainTests.spans_fit r) SpanDisagrees _
-    (demanded (chainTests.rows_fit r (take n ts) (take n qs) (take n zs)) BlockRules Holds zero-le))))
+    (demanded (chainTests.rows_fit r (take n ts) (take n qs) (take n zs)) BlockRules (Ok tt) zero-le))))
 
 -- so a refused writer is at place 0
 module _ (ts qs zs : List ℕ) (room : ℕ) (x : Refusal) where
-  pub bed_write_at : (r : Bed) (chrom name : List ℕ) → writing.Refused x ≡ bed.bed_write r chrom name ts qs zs room → x.place ≡ 0
+  pub bed_write_at : (r : Bed) (chrom name : List ℕ) → Err x ≡ bed.bed_write r chrom name ts qs zs room → x.place ≡ 0
   unfolding bed.bed_write
   bed_write_at r chrom name e = write_place (bed.write_check r chrom name ts qs zs) (length (bed.bed_text r chrom name ts zs)) room x (bed_place_lem r chrom name ts qs zs) e
 
-  pub psl_write_at : (r : Psl) (query target : List ℕ) → writing.Refused x ≡ psl.psl_write r query target ts qs zs room → x.place ≡ 0
+  pub psl_write_at : (r : Psl) (query target : List ℕ) → Err x ≡ psl.psl_write r query target ts qs zs room → x.place ≡ 0
   unfolding psl.psl_write
   psl_write_at r query target e = write_place (psl.write_check r query target ts qs zs) (length (psl.psl_text r query target ts qs zs)) room x (psl_place_lem r query target ts qs zs) e
 
-  pub chain_write_at : (r : Chain) (target query : List ℕ) → writing.Refused x ≡ chain.chain_write r target query ts qs zs room → x.place ≡ 0
+  pub chain_write_at : (r : Chain) (target query : List ℕ) → Err x ≡ chain.chain_write r target query ts qs zs room → x.place ≡ 0
   unfolding chain.chain_write
   chain_write_at r target query e = write_place (chain.write_check r target query ts qs zs) (length (chain.chain_text r target query ts qs zs)) room x (chain_place_lem r target query ts qs zs) e
 
@@ -204,17 +188,17 @@ position_ends : (c : Chain) (rows : List Row) (p end room : ℕ) → Ends end (o
 unfolding positions.lift_position
 position_ends c rows p end room = go (accepted c rows) (ltb p c.tSize) (partner_of p (pairs c rows))
   where
-    go : (t u : Bool) (x : Partner) → Ends end (of_position (require t (positions.not_lifted BlockRules) (require u (positions.not_lifted OutsideTarget) (positions.at_partner p x))) end room)
+    go : (t u : Bool) (x : Option ℕ) → Ends end (of_position (require t (positions.not_lifted BlockRules) (require u (positions.not_lifted OutsideTarget) (positions.at_partner p x))) end room)
     go false u x = refused_ends end BlockRules
     go true false x = refused_ends end OutsideTarget
-    go true true Alone = refused_ends end NoPair
-    go true true (Base q) = numbered_ends end room _
+    go true true None = refused_ends end NoPair
+    go true true (Some q) = numbered_ends end room _
 
 region_ends : (c : Chain) (rows : List Row) (a e end room : ℕ) → Ends end (of_region (regions.lift_region c rows a e) end room)
 unfolding regions.lift_region regions.carried
 region_ends c rows a e end room = go (accepted c rows) (regions.inside c a e) (leb 1 (regions.kept (pairs c rows) a e)) _
   where
-    go : (t u v : Bool) (r : Region) → Ends end (of_region (require t (regions.not_lifted BlockRules) (require u (regions.not_lifted OutsideTarget) (require v (regions.not_lifted NoPair) (region.Lifted r)))) end room)
+    go : (t u v : Bool) (r : Region) → Ends end (of_region (require t (regions.not_lifted BlockRules) (require u (regions.not_lifted OutsideTarget) (require v (regions.not_lifted NoPair) (Ok r)))) end room)
     go false u v r = refused_ends end BlockRules
     go true false v r = refused_ends end OutsideTarget
     go true true false r = refused_ends end NoPair
@@ -224,7 +208,7 @@ span_ends : (start end size room : ℕ) → Ends 0 (of_span (converted start end
 unfolding converted
 span_ends start end size room = go (in_coordinates start && (in_coordinates end && in_coordinates size)) (ltb start end && leb end size)
   where
-    go : (t u : Bool) → Ends 0 (of_span (require t (not_converted NumberOutOfRange) (require u (not_converted SpanDisagrees) (span.Converted (other_strand start end size)))) (λ x. numbered (without_text NoRoom) room (x.start ∷ x.end ∷ [])))
+    go : (t u : Bool) → Ends 0 (of_span (require t (not_converted NumberOutOfRange) (require u (not_converted SpanDisagrees) (Ok (other_strand start end size)))) (λ x. numbered (without_text NoRoom) room (x.start ∷ x.end ∷ [])))
     go false u = refused_ends 0 NumberOutOfRange
     go true false = refused_ends 0 SpanDisagrees
     go true true = numbered_ends 0 room _
@@ -233,7 +217,7 @@ turn_ends : (s : List ℕ) (c : Chain) (rows : List Row) (room : ℕ) → Ends (
 unfolding turn_written turns.turn
 turn_ends s c rows room = go (accepted c rows) (leb c.blockCount block_limit) _ (λ d. chain_written_lem s _ _ _ room d)
   where
-    go : (t u : Bool) (rest : Chain → Outcome) → ((d : Chain) → Ends (length s) (rest d)) → Ends (length s) (of_turn (require t (turns.not_turned BlockRules) (require u (turns.not_turned NoRoom) (Turned (turns.turned c)))) rest)
+    go : (t u : Bool) (rest : Chain → Outcome) → ((d : Chain) → Ends (length s) (rest d)) → Ends (length s) (of_turn (require t (turns.not_turned BlockRules) (require u (turns.not_turned NoRoom) (Ok (turns.turned c)))) rest)
     go false u rest f = refused_ends (length s) BlockRules
     go true false rest f = refused_ends (length s) NoRoom
     go true true rest f = f (turns.turned c)
@@ -244,7 +228,7 @@ tally_ends end t c rows a e =
     go (accepted c rows) (regions.inside c a e) (tallies.good_tally t) (leb (t.asked + (e - a)) tally_limit) (leb 1 (regions.kept (pairs c rows) a e)) _ _
   where
     go : (v w x y z : Bool) (u : Tally) (r : Region)
-        → let d : Tallied = require v (tallies.not_tallied t BlockRules) (require w (tallies.not_tallied t OutsideTarget) (require x (tallies.not_tallied t CountsDisagree) (require y (tallies.not_tallied t NumberOutOfRange) (record { tally = u; answer = require z (regions.not_lifted NoPair) (region.Lifted r) }))))
+        → let d : Tallied = require v (tallies.not_tallied t BlockRules) (require w (tallies.not_tallied t OutsideTarget) (require x (tallies.not_tallied t CountsDisagree) (require y (tallies.not_tallied t NumberOutOfRange) (record { tally = u; answer = require z (regions.not_lifted NoPair) (Ok r) }))))
         in Ends end (of_tallied d.answer d.tally)
     go false w x y z u r = refused_ends end BlockRules
     go true false x y z u r = refused_ends end OutsideTarget
@@ -310,8 +294,8 @@ pub batch_ends : (s regions lent lent' b b' : List ℕ) (r : ℕ) → BatchTold 
 unfolding batch_lifted text_batch_check
 batch_ends s regions lent lent' b b' r h = answered_ends (length s) _ b b' r (go (room_in_bytes regions (length b)) (chain_check s) (chain_in s)) h.rows_told
   where
-    go : (v : Bool) (x : ChainAnswer) → chain_place x ≤ length s
-        → Ends (length s) (on_check (require v (refused NoRoom) (of_checked check.Refused (λ _. check.Holds) x)) refuses (gives (length regions / region_size) (rows_bytes (answer_rows (tally_in lent) (sent_text s regions (length b))))))
-    go true (chainAnswer.Accepted c) k = gives_ends (length s) (length regions / region_size) (rows_bytes (answer_rows (tally_in lent) (sent_text s regions (length b))))
-    go true (chainAnswer.Refused x) k = code_ends (length s) x k
+    go : (v : Bool) (x : Result Chain Refusal) → chain_place x ≤ length s
+        → Ends (length s) (on_check (require v (refused NoRoom) (of_checked Err (λ _. (Ok tt)) x)) refuses (gives (length regions / region_size) (rows_bytes (answer_rows (tally_in lent) (sent_text s regions (length b))))))
+    go true (Ok c) k = gives_ends (length s) (length regions / region_size) (rows_bytes (answer_rows (tally_in lent) (sent_text s regions (length b))))
+    go true (Err x) k = code_ends (length s) x k
     go false x k = code_ends (length s) (without_text NoRoom) zero-le

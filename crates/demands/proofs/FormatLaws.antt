@@ -9,16 +9,15 @@ use Rattle.ledger.specs.Refusals.{fault_at, refusal_at, require}
 use Rattle.ledger.specs.declared.Row.{Row}
 use Rattle.ledger.specs.declared.Reason.TheVariants.{BlockRules, NoRoom}
 use Rattle.ledger.specs.Limits.{text_limit}
-use Rattle.text.specs.declared.Check.TheVariants.{Holds}
 use Rattle.text.specs.Checks.{refused}
-use Rattle.writing.specs.declared.Writing.{Writing}
-use Rattle.writing.specs.declared.Writing.TheVariants.{Written}
 use Rattle.writing.specs.Answers.{room_answer, left_after}
 use Rattle.blocks.specs.Rows.{table_of}
 use Rattle.rows.proofs.ReaderLaws.{Reads, read_of}
 use Rattle.demands.specs.Formats.{Names, Format}
 use Rattle.demands.specs.Demand2.{ReadBack, Demand2}
 use Rattle.demands.proofs.RowLaws.{read_count, front_rows, self_rows, holds_if, breach_if, room_written, room_short}
+use Rattle.std.specs.Prelude.{Ok, Result}
+use Rattle.ledger.specs.declared.Refusal.{Refusal}
 
 pub record Shown (f : Format) : Type 1 where
   -- its text checker, its reader with some room, and the columns of rows of what is accepted, by the definitions
@@ -43,12 +42,12 @@ pub record Shown (f : Format) : Type 1 where
   pub left_valid : (s : List ℕ) (before after : List Row) (r : f.Record) → f.Reads s before after (f.accepted r) → f.Valid r (f.names s r) after
   -- its test of a record with a table
   pub valid : f.Record → List Row → Bool
-  pub checks : (r : f.Record) (table : List Row) → f.check r table ≡ require (valid r table) (refused BlockRules) Holds
+  pub checks : (r : f.Record) (table : List Row) → f.check r table ≡ require (valid r table) (refused BlockRules) (Ok tt)
   pub rules_of : (r : f.Record) (table : List Row) → valid r table ≡ true → f.Rules r table
   pub rules_is : (r : f.Record) (table : List Row) → f.Rules r table → valid r table ≡ true
   -- a valid record's text is short, is written where there is room, and reads back
   pub short : (r : f.Record) (ns : Names) (table : List Row) → f.Valid r ns table → length (f.text r ns table) ≤ text_limit
-  pub writes : (r : f.Record) (ns : Names) (table : List Row) (before after : List ℕ) (x : Writing) → f.Valid r ns table → f.Writes r ns table before after x
+  pub writes : (r : f.Record) (ns : Names) (table : List Row) (before after : List ℕ) (x : Result ℕ Refusal) → f.Valid r ns table → f.Writes r ns table before after x
       → (x ≡ room_answer (length (f.text r ns table)) (length before)) × (after ≡ left_after x (f.text r ns table) before)
   pub reads_back : (r : f.Record) (ns : Names) (table before after : List Row) (x : f.Answer) → f.Valid r ns table → f.Reads (f.text r ns table) before after x → f.blocks r ≤ length before
       → ReadBack f r ns table (f.text r ns table) before after x
@@ -71,13 +70,13 @@ module _ (f : Format) (k : Shown f) where
       let same = self_rows rows (rows_in s r) (f.blocks r) (k.spelt_rows s r rows p) (row_count s r rows p) in
       k.left_valid s rows rows r (k.promised s rows rows r (sym ((k.reads s).roomy r (length rows) ok fits)) same)
 
-  is_written : (r : f.Record) (ns : Names) (table : List Row) (before after : List ℕ) (x : Writing) → f.Valid r ns table → f.Writes r ns table before after x
-      → length (f.text r ns table) ≤ length before → (x ≡ Written (length (f.text r ns table))) × (after ≡ f.text r ns table ++ drop (length (f.text r ns table)) before)
+  is_written : (r : f.Record) (ns : Names) (table : List Row) (before after : List ℕ) (x : Result ℕ Refusal) → f.Valid r ns table → f.Writes r ns table before after x
+      → length (f.text r ns table) ≤ length before → (x ≡ Ok (length (f.text r ns table))) × (after ≡ f.text r ns table ++ drop (length (f.text r ns table)) before)
   is_written r ns table before after x ok w h =
       let text = f.text r ns table in
       let p = k.writes r ns table before after x ok w in
-      let e : x ≡ Written (length text) = p.0 ∙ room_written text (length before) (k.short r ns table ok) h in
-      (e, p.1 ∙ ap (λ (y : Writing). left_after y text before) e)
+      let e : x ≡ Ok (length text) = p.0 ∙ room_written text (length before) (k.short r ns table ok) h in
+      (e, p.1 ∙ ap (λ (y : Result ℕ Refusal). left_after y text before) e)
 
   -- DEMAND 2
   pub demand2_of : Demand2 f

@@ -6,7 +6,6 @@ use Prim.Native.Nat.{ℕ, ◌≤◌}
 use lib.ListN.{length, take}
 use Rattle.ledger.specs.declared.Row.{Row}
 use Rattle.ledger.specs.Limits.{text_limit}
-use Rattle.text.specs.declared.Check.TheVariants.{Holds}
 use Rattle.text.specs.declared.Class.TheVariants.{Graphic}
 use Rattle.columns.specs.Columns.{values_from}
 use Rattle.columns.specs.Spells.{firsts}
@@ -17,7 +16,6 @@ use Rattle.writing.specs.Answers.{room_answer}
 use Rattle.blocks.specs.Blocks.{count_fits, rows_of, row_numbers_fit}
 use Rattle.blocks.specs.Rows.{table_of, targets_of, queries_of, sizes_of}
 use Rattle.psl.specs.declared.Psl.{Psl}
-use Rattle.psl.specs.declared.PslAnswer.TheVariants.{Accepted}
 use Rattle.psl.specs.Records.{psl_targets, psl_queries, psl_sizes, psl_rows}
 use Rattle.psl.specs.Read.{psl_read, psl_check}
 use Rattle.psl.specs.Table.{psl_columns}
@@ -44,6 +42,7 @@ use Rattle.demands.proofs.FormatLaws as demands
 use Rattle.demands.proofs.LengthLaws.{psl_short}
 use Rattle.columns.specs.Names.{length_fits}
 use Rattle.columns.proofs.WordLaws.{graphic_all}
+use Rattle.std.specs.Prelude.{Ok}
 
 -- where the blocks start and end does not depend on the names
 rows_named : (r : Psl) (ns : Names) (ts qs zs : List ℕ) → rows_fit (named r ns.first ns.second) ts qs zs ≡ rows_fit r ts qs zs
@@ -56,7 +55,7 @@ unfolding psl_valid fields_fit spans_fit
 valid_named r ns ts qs zs e f h = rw (rows_named r ns (take r.blockCount ts) (take r.blockCount qs) (take r.blockCount zs), e, f) h
 
 -- a valid record passes the writer's checks
-passes : (r : Psl) (ns : Names) (ts qs zs : List ℕ) → PslRules (named r ns.first ns.second) ts qs zs → All Graphic ns.first → All Graphic ns.second → write_check r ns.first ns.second ts qs zs ≡ Holds
+passes : (r : Psl) (ns : Names) (ts qs zs : List ℕ) → PslRules (named r ns.first ns.second) ts qs zs → All Graphic ns.first → All Graphic ns.second → write_check r ns.first ns.second ts qs zs ≡ (Ok tt)
 unfolding write_check words_show psl_valid fields_fit spans_fit
 passes r ns ts qs zs k c d =
     let n = r.blockCount in
@@ -70,7 +69,7 @@ passes r ns ts qs zs k c d =
     rw (count.0, names.0, graphic_all ns.first c, graphic_all ns.second d, fields.0, numbers.0, spans.0, ← rows_named r ns (take n ts) (take n qs) (take n zs), rows.0, rows.1)
 
 -- ---- an accepted line: its names, and its rows
-module _ (s : List ℕ) (r : Psl) (ok : psl_check s ≡ Accepted r) where
+module _ (s : List ℕ) (r : Psl) (ok : psl_check s ≡ Ok r) where
   said : PslLine s (firsts (values_from psl_columns 0 s 0)) (lists_in psl_columns (words_of (line_of s))) r (psl_targets s) (psl_queries s) (psl_sizes s)
   said = line_of_lem s r ok
 
@@ -84,7 +83,7 @@ module _ (s : List ℕ) (r : Psl) (ok : psl_check s ≡ Accepted r) where
   names_valid ts qs zs v = valid_named r (psl_names s r) ts qs zs query_shows.1 target_shows.1 v
 
 -- and the table that it left
-left : (s : List ℕ) (before after : List Row) (r : Psl) → RowsRead s before after (Accepted r) → PslValid r (psl_names s r) after
+left : (s : List ℕ) (before after : List Row) (r : Psl) → RowsRead s before after (Ok r) → PslValid r (psl_names s r) after
 unfolding record_check
 left s before after r h =
     let ok = (read_of (psl_reads s) (length before) r (sym h.is)).0 in
@@ -108,7 +107,7 @@ module _ (r : Psl) (ns : Names) (table : List Row) (ok : PslValid r ns table) wh
   abbrev text : List ℕ
   text = psl_text r ns.first ns.second ts qs zs
 
-  may : write_check r ns.first ns.second ts qs zs ≡ Holds
+  may : write_check r ns.first ns.second ts qs zs ≡ (Ok tt)
   may = passes r ns ts qs zs ok.rules ok.query_shows ok.target_shows
 
   pub short : length text ≤ text_limit
@@ -129,7 +128,7 @@ module _ (r : Psl) (ns : Names) (table : List Row) (ok : PslValid r ns table) wh
       λ i. record { first = a i; second = b i }
 
 -- what a text spells is what its checker accepts, with the rows of its block columns
-pub spelt_check : (s : List ℕ) (r : Psl) (rows : List Row) → PslSpells s r rows → psl_check s ≡ Accepted r
+pub spelt_check : (s : List ℕ) (r : Psl) (rows : List Row) → PslSpells s r rows → psl_check s ≡ Ok r
 spelt_check s r rows p = line_is s r _ _ _ _ _ p.line
 
 pub spelt_rows : (s : List ℕ) (r : Psl) (rows : List Row) → PslSpells s r rows → rows ≡ psl_rows s
@@ -139,7 +138,7 @@ spelt_rows s r rows p =
     let c = line_sizes s r _ _ _ _ _ p.line in
     p.rows_said ∙ (λ i. table_of (a i) (b i) (c i))
 
-pub spelt_of : (s : List ℕ) (r : Psl) → psl_check s ≡ Accepted r → PslSpells s r (psl_rows s)
+pub spelt_of : (s : List ℕ) (r : Psl) → psl_check s ≡ Ok r → PslSpells s r (psl_rows s)
 spelt_of s r ok = record { values = _; lists = _; targets = _; queries = _; sizes = _; line = line_of_lem s r ok; rows_said = refl }
 
 -- its names are its words

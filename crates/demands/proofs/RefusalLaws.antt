@@ -15,17 +15,11 @@ use Rattle.ledger.specs.Limits.{tally_limit}
 use Rattle.ledger.specs.Reasons.{reason_number}
 use Rattle.text.proofs.Laws.{either}
 use Rattle.chain.specs.declared.Chain.{Chain}
-use Rattle.lift.specs.declared.Partner.{Partner}
-use Rattle.lift.specs.declared.Partner.TheVariants.{Base, Alone}
-use Rattle.lift.specs.declared.PositionAnswer.TheVariants.{Refused}
 use Rattle.lift.specs.Accepted.{accepted}
 use Rattle.lift.specs.Pairs.{pairs, partner_of}
 use Rattle.lift.specs.Positions as position
 use Rattle.lift.proofs.PositionLaws.{lifts, lone}
 use Rattle.region.specs.declared.Region.{Region}
-use Rattle.region.specs.declared.RegionAnswer.{RegionAnswer}
-use Rattle.region.specs.declared.RegionAnswer.TheVariants.{Lifted}
-use Rattle.region.specs.declared.RegionAnswer.TheVariants as ofRegion
 use Rattle.region.specs.declared.Tally.{Tally}
 use Rattle.region.specs.declared.Tallied.{Tallied}
 use Rattle.region.specs.Tallies.{good_tally, grown, not_tallied, tally_step}
@@ -34,8 +28,8 @@ use Rattle.table_lift.specs.Lifts.{RegionTallied}
 use Rattle.region.specs.Regions as region
 use Rattle.region.proofs.RegionLaws.{region_of, refused_exactly}
 use Rattle.turn.specs.Turns as turn
-use Rattle.turn.specs.declared.TurnAnswer.TheVariants as ofTurn
 use Rattle.demands.specs.Demand3.{InNone, Inside, PositionRefused, RegionRefused, TurnRefused, TallyRefused}
+use Rattle.std.specs.Prelude.{Ok, Err, Some, None, Result, Option}
 
 -- one refusal at place 0 has one number
 abbrev at_none : Reason → Refusal
@@ -67,9 +61,9 @@ module _ (c : Chain) (rows : List Row) (p : ℕ) where
   unfolding position.lift_position
   position_inside e l why h = go (partner_of p (pairs c rows)) (rw (e, lt-ltb p c.tSize l) at h)
     where
-      go : (x : Partner) → position.at_partner p x ≡ position.not_lifted why → reason_number why ≡ 12
-      go Alone k = sym (same_position NoPair why k)
-      go (Base b) k = absurd (let z : ◌≡◌ {A = ℕ} 0 1 = cc in omega arith)
+      go : (x : Option ℕ) → position.at_partner p x ≡ position.not_lifted why → reason_number why ≡ 12
+      go None k = sym (same_position NoPair why k)
+      go (Some b) k = absurd (let z : ◌≡◌ {A = ℕ} 0 1 = cc in omega arith)
 
   position_by : (why : Reason) (P : Type 0) → position.lift_position c rows p ≡ position.not_lifted why → (accepted c rows ≡ false → reason_number why ≡ 9 → P)
       → (accepted c rows ≡ true → c.tSize ≤ p → reason_number why ≡ 13 → P) → (accepted c rows ≡ true → p < c.tSize → reason_number why ≡ 12 → P) → P
@@ -90,18 +84,18 @@ module _ (c : Chain) (rows : List Row) (p : ℕ) where
   }
 
   -- and each at place 0
-  pub position_at : (x : Refusal) → position.lift_position c rows p ≡ Refused x → x.place ≡ 0
+  pub position_at : (x : Refusal) → position.lift_position c rows p ≡ Err x → x.place ≡ 0
   unfolding position.lift_position
   position_at x h = go (accepted c rows) (ltb p c.tSize) (partner_of p (pairs c rows)) h
     where
-      at : (why : Reason) → position.not_lifted why ≡ Refused x → x.place ≡ 0
+      at : (why : Reason) → position.not_lifted why ≡ Err x → x.place ≡ 0
       at why k = let e : at_none why ≡ x = cc in sym (ap (λ (y : Refusal). y.place) e)
 
-      go : (t u : Bool) (y : Partner) → require t (position.not_lifted BlockRules) (require u (position.not_lifted OutsideTarget) (position.at_partner p y)) ≡ Refused x → x.place ≡ 0
+      go : (t u : Bool) (y : Option ℕ) → require t (position.not_lifted BlockRules) (require u (position.not_lifted OutsideTarget) (position.at_partner p y)) ≡ Err x → x.place ≡ 0
       go false u y k = at BlockRules k
       go true false y k = at OutsideTarget k
-      go true true Alone k = at NoPair k
-      go true true (Base b) k = absurd (let z : ◌≡◌ {A = ℕ} 0 1 = cc in omega arith)
+      go true true None k = at NoPair k
+      go true true (Some b) k = absurd (let z : ◌≡◌ {A = ℕ} 0 1 = cc in omega arith)
 
 -- ---- regions
 module _ (c : Chain) (rows : List Row) (a e : ℕ) where
@@ -126,7 +120,7 @@ module _ (c : Chain) (rows : List Row) (a e : ℕ) where
   unfolding region.lift_region region.inside region.carried
   region_inside k w why h = go (leb 1 (region.kept (pairs c rows) a e)) (rw (k, lt-ltb a e w.0, le-leb e c.tSize w.1) at h)
     where
-      go : (t : Bool) → require t (region.not_lifted NoPair) (Lifted (region_of c.qSize (pairs c rows) a e)) ≡ region.not_lifted why → reason_number why ≡ 12
+      go : (t : Bool) → require t (region.not_lifted NoPair) (Ok (region_of c.qSize (pairs c rows) a e)) ≡ region.not_lifted why → reason_number why ≡ 12
       go true q = absurd (let z : ◌≡◌ {A = ℕ} 0 1 = cc in omega arith)
       go false q = sym (same_region NoPair why q)
 
@@ -154,14 +148,14 @@ module _ (c : Chain) (rows : List Row) (a e : ℕ) where
     );
   }
 
-  pub region_at : (x : Refusal) → region.lift_region c rows a e ≡ ofRegion.Refused x → x.place ≡ 0
+  pub region_at : (x : Refusal) → region.lift_region c rows a e ≡ Err x → x.place ≡ 0
   unfolding region.lift_region region.carried
   region_at x h = go (accepted c rows) (region.inside c a e) (leb 1 (region.kept (pairs c rows) a e)) h
     where
-      at : (why : Reason) → region.not_lifted why ≡ ofRegion.Refused x → x.place ≡ 0
+      at : (why : Reason) → region.not_lifted why ≡ Err x → x.place ≡ 0
       at why k = let w : at_none why ≡ x = cc in sym (ap (λ (y : Refusal). y.place) w)
 
-      go : (t u v : Bool) → require t (region.not_lifted BlockRules) (require u (region.not_lifted OutsideTarget) (require v (region.not_lifted NoPair) (Lifted (region_of c.qSize (pairs c rows) a e)))) ≡ ofRegion.Refused x → x.place ≡ 0
+      go : (t u v : Bool) → require t (region.not_lifted BlockRules) (require u (region.not_lifted OutsideTarget) (require v (region.not_lifted NoPair) (Ok (region_of c.qSize (pairs c rows) a e)))) ≡ Err x → x.place ≡ 0
       go false u v k = at BlockRules k
       go true false v k = at OutsideTarget k
       go true true false k = at NoPair k
@@ -260,26 +254,26 @@ module _ (t : Tally) (c : Chain) (rows : List Row) (a e : ℕ) where
     else = tally_else;
   }
 
-pub tally_refused : (t u : Tally) (c : Chain) (rows : List Row) (a e : ℕ) (x : RegionAnswer) → RegionTallied t c rows a e u x → TallyRefused t c rows a e x
+pub tally_refused : (t u : Tally) (c : Chain) (rows : List Row) (a e : ℕ) (x : Result Region Refusal) → RegionTallied t c rows a e u x → TallyRefused t c rows a e x
 tally_refused t u c rows a e x h = rw h.is (tally_step_lem t c rows a e)
 
 -- a refused turn is at place 0
-pub turn_at : (c : Chain) (rows : List Row) (room : ℕ) (x : Refusal) → ofTurn.Refused x ≡ turn.turn c rows room → x.place ≡ 0
+pub turn_at : (c : Chain) (rows : List Row) (room : ℕ) (x : Refusal) → Err x ≡ turn.turn c rows room → x.place ≡ 0
 unfolding turn.turn
 turn_at c rows room x h = go (accepted c rows) (leb c.blockCount room) h
   where
-    go : (t u : Bool) → ofTurn.Refused x ≡ require t (turn.not_turned BlockRules) (require u (turn.not_turned NoRoom) (ofTurn.Turned (turn.turned c))) → x.place ≡ 0
+    go : (t u : Bool) → Err x ≡ require t (turn.not_turned BlockRules) (require u (turn.not_turned NoRoom) (Ok (turn.turned c))) → x.place ≡ 0
     go false u k = cc
     go true false k = cc
     go true true k = absurd (let z : ◌≡◌ {A = ℕ} 0 1 = cc in omega arith)
 
 -- and so is a refused region that is tallied
-pub tally_at : (t : Tally) (c : Chain) (rows : List Row) (a e : ℕ) (x : Refusal) → (tally_step t c rows a e).answer ≡ ofRegion.Refused x → x.place ≡ 0
+pub tally_at : (t : Tally) (c : Chain) (rows : List Row) (a e : ℕ) (x : Refusal) → (tally_step t c rows a e).answer ≡ Err x → x.place ≡ 0
 unfolding tally_step region.carried
 tally_at t c rows a e x h = go (accepted c rows) (region.inside c a e) (good_tally t) (leb (t.asked + (e - a)) tally_limit) (leb 1 (region.kept (pairs c rows) a e)) _ _ h
   where
     go : (v w y z o : Bool) (u : Tally) (r : Region)
-        → (require v (not_tallied t BlockRules) (require w (not_tallied t OutsideTarget) (require y (not_tallied t CountsDisagree) (require z (not_tallied t NumberOutOfRange) (record { tally = u; answer = require o (region.not_lifted NoPair) (Lifted r) }))))).answer ≡ ofRegion.Refused x
+        → (require v (not_tallied t BlockRules) (require w (not_tallied t OutsideTarget) (require y (not_tallied t CountsDisagree) (require z (not_tallied t NumberOutOfRange) (record { tally = u; answer = require o (region.not_lifted NoPair) (Ok r) }))))).answer ≡ Err x
         → x.place ≡ 0
     go false w y z o u r k = let q = sym k in cc
     go true false y z o u r k = let q = sym k in cc
@@ -289,13 +283,13 @@ tally_at t c rows a e x h = go (accepted c rows) (region.inside c a e) (good_tal
     go true true true true true u r k = absurd (let z : ◌≡◌ {A = ℕ} 0 1 = cc in omega arith)
 
 -- a tallied region that lifts, lifts as it does without a tally
-pub lifted_step : (t : Tally) (c : Chain) (rows : List Row) (a e : ℕ) (r : Region) → (tally_step t c rows a e).answer ≡ Lifted r → region.lift_region c rows a e ≡ Lifted r
+pub lifted_step : (t : Tally) (c : Chain) (rows : List Row) (a e : ℕ) (r : Region) → (tally_step t c rows a e).answer ≡ Ok r → region.lift_region c rows a e ≡ Ok r
 unfolding tally_step region.lift_region
 lifted_step t c rows a e r h = go (accepted c rows) (region.inside c a e) (good_tally t) (leb (t.asked + (e - a)) tally_limit) _ (region.carried c.qSize (pairs c rows) a e) h
   where
-    go : (v w x y : Bool) (u : Tally) (z : RegionAnswer)
-        → (require v (not_tallied t BlockRules) (require w (not_tallied t OutsideTarget) (require x (not_tallied t CountsDisagree) (require y (not_tallied t NumberOutOfRange) (record { tally = u; answer = z }))))).answer ≡ Lifted r
-        → require v (region.not_lifted BlockRules) (require w (region.not_lifted OutsideTarget) z) ≡ Lifted r
+    go : (v w x y : Bool) (u : Tally) (z : Result Region Refusal)
+        → (require v (not_tallied t BlockRules) (require w (not_tallied t OutsideTarget) (require x (not_tallied t CountsDisagree) (require y (not_tallied t NumberOutOfRange) (record { tally = u; answer = z }))))).answer ≡ Ok r
+        → require v (region.not_lifted BlockRules) (require w (region.not_lifted OutsideTarget) z) ≡ Ok r
     go false w x y u z k = absurd (let o : ◌≡◌ {A = ℕ} 0 1 = cc in omega arith)
     go true false x y u z k = absurd (let o : ◌≡◌ {A = ℕ} 0 1 = cc in omega arith)
     go true true false y u z k = absurd (let o : ◌≡◌ {A = ℕ} 0 1 = cc in omega arith)
@@ -303,7 +297,7 @@ lifted_step t c rows a e r h = go (accepted c rows) (region.inside c a e) (good_
     go true true true true u z k = k
 
 -- a region that lifts adds its length, its kept and its dropped bases
-pub tally_grows : (t u : Tally) (c : Chain) (rows : List Row) (a e : ℕ) (r : Region) → RegionTallied t c rows a e u (Lifted r) → u ≡ grown t (e - a) r.kept r.dropped
+pub tally_grows : (t u : Tally) (c : Chain) (rows : List Row) (a e : ℕ) (r : Region) → RegionTallied t c rows a e u (Ok r) → u ≡ grown t (e - a) r.kept r.dropped
 unfolding tally_step region.carried
 tally_grows t u c rows a e r h =
     h.tally ∙ go (accepted c rows) (region.inside c a e) (good_tally t) (leb (t.asked + (e - a)) tally_limit) (leb 1 (region.kept (pairs c rows) a e)) h.is
@@ -316,10 +310,10 @@ tally_grows t u c rows a e r h =
         (require y (not_tallied t NumberOutOfRange)
         (record {
           tally = grown t (e - a) (region.kept (pairs c rows) a e) (region.dropped (pairs c rows) a e);
-          answer = require z (region.not_lifted NoPair) (Lifted (region_of c.qSize (pairs c rows) a e));
+          answer = require z (region.not_lifted NoPair) (Ok (region_of c.qSize (pairs c rows) a e));
         }))))
 
-    go : (v w x y z : Bool) → Lifted r ≡ (done v w x y z).answer → (done v w x y z).tally ≡ grown t (e - a) r.kept r.dropped
+    go : (v w x y z : Bool) → Ok r ≡ (done v w x y z).answer → (done v w x y z).tally ≡ grown t (e - a) r.kept r.dropped
     go false w x y z k = absurd (let o : ◌≡◌ {A = ℕ} 0 1 = cc in omega arith)
     go true false x y z k = absurd (let o : ◌≡◌ {A = ℕ} 0 1 = cc in omega arith)
     go true true false y z k = absurd (let o : ◌≡◌ {A = ℕ} 0 1 = cc in omega arith)

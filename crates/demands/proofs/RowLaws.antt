@@ -13,13 +13,10 @@ use Rattle.ledger.specs.declared.Refusal.{Refusal}
 use Rattle.ledger.specs.declared.Row.{Row}
 use Rattle.blocks.specs.Rows.{table_of, targets_of, queries_of, sizes_of}
 use Rattle.blocks.proofs.TableLaws.{table_length}
-use Rattle.text.specs.declared.Check.TheVariants.{Holds}
-use Rattle.text.specs.declared.Check.TheVariants as check
 use Rattle.text.specs.Checks.{refused}
-use Rattle.writing.specs.declared.Writing.TheVariants.{Written}
-use Rattle.writing.specs.declared.Writing.TheVariants as writing
 use Rattle.writing.specs.Answers.{room_answer}
 use Rattle.rows.proofs.ReaderLaws.{Reads}
+use Rattle.std.specs.Prelude.{Ok, Err}
 
 -- the flat lists of a table of three lists of one length are those lists
 pub record Flat (ts qs zs : List ℕ) : Type 0 where
@@ -56,21 +53,21 @@ pub front_rows : (rows said before after : List Row) (n : ℕ) → rows ≡ said
 front_rows rows said before after n e l h = rw (e, l) h
 
 -- a test that a checker passed
-pub holds_if : (t : Bool) → require t (refused BlockRules) Holds ≡ Holds → t ≡ true
+pub holds_if : (t : Bool) → require t (refused BlockRules) (Ok tt) ≡ (Ok tt) → t ≡ true
 holds_if true e = refl
 holds_if false e = absurd (let z : ◌≡◌ {A = ℕ} 0 1 = cc in omega arith)
 
 -- and one that it did not pass: 9 at place 0
-pub breach_if : (t : Bool) (x : Refusal) → require t (refused BlockRules) Holds ≡ check.Refused x → x ≡ without_text BlockRules
+pub breach_if : (t : Bool) (x : Refusal) → require t (refused BlockRules) (Ok tt) ≡ Err x → x ≡ without_text BlockRules
 breach_if true x e = absurd (let z : ◌≡◌ {A = ℕ} 0 1 = cc in omega arith)
 breach_if false x e = cc
 
 -- a text that keeps the limit is written, given room
-pub room_written : (text : List ℕ) (room : ℕ) → length text ≤ text_limit → length text ≤ room → room_answer (length text) room ≡ Written (length text)
+pub room_written : (text : List ℕ) (room : ℕ) → length text ≤ text_limit → length text ≤ room → room_answer (length text) room ≡ Ok (length text)
 unfolding room_answer
 room_written text room short h = rw (le-leb (length text) text_limit short, le-leb (length text) room h)
 
-pub room_short : (text : List ℕ) (room : ℕ) → length text ≤ text_limit → room < length text → room_answer (length text) room ≡ writing.Refused (without_text NoRoom)
+pub room_short : (text : List ℕ) (room : ℕ) → length text ≤ text_limit → room < length text → room_answer (length text) room ≡ Err (without_text NoRoom)
 unfolding room_answer
 room_short text room short h = rw (le-leb (length text) text_limit short, lt-leb (length text) room h)
 

@@ -1,5 +1,5 @@
 -- BED as a format of the demands.
-use Rattle.std.specs.Prelude.{ℕ, ◌≡◌, List, [], length, get_or}
+use Rattle.std.specs.Prelude.{ℕ, ◌≡◌, List, [], length, get_or, Ok, Err, Result}
 use Rattle.ledger.specs.declared.Row.{Row}
 use Rattle.text.specs.declared.Class.TheVariants.{Graphic}
 use Rattle.text.specs.Scan.{run}
@@ -8,13 +8,12 @@ use Rattle.text.specs.Parts.{part_in, part_bytes}
 use Rattle.blocks.specs.Blocks.{shifted, sums_from}
 use Rattle.blocks.specs.Rows.{table_of, targets_of, queries_of, sizes_of}
 use Rattle.bed.specs.declared.Bed.{Bed}
-use Rattle.bed.specs.declared.BedAnswer.{BedAnswer}
-use Rattle.bed.specs.declared.BedAnswer.TheVariants.{Accepted, Refused}
 use Rattle.bed.specs.Rules.{BedLine, BedRules, named}
 use Rattle.bed.specs.Write.{bed_text, BedWrote, record_check}
 use Rattle.table_bed.specs.Rows.{RowsRead}
 use Rattle.entries.specs.Records.{bed_numbers}
 use Rattle.demands.specs.Formats.{Names, Format}
+use Rattle.ledger.specs.declared.Refusal.{Refusal}
 
 -- the text is a BED line (bed, specs/Rules.antt): its words spell some values and lists, and record and rows are what they say
 pub record BedSpells (s : List ℕ) (r : Bed) (rows : List Row) : Type 0 where
@@ -56,9 +55,9 @@ unfoldable pub bed : Format
 bed = record {
   Record = Bed;
   blocks = λ r. r.blockCount;
-  Answer = BedAnswer;
-  accepted = Accepted;
-  refused = Refused;
+  Answer = (Result Bed Refusal);
+  accepted = Ok;
+  refused = Err;
   Spells = BedSpells;
   names = bed_names;
   handed = bed_handed;

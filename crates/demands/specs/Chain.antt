@@ -1,5 +1,5 @@
 -- The chain as a format of the demands.
-use Rattle.std.specs.Prelude.{ℕ, ◌≡◌, List, [], length, get_or}
+use Rattle.std.specs.Prelude.{ℕ, ◌≡◌, List, [], length, get_or, Ok, Err, Result}
 use Rattle.ledger.specs.declared.Row.{Row}
 use Rattle.text.specs.declared.Class.TheVariants.{Graphic}
 use Rattle.text.specs.Scan.{run}
@@ -7,13 +7,12 @@ use Rattle.text.specs.Pieces.{line_of, words_of}
 use Rattle.text.specs.Parts.{part_in, part_bytes}
 use Rattle.blocks.specs.Rows.{table_of, targets_of, queries_of, sizes_of}
 use Rattle.chain.specs.declared.Chain.{Chain}
-use Rattle.chain.specs.declared.ChainAnswer.{ChainAnswer}
-use Rattle.chain.specs.declared.ChainAnswer.TheVariants.{Accepted, Refused}
 use Rattle.chain.specs.Rules.{ChainText, ChainRules, named}
 use Rattle.chain.specs.Write.{chain_text, ChainWrote, record_check}
 use Rattle.table_chain.specs.Rows.{RowsRead}
 use Rattle.entries.specs.Records.{chain_numbers}
 use Rattle.demands.specs.Formats.{Names, Format}
+use Rattle.ledger.specs.declared.Refusal.{Refusal}
 
 -- the text is a chain (chain, specs/Rules.antt): the words of its header spell some values, its block lines say three lists, and record and rows are what they say
 pub record ChainSpells (s : List ℕ) (r : Chain) (rows : List Row) : Type 0 where
@@ -56,9 +55,9 @@ unfoldable pub chain : Format
 chain = record {
   Record = Chain;
   blocks = λ r. r.blockCount;
-  Answer = ChainAnswer;
-  accepted = Accepted;
-  refused = Refused;
+  Answer = (Result Chain Refusal);
+  accepted = Ok;
+  refused = Err;
   Spells = ChainSpells;
   names = chain_names;
   handed = chain_handed;

@@ -1,33 +1,25 @@
 -- DEMAND 1: every call ends with an answer or a numbered refusal and its place; a refused call leaves block tables and output buffers as it found them, and a tally moves only as the
 -- paper says. (No public function has a precondition; the answers of the formats, lifts and turns are enums of what was asked and a refusal.)
-use Rattle.std.specs.Prelude.{ℕ, ◌+◌, ◌-◌, ◌*◌, ◌%◌, ◌≤◌, ◌≡◌, List, length}
+use Rattle.std.specs.Prelude.{ℕ, ◌+◌, ◌-◌, ◌*◌, ◌%◌, ◌≤◌, ◌≡◌, List, length, Ok, Err}
 use Rattle.ledger.specs.Refusals.{without_text}
 use Rattle.ledger.specs.declared.Row.{Row}
 use Rattle.ledger.specs.declared.Refusal.{Refusal}
 use Rattle.ledger.specs.declared.Reason.{Reason}
 use Rattle.ledger.specs.declared.Reason.TheVariants.{NoRoom, NoPair}
 use Rattle.ledger.specs.Reasons.{reason_number}
-use Rattle.text.specs.declared.Check.TheVariants as check
-use Rattle.writing.specs.declared.Writing.TheVariants as writing
 use Rattle.bed.specs.declared.Bed.{Bed}
-use Rattle.bed.specs.declared.BedAnswer.TheVariants as bedAnswer
 use Rattle.bed.specs.Read.{BedRead}
 use Rattle.bed.specs.Write.{BedWrote}
 use Rattle.psl.specs.declared.Psl.{Psl}
-use Rattle.psl.specs.declared.PslAnswer.TheVariants as pslAnswer
 use Rattle.psl.specs.Read.{PslRead}
 use Rattle.psl.specs.Write.{PslWrote}
 use Rattle.chain.specs.declared.Chain.{Chain}
-use Rattle.chain.specs.declared.ChainAnswer.TheVariants as chainAnswer
 use Rattle.chain.specs.Read.{ChainRead}
 use Rattle.chain.specs.Write.{ChainWrote}
-use Rattle.number_line.specs.declared.NumbersAnswer.TheVariants as numbersAnswer
 use Rattle.number_line.specs.Numbers.{NumbersStored}
 use Rattle.region.specs.declared.Tally.{Tally}
 use Rattle.region.specs.declared.Region.{Region}
-use Rattle.region.specs.declared.RegionAnswer.TheVariants as region
 use Rattle.region.specs.Tallies.{grown}
-use Rattle.turn.specs.declared.TurnAnswer.TheVariants as turn
 use Rattle.table_lift.specs.Lifts.{RegionTallied, BatchLifted}
 use Rattle.table_turn.specs.Turns.{RowsTurned}
 use Rattle.turn.specs.Turns.{TurnedInto}
@@ -42,10 +34,10 @@ use Rattle.demands.specs.Chain.{chain}
 pub record Refusals (f : Format) : Type 0 where
   -- a reader's place stands in the text; a writer has no text, and its place is 0
   pub reader_place : (s : List ℕ) (before after : List Row) (x : Refusal) → f.Reads s before after (f.refused x) → x.place ≤ length s
-  pub writer_place : (r : f.Record) (ns : Names) (table : List Row) (before after : List ℕ) (x : Refusal) → f.Writes r ns table before after (writing.Refused x) → x.place ≡ 0
+  pub writer_place : (r : f.Record) (ns : Names) (table : List Row) (before after : List ℕ) (x : Refusal) → f.Writes r ns table before after (Err x) → x.place ≡ 0
   -- the reader leaves the table, the writer the buffer
   pub table_left : (s : List ℕ) (before after : List Row) (x : Refusal) → f.Reads s before after (f.refused x) → after ≡ before
-  pub buffer_left : (r : f.Record) (ns : Names) (table : List Row) (before after : List ℕ) (x : Refusal) → f.Writes r ns table before after (writing.Refused x) → after ≡ before
+  pub buffer_left : (r : f.Record) (ns : Names) (table : List Row) (before after : List ℕ) (x : Refusal) → f.Writes r ns table before after (Err x) → after ≡ before
 
 -- OF AN ENTRY for other languages: its answer a is 16 × a count, or 16 × a place, at most the text's end, and a number of the ledger
 pub data Ended (end a : ℕ) : Type 0 where
@@ -63,24 +55,24 @@ pub record Demand1 : Type 0 where
   pub psls : Refusals psl
   pub chains : Refusals chain
   -- the reader of a line of numbers: its place stands in the text, and it leaves the lent bytes
-  pub numbers_reader : (s before after : List ℕ) (x : Refusal) → NumbersStored s before after (numbersAnswer.Refused x) → (x.place ≤ length s) × (after ≡ before)
+  pub numbers_reader : (s before after : List ℕ) (x : Refusal) → NumbersStored s before after (Err x) → (x.place ≤ length s) × (after ≡ before)
   -- the turn leaves the table for the turned rows
-  pub turner : (c : Chain) (rows before after : List Row) (x : Refusal) → RowsTurned c rows before after (turn.Refused x) → (x.place ≡ 0) × (after ≡ before)
+  pub turner : (c : Chain) (rows before after : List Row) (x : Refusal) → RowsTurned c rows before after (Err x) → (x.place ≡ 0) × (after ≡ before)
   -- the tally grows by the length, the kept and the dropped bases of a region that lifts; every refusal but 12 leaves it, and 12 adds the region's length to asked and dropped
-  pub tally_grows : (t u : Tally) (c : Chain) (rows : List Row) (a e : ℕ) (r : Region) → RegionTallied t c rows a e u (region.Lifted r) → u ≡ grown t (e - a) r.kept r.dropped
-  pub tally : (t u : Tally) (c : Chain) (rows : List Row) (a e : ℕ) (x : Refusal) → RegionTallied t c rows a e u (region.Refused x) → (x.reason ≡ NoPair → ⊥) → u ≡ t
-  pub tally_none : (t u : Tally) (c : Chain) (rows : List Row) (a e : ℕ) (x : Refusal) → RegionTallied t c rows a e u (region.Refused x) → x.reason ≡ NoPair → u ≡ grown t (e - a) 0 (e - a)
+  pub tally_grows : (t u : Tally) (c : Chain) (rows : List Row) (a e : ℕ) (r : Region) → RegionTallied t c rows a e u (Ok r) → u ≡ grown t (e - a) r.kept r.dropped
+  pub tally : (t u : Tally) (c : Chain) (rows : List Row) (a e : ℕ) (x : Refusal) → RegionTallied t c rows a e u (Err x) → (x.reason ≡ NoPair → ⊥) → u ≡ t
+  pub tally_none : (t u : Tally) (c : Chain) (rows : List Row) (a e : ℕ) (x : Refusal) → RegionTallied t c rows a e u (Err x) → x.reason ≡ NoPair → u ≡ grown t (e - a) 0 (e - a)
   -- a batch is refused by 11 at place 0 alone, which leaves the tally and every row
-  pub batch : (t u : Tally) (c : Chain) (rows : List Row) (regions before after : List (List ℕ)) (x : Refusal) → BatchLifted t c rows regions before u after (check.Refused x)
+  pub batch : (t u : Tally) (c : Chain) (rows : List Row) (regions before after : List (List ℕ)) (x : Refusal) → BatchLifted t c rows regions before u after (Err x)
       → (x ≡ without_text NoRoom) × (u ≡ t) × (after ≡ before)
   -- the same functions over three flat slices: the slices, or the buffer
-  pub bed_slices : (s ts ts' qs qs' zs zs' : List ℕ) (x : Refusal) → BedRead s ts ts' qs qs' zs zs' (bedAnswer.Refused x) → (ts' ≡ ts) × (qs' ≡ qs) × (zs' ≡ zs)
-  pub psl_slices : (s ts ts' qs qs' zs zs' : List ℕ) (x : Refusal) → PslRead s ts ts' qs qs' zs zs' (pslAnswer.Refused x) → (ts' ≡ ts) × (qs' ≡ qs) × (zs' ≡ zs)
-  pub chain_slices : (s ts ts' qs qs' zs zs' : List ℕ) (x : Refusal) → ChainRead s ts ts' qs qs' zs zs' (chainAnswer.Refused x) → (ts' ≡ ts) × (qs' ≡ qs) × (zs' ≡ zs)
-  pub turn_slices : (c : Chain) (rows : List Row) (ts qs zs ts' qs' zs' : List ℕ) (x : Refusal) → TurnedInto c rows ts qs zs ts' qs' zs' (turn.Refused x) → (ts' ≡ ts) × (qs' ≡ qs) × (zs' ≡ zs)
-  pub bed_buffer : (r : Bed) (chrom name ts qs zs before after : List ℕ) (x : Refusal) → BedWrote r chrom name ts qs zs before after (writing.Refused x) → after ≡ before
-  pub psl_buffer : (r : Psl) (qName tName ts qs zs before after : List ℕ) (x : Refusal) → PslWrote r qName tName ts qs zs before after (writing.Refused x) → after ≡ before
-  pub chain_buffer : (r : Chain) (tName qName ts qs zs before after : List ℕ) (x : Refusal) → ChainWrote r tName qName ts qs zs before after (writing.Refused x) → after ≡ before
+  pub bed_slices : (s ts ts' qs qs' zs zs' : List ℕ) (x : Refusal) → BedRead s ts ts' qs qs' zs zs' (Err x) → (ts' ≡ ts) × (qs' ≡ qs) × (zs' ≡ zs)
+  pub psl_slices : (s ts ts' qs qs' zs zs' : List ℕ) (x : Refusal) → PslRead s ts ts' qs qs' zs zs' (Err x) → (ts' ≡ ts) × (qs' ≡ qs) × (zs' ≡ zs)
+  pub chain_slices : (s ts ts' qs qs' zs zs' : List ℕ) (x : Refusal) → ChainRead s ts ts' qs qs' zs zs' (Err x) → (ts' ≡ ts) × (qs' ≡ qs) × (zs' ≡ zs)
+  pub turn_slices : (c : Chain) (rows : List Row) (ts qs zs ts' qs' zs' : List ℕ) (x : Refusal) → TurnedInto c rows ts qs zs ts' qs' zs' (Err x) → (ts' ≡ ts) × (qs' ≡ qs) × (zs' ≡ zs)
+  pub bed_buffer : (r : Bed) (chrom name ts qs zs before after : List ℕ) (x : Refusal) → BedWrote r chrom name ts qs zs before after (Err x) → after ≡ before
+  pub psl_buffer : (r : Psl) (qName tName ts qs zs before after : List ℕ) (x : Refusal) → PslWrote r qName tName ts qs zs before after (Err x) → after ≡ before
+  pub chain_buffer : (r : Chain) (tName qName ts qs zs before after : List ℕ) (x : Refusal) → ChainWrote r tName qName ts qs zs before after (Err x) → after ≡ before
   -- the entries
   pub check : (kind : ℕ) (s : List ℕ) (a : ℕ) → a ≡ (checked kind s).answer → Ended (length s) a
   pub parse : (kind : ℕ) (s : List ℕ) → Entry (length s) (parsed kind s)

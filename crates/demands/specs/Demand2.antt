@@ -1,16 +1,11 @@
 -- DEMAND 2, for a format, of what the user holds after a call: accepted exactly when it obeys, with just what the text spells; a valid record is written to its one
 -- standard text, which reads back as the same record.
-use Rattle.std.specs.Prelude.{ℕ, ◌≤◌, ◌<◌, ◌≡◌, ◌↔◌, List, ◌++◌, length, take, drop}
+use Rattle.std.specs.Prelude.{ℕ, ◌≤◌, ◌<◌, ◌≡◌, ◌↔◌, List, ◌++◌, length, take, drop, Ok, Err, Result}
 use Rattle.ledger.specs.Refusals.{fault_at, refusal_at, without_text}
 use Rattle.ledger.specs.declared.Row.{Row}
 use Rattle.ledger.specs.declared.Reason.TheVariants.{BlockRules, NoRoom}
 use Rattle.ledger.specs.declared.Refusal.{Refusal}
 use Rattle.ledger.specs.Limits.{text_limit}
-use Rattle.text.specs.declared.Check.TheVariants.{Holds}
-use Rattle.text.specs.declared.Check.TheVariants as check
-use Rattle.writing.specs.declared.Writing.{Writing}
-use Rattle.writing.specs.declared.Writing.TheVariants.{Written}
-use Rattle.writing.specs.declared.Writing.TheVariants as writing
 use Rattle.demands.specs.Formats.{Names, Format}
 
 -- the text obeys and spells the record with some rows, and there is room for them
@@ -39,17 +34,17 @@ pub record Demand2 (f : Format) : Type 0 where
   -- the names, as they stand in the text and as they are handed back, are its words
   pub names_said : (s : List ℕ) (r : f.Record) (rows : List Row) → f.Spells s r rows → (f.names s r ≡ f.name_words s) × (f.handed s r ≡ f.names s r)
   -- the record checker holds exactly of the records that obey the format's rules; any breach is 9
-  pub checked_exactly : (r : f.Record) (table : List Row) → (f.check r table ≡ Holds) ↔ f.Rules r table
-  pub breached : (r : f.Record) (table : List Row) (x : Refusal) → f.check r table ≡ check.Refused x → x ≡ without_text BlockRules
+  pub checked_exactly : (r : f.Record) (table : List Row) → (f.check r table ≡ (Ok tt)) ↔ f.Rules r table
+  pub breached : (r : f.Record) (table : List Row) (x : Refusal) → f.check r table ≡ Err x → x ≡ without_text BlockRules
   -- what was read is valid, with its names and the table that was left
   pub left_valid : (s : List ℕ) (before after : List Row) (r : f.Record) → f.Reads s before after (f.accepted r) → f.Valid r (f.names s r) after
   -- a valid record's standard text keeps the text limit, and is written, given room, to the front of the lent buffer
   pub keeps_limit : (r : f.Record) (ns : Names) (table : List Row) → f.Valid r ns table → length (f.text r ns table) ≤ text_limit
-  pub written : (r : f.Record) (ns : Names) (table : List Row) (before after : List ℕ) (x : Writing) → f.Valid r ns table → f.Writes r ns table before after x
-      → length (f.text r ns table) ≤ length before → (x ≡ Written (length (f.text r ns table))) × (after ≡ f.text r ns table ++ drop (length (f.text r ns table)) before)
+  pub written : (r : f.Record) (ns : Names) (table : List Row) (before after : List ℕ) (x : Result ℕ Refusal) → f.Valid r ns table → f.Writes r ns table before after x
+      → length (f.text r ns table) ≤ length before → (x ≡ Ok (length (f.text r ns table))) × (after ≡ f.text r ns table ++ drop (length (f.text r ns table)) before)
   -- too little room is 11
-  pub no_buffer : (r : f.Record) (ns : Names) (table : List Row) (before after : List ℕ) (x : Writing) → f.Valid r ns table → f.Writes r ns table before after x
-      → length before < length (f.text r ns table) → x ≡ writing.Refused (without_text NoRoom)
+  pub no_buffer : (r : f.Record) (ns : Names) (table : List Row) (before after : List ℕ) (x : Result ℕ Refusal) → f.Valid r ns table → f.Writes r ns table before after x
+      → length before < length (f.text r ns table) → x ≡ Err (without_text NoRoom)
   -- and that text reads back as the same record
   pub reads_back : (r : f.Record) (ns : Names) (table before after : List Row) (x : f.Answer) → f.Valid r ns table → f.Reads (f.text r ns table) before after x
       → f.blocks r ≤ length before → ReadBack f r ns table (f.text r ns table) before after x

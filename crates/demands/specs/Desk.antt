@@ -1,24 +1,18 @@
 -- DEMANDS 2 AND 3 AT THE ENTRIES (docs/DESK.md): the answer a of a call and the lent bytes, b before and b' after it, are those of the record that the text spells.
-use Rattle.std.specs.Prelude.{ℕ, ◌+◌, ◌*◌, ◌%◌, ◌≤◌, ◌<◌, ◌≡◌, ◌↔◌, true, false, List, [], ◌∷◌, ◌++◌, length, drop}
+use Rattle.std.specs.Prelude.{ℕ, ◌+◌, ◌*◌, ◌%◌, ◌≤◌, ◌<◌, ◌≡◌, ◌↔◌, true, false, List, [], ◌∷◌, ◌++◌, length, drop, Ok, Err, Result, ℤ}
 use Rattle.ledger.specs.Refusals.{without_text}
 use Rattle.ledger.specs.declared.Row.{Row}
 use Rattle.ledger.specs.declared.Reason.TheVariants.{BadWord, NoRoom}
 use Rattle.ledger.specs.declared.Refusal.{Refusal}
 use Rattle.ledger.specs.Limits.{block_limit, largest_number, largest_place}
 use Rattle.ledger.specs.Reasons.{reason_number}
-use Rattle.text.specs.declared.Check.TheVariants as check
 use Rattle.text.specs.Parts.{part_bytes}
 use Rattle.blocks.specs.Rows.{targets_of, queries_of, sizes_of}
 use Rattle.chain.specs.declared.Chain.{Chain}
 use Rattle.chain.specs.Write.{chain_text}
-use Rattle.number_line.specs.declared.NumbersAnswer.TheVariants as numbersAnswer
 use Rattle.number_line.specs.Numbers.{numbers_check}
 use Rattle.number_line.specs.Rules.{NumbersText}
-use Rattle.lift.specs.declared.PositionAnswer.{PositionAnswer}
-use Rattle.lift.specs.declared.PositionAnswer.TheVariants as position
 use Rattle.lift.specs.Positions.{lift_position}
-use Rattle.region.specs.declared.RegionAnswer.{RegionAnswer}
-use Rattle.region.specs.declared.RegionAnswer.TheVariants as region
 use Rattle.region.specs.Regions.{lift_region}
 use Rattle.region.specs.declared.Tally.{Tally}
 use Rattle.region.specs.Batches.{regions_in, rows_bytes, room_in_bytes}
@@ -32,6 +26,7 @@ use Rattle.demands.specs.Formats.{Format}
 use Rattle.demands.specs.Bed.{bed}
 use Rattle.demands.specs.Psl.{psl}
 use Rattle.demands.specs.Chain.{ChainSpells, chain}
+use Rattle.region.specs.declared.Region.{Region}
 
 -- refused, with nothing written
 pub record RefusedBy (x : Refusal) (b b' : List ℕ) (a : ℕ) : Type 0 where
@@ -90,21 +85,21 @@ pub record NumbersAtDesk : Type 0 where
   pub gives_exactly : (s vs : List ℕ) → Between 0 largest_number vs → (b b' : List ℕ) (a : ℕ) → Answered (numbers_given s (length b)) b b' a
       → Gives (length vs) (words_bytes vs) b b' a ↔ (NumbersText s vs × (word_size * length vs ≤ length b))
   pub one_list : (s vs ws : List ℕ) → NumbersText s vs → NumbersText s ws → vs ≡ ws
-  pub gives_refused : (s : List ℕ) (x : Refusal) → numbersAnswer.Refused x ≡ numbers_check s → (b b' : List ℕ) (a : ℕ) → Answered (numbers_given s (length b)) b b' a → RefusedBy x b b' a
+  pub gives_refused : (s : List ℕ) (x : Refusal) → Err x ≡ numbers_check s → (b b' : List ℕ) (a : ℕ) → Answered (numbers_given s (length b)) b b' a → RefusedBy x b b' a
 
 -- partner and drift, a negative one as its two's complement, as a lift answers; kept, dropped and the query region
-abbrev pub PositionTold : PositionAnswer → ℕ → List ℕ → List ℕ → ℕ → Type 0
-PositionTold (position.Lifted q d) end b b' a = GivenRoom end 2 (words_bytes (q ∷ in_word d ∷ [])) b b' a
-PositionTold (position.Refused x) end b b' a = RefusedBy x b b' a
+abbrev pub PositionTold : Result (ℕ × ℤ) Refusal → ℕ → List ℕ → List ℕ → ℕ → Type 0
+PositionTold (Ok (q, d)) end b b' a = GivenRoom end 2 (words_bytes (q ∷ in_word d ∷ [])) b b' a
+PositionTold (Err x) end b b' a = RefusedBy x b b' a
 
-abbrev pub RegionTold : RegionAnswer → ℕ → List ℕ → List ℕ → ℕ → Type 0
-RegionTold (region.Lifted r) end b b' a = GivenRoom end 4 (words_bytes (r.kept ∷ r.dropped ∷ r.start ∷ r.end ∷ [])) b b' a
-RegionTold (region.Refused x) end b b' a = RefusedBy x b b' a
+abbrev pub RegionTold : Result Region Refusal → ℕ → List ℕ → List ℕ → ℕ → Type 0
+RegionTold (Ok r) end b b' a = GivenRoom end 4 (words_bytes (r.kept ∷ r.dropped ∷ r.start ∷ r.end ∷ [])) b b' a
+RegionTold (Err x) end b b' a = RefusedBy x b b' a
 
 -- a tallied region: its kept bases, or its refusal
-abbrev pub TallyCode : RegionAnswer → ℕ → Type 0
-TallyCode (region.Lifted r) a = a ≡ 16 * r.kept
-TallyCode (region.Refused x) a = a ≡ 16 * x.place + reason_number x.reason
+abbrev pub TallyCode : Result Region Refusal → ℕ → Type 0
+TallyCode (Ok r) a = a ≡ 16 * r.kept
+TallyCode (Err x) a = a ≡ 16 * x.place + reason_number x.reason
 
 -- the standard text of the turned chain, its names being those of the text with the sides exchanged
 abbrev pub turned_in : List ℕ → Chain → List Row → List ℕ
@@ -121,12 +116,12 @@ pub record ChainsAtDesk : Type 0 where
   pub turns : (s : List ℕ) (c : Chain) (rows : List Row) → ChainSpells s c rows → (b b' : List ℕ) (a : ℕ) → Answered (turned_text s (length b)) b b' a
       → GivenRoom (length s) (length (turned_in s c rows)) (turned_in s c rows) b b' a
   -- the tally t of three 8-byte numbers, good or bad, moves as `tally_region` moves it
-  pub tallies : (s : List ℕ) (c : Chain) (rows : List Row) → ChainSpells s c rows → (t u : Tally) (start end : ℕ) (x : RegionAnswer) → RegionTallied t c rows start end u x
+  pub tallies : (s : List ℕ) (c : Chain) (rows : List Row) → ChainSpells s c rows → (t u : Tally) (start end : ℕ) (x : Result Region Refusal) → RegionTallied t c rows start end u x
       → Between 0 largest_number (t.asked ∷ t.kept ∷ t.dropped ∷ []) → (rest b' : List ℕ) (a : ℕ) → Answered (tallied s start end (tally_bytes t ++ rest)) (tally_bytes t ++ rest) b' a
       → TallyCode x a × (b' ≡ tally_bytes u ++ rest)
   -- a batch of whole regions with room for a row each: its rows, and the tally that it leaves, are those of `lift_batch` with as many rows as regions
   pub batches : (s : List ℕ) (c : Chain) (rows : List Row) → ChainSpells s c rows → (t u : Tally) (regions : List ℕ) (lentRows leftRows : List (List ℕ))
-      → BatchLifted t c rows (regions_in regions) lentRows u leftRows check.Holds → length lentRows ≡ length (regions_in regions)
+      → BatchLifted t c rows (regions_in regions) lentRows u leftRows (Ok tt) → length lentRows ≡ length (regions_in regions)
       → Between 0 largest_number (t.asked ∷ t.kept ∷ t.dropped ∷ []) → length regions ≤ largest_place
       → (rest lent' b b' : List ℕ) (a : ℕ) → BatchTold s regions (tally_bytes t ++ rest) lent' b b' a → room_in_bytes regions (length b) ≡ true
       → Gives (length (regions_in regions)) (rows_bytes leftRows) b b' a × (lent' ≡ tally_bytes u ++ rest)

@@ -1,5 +1,5 @@
 -- PSL as a format of the demands.
-use Rattle.std.specs.Prelude.{ℕ, ◌≡◌, List, [], length, get_or}
+use Rattle.std.specs.Prelude.{ℕ, ◌≡◌, List, [], length, get_or, Ok, Err, Result}
 use Rattle.ledger.specs.declared.Row.{Row}
 use Rattle.text.specs.declared.Class.TheVariants.{Graphic}
 use Rattle.text.specs.Scan.{run}
@@ -7,13 +7,12 @@ use Rattle.text.specs.Pieces.{line_of, words_of}
 use Rattle.text.specs.Parts.{part_in, part_bytes}
 use Rattle.blocks.specs.Rows.{table_of, targets_of, queries_of, sizes_of}
 use Rattle.psl.specs.declared.Psl.{Psl}
-use Rattle.psl.specs.declared.PslAnswer.{PslAnswer}
-use Rattle.psl.specs.declared.PslAnswer.TheVariants.{Accepted, Refused}
 use Rattle.psl.specs.Rules.{PslLine, PslRules, named}
 use Rattle.psl.specs.Write.{psl_text, PslWrote, record_check}
 use Rattle.table_psl.specs.Rows.{RowsRead}
 use Rattle.entries.specs.Records.{psl_numbers}
 use Rattle.demands.specs.Formats.{Names, Format}
+use Rattle.ledger.specs.declared.Refusal.{Refusal}
 
 -- the text is a PSL line (psl, specs/Rules.antt): its words spell some values and lists, and record and rows are what they say
 pub record PslSpells (s : List ℕ) (r : Psl) (rows : List Row) : Type 0 where
@@ -55,9 +54,9 @@ unfoldable pub psl : Format
 psl = record {
   Record = Psl;
   blocks = λ r. r.blockCount;
-  Answer = PslAnswer;
-  accepted = Accepted;
-  refused = Refused;
+  Answer = (Result Psl Refusal);
+  accepted = Ok;
+  refused = Err;
   Spells = PslSpells;
   names = psl_names;
   handed = psl_handed;

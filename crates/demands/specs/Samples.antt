@@ -1,29 +1,21 @@
 -- THE SAMPLES OF 01 MARKED P, from their bytes: each is what the readers' definitions make of the text, then lifted, turned or written by the definitions.
-use Rattle.std.specs.Prelude.{ℕ, ◌≡◌, List, [], ◌∷◌, ℤ, pos}
+use Rattle.std.specs.Prelude.{ℕ, ◌≡◌, List, [], ◌∷◌, ℤ, pos, Ok, Err, Result}
 use Rattle.ledger.specs.declared.Row.{Row}
 use Rattle.ledger.specs.declared.Refusal.{Refusal}
 use Rattle.ledger.specs.Reasons.{reason_number}
 use Rattle.ledger.specs.Limits.{block_limit}
 use Rattle.text.specs.Parts.{part_bytes}
 use Rattle.blocks.specs.Rows.{targets_of, queries_of, sizes_of}
-use Rattle.psl.specs.declared.PslAnswer.{PslAnswer}
-use Rattle.psl.specs.declared.PslAnswer.TheVariants as psl
 use Rattle.psl.specs.Read.{psl_read}
 use Rattle.chain.specs.declared.Chain.{Chain}
-use Rattle.chain.specs.declared.ChainAnswer.{ChainAnswer}
-use Rattle.chain.specs.declared.ChainAnswer.TheVariants as chain
 use Rattle.chain.specs.Read.{chain_read}
 use Rattle.chain.specs.Write.{chain_text}
-use Rattle.lift.specs.declared.PositionAnswer.{PositionAnswer}
-use Rattle.lift.specs.declared.PositionAnswer.TheVariants as position
 use Rattle.lift.specs.Positions.{lift_position}
-use Rattle.region.specs.declared.RegionAnswer.{RegionAnswer}
-use Rattle.region.specs.declared.RegionAnswer.TheVariants as region
 use Rattle.region.specs.Regions.{lift_region}
-use Rattle.turn.specs.declared.TurnAnswer.{TurnAnswer}
-use Rattle.turn.specs.declared.TurnAnswer.TheVariants as turn
 use Rattle.turn.specs.Turns.{turned_rows, turn}
 use Rattle.chain.specs.Records.{chain_rows}
+use Rattle.psl.specs.declared.Psl.{Psl}
+use Rattle.region.specs.declared.Region.{Region}
 
 -- what a sample says: nothing refused and these numbers, these bytes, or a refusal's number and place
 pub data Outcome : Type 0 where
@@ -38,26 +30,26 @@ abbrev pub refused_by : Refusal → Outcome
 refused_by x = refused (reason_number x.reason) x.place
 
 -- partner and drift
-abbrev pub of_position : PositionAnswer → Outcome
-of_position (position.Lifted q d) = lifted q d
-of_position (position.Refused x) = refused_by x
+abbrev pub of_position : Result (ℕ × ℤ) Refusal → Outcome
+of_position (Ok (q, d)) = lifted q d
+of_position (Err x) = refused_by x
 
-abbrev pub of_region : RegionAnswer → Outcome
-of_region (region.Lifted r) = lifted_region r.kept r.dropped r.start r.end
-of_region (region.Refused x) = refused_by x
+abbrev pub of_region : Result Region Refusal → Outcome
+of_region (Ok r) = lifted_region r.kept r.dropped r.start r.end
+of_region (Err x) = refused_by x
 
 -- the standard text of a turned chain, its names being parts of the text that the chain was read from
-abbrev pub of_turn : List ℕ → List Row → TurnAnswer → Outcome
-of_turn s rows (turn.Turned d) = bytes (chain_text d (part_bytes s d.tName) (part_bytes s d.qName) (targets_of rows) (queries_of rows) (sizes_of rows))
-of_turn s rows (turn.Refused x) = refused_by x
+abbrev pub of_turn : List ℕ → List Row → Result Chain Refusal → Outcome
+of_turn s rows (Ok d) = bytes (chain_text d (part_bytes s d.tName) (part_bytes s d.qName) (targets_of rows) (queries_of rows) (sizes_of rows))
+of_turn s rows (Err x) = refused_by x
 
-abbrev pub of_psl : PslAnswer → Outcome
-of_psl (psl.Accepted r) = accepted
-of_psl (psl.Refused x) = refused_by x
+abbrev pub of_psl : Result Psl Refusal → Outcome
+of_psl (Ok r) = accepted
+of_psl (Err x) = refused_by x
 
-abbrev pub of_chain : ChainAnswer → (Chain → Outcome) → Outcome
-of_chain (chain.Accepted c) rest = rest c
-of_chain (chain.Refused x) rest = refused_by x
+abbrev pub of_chain : Result Chain Refusal → (Chain → Outcome) → Outcome
+of_chain (Ok c) rest = rest c
+of_chain (Err x) rest = refused_by x
 
 -- a sample: a text and what is asked of it
 pub data Asked : Type 0 where

@@ -6,7 +6,6 @@ use native.Mathlib.Omega.{arith}
 use lib.ListN.{length}
 use borrow.Author.Tests.{le-leb, lt-leb}
 use Rattle.ledger.specs.declared.Refusal.{Refusal}
-use Rattle.text.specs.declared.Check.TheVariants as check
 use Rattle.writing.specs.Puts.{Put}
 use Rattle.binary.specs.Bytes.{word_size}
 use Rattle.binary.proofs.BackLaws.{words_length}
@@ -17,6 +16,7 @@ use Rattle.region.proofs.ByteLaws.{refused_none}
 use Rattle.answers.specs.Answers.{told, refusal_code}
 use Rattle.answers.proofs.AnswerLaws.{refused_is, put_front}
 use Rattle.entries.specs.Entries.{tally_in, tally_bytes, batch_lifted, tally_kept, tally_after, BatchTold}
+use Rattle.std.specs.Prelude.{Ok, Err}
 
 -- the tally
 module _ (t : Tally) (b : List ℕ) where
@@ -33,15 +33,15 @@ module _ (t : Tally) (b : List ℕ) where
 
 -- the ways out
 module _ (s regions lent b b' : List ℕ) (t : Tally) (et : t ≡ tally_in lent) (d : Batched) (done : TextBatch s t regions b b' d) where
-  pub batch_refused : (x : Refusal) (r : ℕ) → d.check ≡ check.Refused x → r ≡ refusal_code x → BatchTold s regions lent lent b b' r
+  pub batch_refused : (x : Refusal) (r : ℕ) → d.check ≡ Err x → r ≡ refusal_code x → BatchTold s regions lent lent b b' r
   unfolding batch_lifted tally_after answer_rows rows_bytes
   batch_refused x r e q =
-      let k : text_batch_check s regions (length b) ≡ check.Refused x = sym done.check ∙ e in
+      let k : text_batch_check s regions (length b) ≡ Err x = sym done.check ∙ e in
       let same : b' ≡ b = rw (refused_none s regions (length b) x k) at done.answers in
       record { rows_told = rw (k, same) (refused_is x b r q); tally_left = rw k }
 
-  pub batch_told : (lent' : List ℕ) (r : ℕ) → d.check ≡ check.Holds → lent' ≡ tally_kept d.tally lent → r ≡ told (length regions / region_size) → BatchTold s regions lent lent' b b' r
+  pub batch_told : (lent' : List ℕ) (r : ℕ) → d.check ≡ (Ok tt) → lent' ≡ tally_kept d.tally lent → r ≡ told (length regions / region_size) → BatchTold s regions lent lent' b b' r
   unfolding batch_lifted tally_after
   batch_told lent' r e f q =
-      let k : text_batch_check s regions (length b) ≡ check.Holds = sym done.check ∙ e in
+      let k : text_batch_check s regions (length b) ≡ (Ok tt) = sym done.check ∙ e in
       record { rows_told = rw (k, ← et) (record { is = q; left = done.answers }); tally_left = rw (k, ← et) (f ∙ ap (λ (u : Tally). tally_kept u lent) done.tally) }

@@ -11,8 +11,6 @@ use Rattle.blocks.specs.Rows.{table_of}
 use Rattle.blocks.proofs.TableLaws.{table_take}
 use Rattle.rows.proofs.ReaderLaws.{read_of}
 use Rattle.bed.specs.declared.Bed.{Bed}
-use Rattle.bed.specs.declared.BedAnswer.{BedAnswer}
-use Rattle.bed.specs.declared.BedAnswer.TheVariants as bed
 use Rattle.bed.specs.Records.{bed_targets, bed_queries, bed_sizes, bed_rows}
 use Rattle.blocks.specs.Readers.{rows_after}
 use Rattle.bed.specs.Read.{on_answer, bed_check, BedRead}
@@ -24,6 +22,8 @@ use Rattle.answers.specs.Answers.{Answered, recorded, no_room_at}
 use Rattle.entries.specs.Records.{bed_numbers}
 use Rattle.entries.specs.Entries.{parsed_bed, copied, bed_written, formatted_bed}
 use Rattle.entries.proofs.StageLaws.{front}
+use Rattle.std.specs.Prelude.{Ok, Result}
+use Rattle.ledger.specs.declared.Refusal.{Refusal}
 
 -- FORMAT: the text itself
 standard_formatted : (s : List ℕ) → Standard s → (room : ℕ) → formatted_bed s room ≡ copied s room
@@ -37,17 +37,17 @@ pub format_copied : (s b b' : List ℕ) (t : Bool) (code : ℕ) → (t ≡ true 
 format_copied s b b' t code f q g = rw (standard_formatted s (f q) (length b)) g
 
 -- PARSE: what is accepted with room for few blocks
-module _ (s b₁ ts b₂ qs b₃ zs b : List ℕ) (x : BedAnswer) (f : BedRead s b₁ ts b₂ qs b₃ zs x) (a : Bed) (e : x ≡ bed.Accepted a) where
-  accepted : bed_check s ≡ bed.Accepted a
+module _ (s b₁ ts b₂ qs b₃ zs b : List ℕ) (x : Result Bed Refusal) (f : BedRead s b₁ ts b₂ qs b₃ zs x) (a : Bed) (e : x ≡ Ok a) where
+  accepted : bed_check s ≡ Ok a
   accepted = (read_of (bed_reads s) (rows_of b₁ b₂ b₃) a (sym f.is ∙ e)).0
 
   first_rows : take a.blockCount (table_of ts qs zs) ≡ bed_rows s a
   first_rows =
       let n = a.blockCount in
       let room = (read_of (bed_reads s) (rows_of b₁ b₂ b₃) a (sym f.is ∙ e)).1 in
-      let et : ts ≡ sets b₁ 0 (bed_targets s a) = f.targets ∙ ap (λ (y : BedAnswer). rows_after on_answer y (bed_targets s) b₁) e in
-      let eq : qs ≡ sets b₂ 0 (bed_queries s a) = f.queries ∙ ap (λ (y : BedAnswer). rows_after on_answer y (bed_queries s) b₂) e in
-      let ez : zs ≡ sets b₃ 0 (bed_sizes s a) = f.sizes ∙ ap (λ (y : BedAnswer). rows_after on_answer y (bed_sizes s) b₃) e in
+      let et : ts ≡ sets b₁ 0 (bed_targets s a) = f.targets ∙ ap (λ (y : Result Bed Refusal). rows_after on_answer y (bed_targets s) b₁) e in
+      let eq : qs ≡ sets b₂ 0 (bed_queries s a) = f.queries ∙ ap (λ (y : Result Bed Refusal). rows_after on_answer y (bed_queries s) b₂) e in
+      let ez : zs ≡ sets b₃ 0 (bed_sizes s a) = f.sizes ∙ ap (λ (y : Result Bed Refusal). rows_after on_answer y (bed_sizes s) b₃) e in
       let t : take n ts ≡ bed_targets s a = rw et (front n (bed_targets s a) b₁ ((bed_reads s).targets a accepted) (omega arith)) in
       let q : take n qs ≡ bed_queries s a = rw eq (front n (bed_queries s a) b₂ ((bed_reads s).queries a accepted) (omega arith)) in
       let z : take n zs ≡ bed_sizes s a = rw ez (front n (bed_sizes s a) b₃ ((bed_reads s).sizes a accepted) (omega arith)) in

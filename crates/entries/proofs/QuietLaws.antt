@@ -9,49 +9,32 @@ use borrow.Author.Tests.{eqb-true}
 use Rattle.ledger.specs.Refusals.{without_text}
 use Rattle.ledger.specs.declared.Reason.TheVariants.{BadWord, NoRoom, NoPair}
 use Rattle.ledger.specs.declared.Refusal.{Refusal}
-use Rattle.text.specs.declared.Check.{Check}
-use Rattle.text.specs.declared.Check.TheVariants as check
 use Rattle.ledger.specs.Limits.{block_limit}
 use Rattle.ledger.specs.Reasons.{reason_number}
-use Rattle.writing.specs.declared.Writing.{Writing}
-use Rattle.writing.specs.declared.Writing.TheVariants as writing
 use Rattle.bed.specs.declared.Bed.{Bed}
-use Rattle.bed.specs.declared.BedAnswer.{BedAnswer}
-use Rattle.bed.specs.declared.BedAnswer.TheVariants as bed
 use Rattle.bed.specs.Read.{bed_check}
 use Rattle.bed.specs.Write.{bed_write, bed_text}
 use Rattle.psl.specs.declared.Psl.{Psl}
-use Rattle.psl.specs.declared.PslAnswer.{PslAnswer}
-use Rattle.psl.specs.declared.PslAnswer.TheVariants as psl
 use Rattle.psl.specs.Read.{psl_check}
 use Rattle.psl.specs.Write.{psl_write, psl_text}
 use Rattle.chain.specs.declared.Chain.{Chain}
-use Rattle.chain.specs.declared.ChainAnswer.{ChainAnswer}
-use Rattle.chain.specs.declared.ChainAnswer.TheVariants as chain
 use Rattle.chain.specs.Records.{chain_rows}
 use Rattle.chain.specs.Read.{chain_check}
 use Rattle.chain.specs.Write.{chain_write, chain_text}
-use Rattle.number_line.specs.declared.NumbersAnswer.{NumbersAnswer}
-use Rattle.number_line.specs.declared.NumbersAnswer.TheVariants as number-line
 use Rattle.number_line.specs.Numbers.{numbers_in, numbers_check}
-use Rattle.lift.specs.declared.SpanAnswer.{SpanAnswer}
-use Rattle.lift.specs.declared.SpanAnswer.TheVariants as span
 use Rattle.lift.specs.Conversion.{converted}
-use Rattle.lift.specs.declared.PositionAnswer.{PositionAnswer}
-use Rattle.lift.specs.declared.PositionAnswer.TheVariants as position
 use Rattle.lift.specs.Positions.{lift_position}
-use Rattle.region.specs.declared.RegionAnswer.{RegionAnswer}
-use Rattle.region.specs.declared.RegionAnswer.TheVariants as region
 use Rattle.region.specs.declared.Tally.{Tally}
 use Rattle.region.specs.Regions.{lift_region}
 use Rattle.region.specs.Tallies.{tally_step}
 use Rattle.region.specs.Batches.{region_size, text_batch_check}
-use Rattle.turn.specs.declared.TurnAnswer.{TurnAnswer}
-use Rattle.turn.specs.declared.TurnAnswer.TheVariants as turn
 use Rattle.turn.specs.Turns as turns
 use Rattle.answers.specs.Answers.{Outcome, gives, refuses, Answered, refusal_code, roomed, numbered, recorded, no_room_at}
 use Rattle.answers.proofs.AnswerLaws.{accepted_reason, refused_reason}
 use Rattle.entries.specs.Entries.{by_kind, of_bed, of_psl, of_chain, of_numbers, of_span, of_position, of_region, of_turn, of_tallied, at_end, name_bytes, written, bed_written, psl_written, chain_written, parsed_bed, parsed_psl, parsed_chain, parsed, numbers_given, formatted_bed, formatted_psl, formatted_chain, formatted, converted_numbers, position_lifted, region_lifted, turn_written, turned_text, tally_in, tally_bytes, tallied, on_check, batch_lifted, tally_after, BatchTold, Refusing}
+use Rattle.std.specs.Prelude.{Ok, Err, Result, ⊤, ℤ}
+use Rattle.region.specs.declared.Region.{Region}
+use Rattle.lift.specs.declared.Span.{Span}
 
 -- an outcome that tells a refusal has no bytes
 record Quiet (o : Outcome) : Type 0 where
@@ -76,45 +59,45 @@ unfolding numbered
 quiet_numbered short room vs = quiet_roomed short room (length vs) _
 
 -- texts of the three formats, and what is asked of their records
-quiet_bed : (a : BedAnswer) (rest : Bed → Outcome) → ((r : Bed) → Quiet (rest r)) → Quiet (of_bed a rest)
-quiet_bed (bed.Accepted r) rest f = f r
-quiet_bed (bed.Refused x) rest f = quiet_refuses x
+quiet_bed : (a : Result Bed Refusal) (rest : Bed → Outcome) → ((r : Bed) → Quiet (rest r)) → Quiet (of_bed a rest)
+quiet_bed (Ok r) rest f = f r
+quiet_bed (Err x) rest f = quiet_refuses x
 
-quiet_psl : (a : PslAnswer) (rest : Psl → Outcome) → ((r : Psl) → Quiet (rest r)) → Quiet (of_psl a rest)
-quiet_psl (psl.Accepted r) rest f = f r
-quiet_psl (psl.Refused x) rest f = quiet_refuses x
+quiet_psl : (a : Result Psl Refusal) (rest : Psl → Outcome) → ((r : Psl) → Quiet (rest r)) → Quiet (of_psl a rest)
+quiet_psl (Ok r) rest f = f r
+quiet_psl (Err x) rest f = quiet_refuses x
 
-quiet_chain : (a : ChainAnswer) (rest : Chain → Outcome) → ((r : Chain) → Quiet (rest r)) → Quiet (of_chain a rest)
-quiet_chain (chain.Accepted r) rest f = f r
-quiet_chain (chain.Refused x) rest f = quiet_refuses x
+quiet_chain : (a : Result Chain Refusal) (rest : Chain → Outcome) → ((r : Chain) → Quiet (rest r)) → Quiet (of_chain a rest)
+quiet_chain (Ok r) rest f = f r
+quiet_chain (Err x) rest f = quiet_refuses x
 
-quiet_listed : (a : NumbersAnswer) (rest : Outcome) → Quiet rest → Quiet (of_numbers a rest)
-quiet_listed (number-line.Accepted n) rest q = q
-quiet_listed (number-line.Refused x) rest q = quiet_refuses x
+quiet_listed : (a : Result ℕ Refusal) (rest : Outcome) → Quiet rest → Quiet (of_numbers a rest)
+quiet_listed (Ok n) rest q = q
+quiet_listed (Err x) rest q = quiet_refuses x
 
 quiet_kind : (kind : ℕ) (x y z : Outcome) → Quiet x → Quiet y → Quiet z → Quiet (by_kind kind x y z)
 unfolding by_kind
 quiet_kind kind x y z p q r = quiet_pick (eqb kind 1) x _ p (quiet_pick (eqb kind 2) y _ q (quiet_pick (eqb kind 3) z _ r (quiet_refuses (without_text BadWord))))
 
-quiet_written : (end : ℕ) (w : Writing) (bytes : List ℕ) → Quiet (written end w bytes)
-quiet_written end (writing.Written n) bytes = quiet_gives n bytes
-quiet_written end (writing.Refused x) bytes = quiet_refuses (at_end end x)
+quiet_written : (end : ℕ) (w : Result ℕ Refusal) (bytes : List ℕ) → Quiet (written end w bytes)
+quiet_written end (Ok n) bytes = quiet_gives n bytes
+quiet_written end (Err x) bytes = quiet_refuses (at_end end x)
 
-quiet_position : (a : PositionAnswer) (end room : ℕ) → Quiet (of_position a end room)
-quiet_position (position.Lifted q d) end room = quiet_numbered (no_room_at end) room _
-quiet_position (position.Refused x) end room = quiet_refuses x
+quiet_position : (a : Result (ℕ × ℤ) Refusal) (end room : ℕ) → Quiet (of_position a end room)
+quiet_position (Ok (q, d)) end room = quiet_numbered (no_room_at end) room _
+quiet_position (Err x) end room = quiet_refuses x
 
-quiet_region : (a : RegionAnswer) (end room : ℕ) → Quiet (of_region a end room)
-quiet_region (region.Lifted x) end room = quiet_numbered (no_room_at end) room _
-quiet_region (region.Refused x) end room = quiet_refuses x
+quiet_region : (a : Result Region Refusal) (end room : ℕ) → Quiet (of_region a end room)
+quiet_region (Ok x) end room = quiet_numbered (no_room_at end) room _
+quiet_region (Err x) end room = quiet_refuses x
 
-quiet_turn : (a : TurnAnswer) (rest : Chain → Outcome) → ((r : Chain) → Quiet (rest r)) → Quiet (of_turn a rest)
-quiet_turn (turn.Turned d) rest f = f d
-quiet_turn (turn.Refused x) rest f = quiet_refuses x
+quiet_turn : (a : Result Chain Refusal) (rest : Chain → Outcome) → ((r : Chain) → Quiet (rest r)) → Quiet (of_turn a rest)
+quiet_turn (Ok d) rest f = f d
+quiet_turn (Err x) rest f = quiet_refuses x
 
-quiet_span : (a : SpanAnswer) (room : ℕ) → Quiet (of_span a (λ x. numbered (without_text NoRoom) room (x.start ∷ x.end ∷ [])))
-quiet_span (span.Converted x) room = quiet_numbered (without_text NoRoom) room _
-quiet_span (span.Refused x) room = quiet_refuses x
+quiet_span : (a : Result Span Refusal) (room : ℕ) → Quiet (of_span a (λ x. numbered (without_text NoRoom) room (x.start ∷ x.end ∷ [])))
+quiet_span (Ok x) room = quiet_numbered (without_text NoRoom) room _
+quiet_span (Err x) room = quiet_refuses x
 
 -- the entries
 quiet_parsed : (kind : ℕ) (s : List ℕ) (room : ℕ) → Quiet (parsed kind s room)
@@ -182,17 +165,17 @@ module _ (b b' : List ℕ) (r : ℕ) where
 record Still (o : Outcome) : Type 0 where
   none : Refusing o.answer → (o.answer % 16 ≡ reason_number NoPair → ⊥) → o.bytes ≡ []
 
-still_tallied : (a : RegionAnswer) (t : Tally) → Still (of_tallied a t)
-still_tallied (region.Lifted x) t = record { none = λ h k. absurd (h (accepted_reason x.kept)) }
-still_tallied (region.Refused x) t = go (eqb (reason_number x.reason) (reason_number NoPair)) refl
+still_tallied : (a : Result Region Refusal) (t : Tally) → Still (of_tallied a t)
+still_tallied (Ok x) t = record { none = λ h k. absurd (h (accepted_reason x.kept)) }
+still_tallied (Err x) t = go (eqb (reason_number x.reason) (reason_number NoPair)) refl
   where
     go : (u : Bool) → eqb (reason_number x.reason) (reason_number NoPair) ≡ u → Still (cond u (record { answer = refusal_code x; bytes = tally_bytes t }) (refuses x))
     go true e = record { none = λ h k. absurd (k (refused_reason x ∙ eqb-true (reason_number x.reason) (reason_number NoPair) e)) }
     go false e = record { none = λ h k. refl }
 
-still_chain : (a : ChainAnswer) (rest : Chain → Outcome) → ((r : Chain) → Still (rest r)) → Still (of_chain a rest)
-still_chain (chain.Accepted r) rest f = f r
-still_chain (chain.Refused x) rest f = record { none = λ h k. refl }
+still_chain : (a : Result Chain Refusal) (rest : Chain → Outcome) → ((r : Chain) → Still (rest r)) → Still (of_chain a rest)
+still_chain (Ok r) rest f = f r
+still_chain (Err x) rest f = record { none = λ h k. refl }
 
 pub tally_left : (s : List ℕ) (start end : ℕ) (b b' : List ℕ) (r : ℕ) → Answered (tallied s start end b) b b' r → Refusing r → (r % 16 ≡ reason_number NoPair → ⊥) → b' ≡ b
 unfolding tallied
@@ -201,13 +184,13 @@ tally_left s start end b b' r h k l =
     left _ b b' r h (q.none (λ e. k (ap (λ (n : ℕ). n % 16) h.is ∙ e)) (λ e. l (ap (λ (n : ℕ). n % 16) h.is ∙ e)))
 
 -- a batch: rows and tally
-quiet_check : (x : Check) (o : Outcome) → Quiet o → Quiet (on_check x refuses o)
-quiet_check check.Holds o q = q
-quiet_check (check.Refused x) o q = quiet_refuses x
+quiet_check : (x : Result ⊤ Refusal) (o : Outcome) → Quiet o → Quiet (on_check x refuses o)
+quiet_check (Ok tt) o q = q
+quiet_check (Err x) o q = quiet_refuses x
 
-still_batch : (x : Check) (count : ℕ) (bytes lent kept : List ℕ) → Refusing (on_check x refuses (gives count bytes)).answer → on_check x (λ _. lent) kept ≡ lent
-still_batch check.Holds count bytes lent kept h = absurd (h (accepted_reason count))
-still_batch (check.Refused x) count bytes lent kept h = refl
+still_batch : (x : Result ⊤ Refusal) (count : ℕ) (bytes lent kept : List ℕ) → Refusing (on_check x refuses (gives count bytes)).answer → on_check x (λ _. lent) kept ≡ lent
+still_batch (Ok tt) count bytes lent kept h = absurd (h (accepted_reason count))
+still_batch (Err x) count bytes lent kept h = refl
 
 pub batch_left : (s regions lent lent' b b' : List ℕ) (r : ℕ) → BatchTold s regions lent lent' b b' r → Refusing r → (b' ≡ b) × (lent' ≡ lent)
 unfolding batch_lifted tally_after

@@ -10,23 +10,23 @@ use Rattle.ledger.specs.declared.Refusal.{Refusal}
 use Rattle.blocks.specs.Readers.{rows_after}
 use Rattle.blocks.specs.Blocks.{rows_of}
 use Rattle.rows.proofs.ReaderLaws.{Reads}
-use Rattle.bed.specs.declared.BedAnswer.{BedAnswer}
 use Rattle.bed.specs.Records.{bed_targets, bed_queries, bed_sizes}
 use Rattle.bed.specs.Read.{BedRead}
 use Rattle.bed.specs.Read as bed-read
 use Rattle.table_bed.proofs.RowLaws.{bed_reads}
 use Rattle.psl.specs.declared.Psl.{Psl}
-use Rattle.psl.specs.declared.PslAnswer.{PslAnswer}
 use Rattle.psl.specs.Records.{psl_targets, psl_queries, psl_sizes}
 use Rattle.psl.specs.Read.{PslRead}
 use Rattle.psl.specs.Read as psl-read
 use Rattle.table_psl.proofs.RowLaws.{psl_reads}
-use Rattle.chain.specs.declared.ChainAnswer.{ChainAnswer}
 use Rattle.chain.specs.Records.{chain_targets, chain_queries, chain_sizes}
 use Rattle.chain.specs.Read.{ChainRead}
 use Rattle.chain.specs.Read as chain-read
 use Rattle.table_chain.proofs.RowLaws.{chain_reads}
 use Rattle.entries.specs.Records.{Staging, Held, BedStaged, PslStaged, ChainStaged}
+use Rattle.std.specs.Prelude.{Result}
+use Rattle.bed.specs.declared.Bed.{Bed}
+use Rattle.chain.specs.declared.Chain.{Chain}
 
 -- what was stored at the front stands there
 pub front : (n : ℕ) (xs b : List ℕ) → length xs ≡ n → n ≤ length b → take n (sets b 0 xs) ≡ xs
@@ -73,31 +73,31 @@ module _ {R A : Type 0} {acc : R → A} {ref : Refusal → A} {blocks : R → �
       (held_front b₁ b₂ b₃ st (blocks r) (xs r) (ys r) (ws r) (record { few = f.few r ok; targets = f.targets r ok; queries = f.queries r ok; sizes = f.sizes r ok }))
 
 module _ (s b₁ ts b₂ qs b₃ zs : List ℕ) (st : Staging b₁ b₂ b₃) where
-  pub bed_staged : (x : BedAnswer) → BedRead s b₁ ts b₂ qs b₃ zs x → BedStaged s ts qs zs x
+  pub bed_staged : (x : Result Bed Refusal) → BedRead s b₁ ts b₂ qs b₃ zs x → BedStaged s ts qs zs x
   bed_staged x f = record {
     is = staged_is (bed_reads s) b₁ b₂ b₃ st x f.is;
     held = λ r e. staged_held (bed_reads s) b₁ b₂ b₃ st x f.is ts qs zs r e
-        (f.targets ∙ ap (λ (y : BedAnswer). rows_after bed-read.on_answer y (bed_targets s) b₁) e)
-        (f.queries ∙ ap (λ (y : BedAnswer). rows_after bed-read.on_answer y (bed_queries s) b₂) e)
-        (f.sizes ∙ ap (λ (y : BedAnswer). rows_after bed-read.on_answer y (bed_sizes s) b₃) e);
+        (f.targets ∙ ap (λ (y : Result Bed Refusal). rows_after bed-read.on_answer y (bed_targets s) b₁) e)
+        (f.queries ∙ ap (λ (y : Result Bed Refusal). rows_after bed-read.on_answer y (bed_queries s) b₂) e)
+        (f.sizes ∙ ap (λ (y : Result Bed Refusal). rows_after bed-read.on_answer y (bed_sizes s) b₃) e);
   }
 
-  pub psl_staged : (x : PslAnswer) → PslRead s b₁ ts b₂ qs b₃ zs x → PslStaged s ts qs zs x
+  pub psl_staged : (x : Result Psl Refusal) → PslRead s b₁ ts b₂ qs b₃ zs x → PslStaged s ts qs zs x
   psl_staged x f = record {
     is = staged_is (psl_reads s) b₁ b₂ b₃ st x f.is;
     held = λ r e. staged_held (psl_reads s) b₁ b₂ b₃ st x f.is ts qs zs r e
-        (f.targets ∙ ap (λ (y : PslAnswer). rows_after psl-read.on_answer y (λ (r : Psl). psl_targets s) b₁) e)
-        (f.queries ∙ ap (λ (y : PslAnswer). rows_after psl-read.on_answer y (λ (r : Psl). psl_queries s) b₂) e)
-        (f.sizes ∙ ap (λ (y : PslAnswer). rows_after psl-read.on_answer y (λ (r : Psl). psl_sizes s) b₃) e);
+        (f.targets ∙ ap (λ (y : Result Psl Refusal). rows_after psl-read.on_answer y (λ (r : Psl). psl_targets s) b₁) e)
+        (f.queries ∙ ap (λ (y : Result Psl Refusal). rows_after psl-read.on_answer y (λ (r : Psl). psl_queries s) b₂) e)
+        (f.sizes ∙ ap (λ (y : Result Psl Refusal). rows_after psl-read.on_answer y (λ (r : Psl). psl_sizes s) b₃) e);
   }
 
-  pub chain_staged : (x : ChainAnswer) → ChainRead s b₁ ts b₂ qs b₃ zs x → ChainStaged s ts qs zs x
+  pub chain_staged : (x : Result Chain Refusal) → ChainRead s b₁ ts b₂ qs b₃ zs x → ChainStaged s ts qs zs x
   chain_staged x f = record {
     is = staged_is (chain_reads s) b₁ b₂ b₃ st x f.is;
     held = λ r e. staged_held (chain_reads s) b₁ b₂ b₃ st x f.is ts qs zs r e
-        (f.targets ∙ ap (λ (y : ChainAnswer). rows_after chain-read.on_answer y (chain_targets s) b₁) e)
-        (f.queries ∙ ap (λ (y : ChainAnswer). rows_after chain-read.on_answer y (chain_queries s) b₂) e)
-        (f.sizes ∙ ap (λ (y : ChainAnswer). rows_after chain-read.on_answer y (chain_sizes s) b₃) e);
+        (f.targets ∙ ap (λ (y : Result Chain Refusal). rows_after chain-read.on_answer y (chain_targets s) b₁) e)
+        (f.queries ∙ ap (λ (y : Result Chain Refusal). rows_after chain-read.on_answer y (chain_queries s) b₂) e)
+        (f.sizes ∙ ap (λ (y : Result Chain Refusal). rows_after chain-read.on_answer y (chain_sizes s) b₃) e);
   }
 
 -- the working rooms of two readers as three parts
@@ -107,7 +107,7 @@ part_length l at e h = rw (length-take, length-drop) (omega arith)
 pub room_front : (l : List ℕ) → length l ≡ 3 * block_limit → length (take block_limit l) ≡ block_limit
 room_front l e = rw length-take (omega arith)
 
-pub chain_parts : (s rows rows' : List ℕ) (x : ChainAnswer) → chain-read.InRoom s rows rows' x → length rows ≡ 3 * block_limit
+pub chain_parts : (s rows rows' : List ℕ) (x : Result Chain Refusal) → chain-read.InRoom s rows rows' x → length rows ≡ 3 * block_limit
     → ChainStaged s (take block_limit rows') (take block_limit (drop block_limit rows')) (take block_limit (drop (2 * block_limit) rows')) x
 chain_parts s rows rows' x f l = record {
   is = f.is;
@@ -122,7 +122,7 @@ chain_parts s rows rows' x f l = record {
       };
 }
 
-pub psl_parts : (s lists lists' : List ℕ) (x : PslAnswer) → psl-read.InRoom s lists lists' x → length lists ≡ 3 * block_limit
+pub psl_parts : (s lists lists' : List ℕ) (x : Result Psl Refusal) → psl-read.InRoom s lists lists' x → length lists ≡ 3 * block_limit
     → PslStaged s (take block_limit (drop (2 * block_limit) lists')) (take block_limit (drop block_limit lists')) (take block_limit lists') x
 psl_parts s lists lists' x f l = record {
   is = f.is;

@@ -15,12 +15,8 @@ use Rattle.ledger.specs.declared.Reason.TheVariants.{BlockRules, CountsDisagree,
 use Rattle.ledger.specs.Reasons.{reason_number}
 use Rattle.blocks.specs.Rows.{table_of}
 use Rattle.chain.specs.declared.Chain.{Chain}
-use Rattle.chain.specs.declared.ChainAnswer.{ChainAnswer}
-use Rattle.chain.specs.declared.ChainAnswer.TheVariants as chain
 use Rattle.lift.specs.Accepted.{accepted}
 use Rattle.region.specs.declared.Region.{Region}
-use Rattle.region.specs.declared.RegionAnswer.{RegionAnswer}
-use Rattle.region.specs.declared.RegionAnswer.TheVariants as region
 use Rattle.region.specs.declared.Tally.{Tally}
 use Rattle.region.specs.declared.Tallied.{Tallied}
 use Rattle.region.specs.Regions.{not_lifted, inside}
@@ -33,6 +29,7 @@ use Rattle.entries.specs.Records.{ChainStaged}
 use Rattle.entries.specs.Entries.{bad_tally, tally_in, tally_bytes, of_tallied, tally_outcome, TallyRoom, tallied}
 use Rattle.answers.proofs.AnswerLaws.{refused_is, put_front}
 use Rattle.entries.proofs.EntryLaws.{chain_accepted}
+use Rattle.std.specs.Prelude.{Ok, Err, Result}
 
 -- reading it
 pub tally_short : (s : List ℕ) → length s < 3 * word_size → bad_tally ≡ tally_in s
@@ -45,16 +42,16 @@ unfolding tally_in
 tally_read s a k d h e f g = rw (le-leb (3 * word_size) (length s) h, e, f, g)
 
 -- writing it where the region was lifted or has no pair
-module _ (answer : RegionAnswer) (t : Tally) (b : List ℕ) (room : TallyRoom answer b) where
+module _ (answer : Result Region Refusal) (t : Tally) (b : List ℕ) (room : TallyRoom answer b) where
   three : length (tally_bytes t) ≡ 3 * word_size
   three = words_length (t.asked ∷ t.kept ∷ t.dropped ∷ [])
 
-  pub tally_lifted : (x : Region) (b' : List ℕ) (p r : ℕ) → answer ≡ region.Lifted x → Put (tally_bytes t) 0 b b' p → r ≡ told x.kept → Answered (of_tallied answer t) b b' r
+  pub tally_lifted : (x : Region) (b' : List ℕ) (p r : ℕ) → answer ≡ Ok x → Put (tally_bytes t) 0 b b' p → r ≡ told x.kept → Answered (of_tallied answer t) b b' r
   tally_lifted x b' p r e f q =
       let l : length (tally_bytes t) ≤ length b = omega (arith, three, room.lifted x e) in
       rw e (record { is = q; left = put_front (tally_bytes t) b b' l f.stored })
 
-  module _ (x : Refusal) (e : answer ≡ region.Refused x) (m n : ℕ) (is : m ≡ reason_number x.reason) (none : n ≡ reason_number NoPair) where
+  module _ (x : Refusal) (e : answer ≡ Err x) (m n : ℕ) (is : m ≡ reason_number x.reason) (none : n ≡ reason_number NoPair) where
     pub tally_alone : (b' : List ℕ) (p r : ℕ) → m ≡ n → Put (tally_bytes t) 0 b b' p → r ≡ refusal_code x → Answered (of_tallied answer t) b b' r
     tally_alone b' p r k f q =
         let j : reason_number x.reason ≡ reason_number NoPair = sym is ∙ k ∙ none in
@@ -72,7 +69,7 @@ never why s n = record {
 
 -- a bad tally is refused, by 9, 13 or 10
 module _ (c : Chain) (rows : List Row) (start end : ℕ) where
-  bad_answer : (P : RegionAnswer → Type 0) → P (not_lifted BlockRules) → P (not_lifted OutsideTarget) → P (not_lifted CountsDisagree) → P (tally_step bad_tally c rows start end).answer
+  bad_answer : (P : Result Region Refusal → Type 0) → P (not_lifted BlockRules) → P (not_lifted OutsideTarget) → P (not_lifted CountsDisagree) → P (tally_step bad_tally c rows start end).answer
   unfolding tally_step good_tally
   bad_answer P f g h = go (accepted c rows) (inside c start end)
     where
@@ -83,7 +80,7 @@ module _ (c : Chain) (rows : List Row) (start end : ℕ) where
 
   bad_room : (s : List ℕ) → TallyRoom (tally_step bad_tally c rows start end).answer s
   bad_room s =
-      bad_answer (λ (x : RegionAnswer). TallyRoom x s) (never BlockRules s (λ e. omega arith)) (never OutsideTarget s (λ e. omega arith)) (never CountsDisagree s (λ e. omega arith))
+      bad_answer (λ (x : Result Region Refusal). TallyRoom x s) (never BlockRules s (λ e. omega arith)) (never OutsideTarget s (λ e. omega arith)) (never CountsDisagree s (λ e. omega arith))
 
 -- where the tally is written it was read from three numbers
 pub tally_room : (done : Tallied) (before : Tally) (s : List ℕ) (c : Chain) (rows : List Row) (start end : ℕ) → before ≡ tally_in s → done ≡ tally_step before c rows start end
@@ -100,7 +97,7 @@ pub tally_step_lem : (done : Tallied) (before : Tally) (b b' : List ℕ) (c : Ch
     → Answered (of_tallied done.answer done.tally) b b' r → Answered (tally_outcome (tally_step (tally_in b) c rows start end)) b b' r
 tally_step_lem done before b b' c rows start end r f g h = rw (← f, ← g) h
 
-pub tally_answered : (s ts qs zs b : List ℕ) (x : ChainAnswer) → ChainStaged s ts qs zs x → (a : Chain) → x ≡ chain.Accepted a → (b' : List ℕ) (r start end : ℕ)
+pub tally_answered : (s ts qs zs b : List ℕ) (x : Result Chain Refusal) → ChainStaged s ts qs zs x → (a : Chain) → x ≡ Ok a → (b' : List ℕ) (r start end : ℕ)
     → Answered (tally_outcome (tally_step (tally_in b) a (table_of (take a.blockCount ts) (take a.blockCount qs) (take a.blockCount zs)) start end)) b b' r → Answered (tallied s start end b) b b' r
 unfolding tallied
 tally_answered s ts qs zs b x f a e b' r start end g = chain_accepted s ts qs zs b x f (λ c l. tally_outcome (tally_step (tally_in b) c l start end)) a b' r e g

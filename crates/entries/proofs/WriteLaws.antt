@@ -12,11 +12,6 @@ use Rattle.text.specs.declared.Class.TheVariants.{Line}
 use Rattle.text.specs.Scan.{run, end_of}
 use Rattle.text.specs.Words.{line_end, LineEnd}
 use Rattle.text.specs.Pieces.{line_of}
-use Rattle.text.specs.declared.Check.{Check}
-use Rattle.text.specs.declared.Check.TheVariants.{Holds}
-use Rattle.text.specs.declared.Check.TheVariants as check
-use Rattle.writing.specs.declared.Writing.{Writing}
-use Rattle.writing.specs.declared.Writing.TheVariants as writing
 use Rattle.writing.specs.Answers.{room_answer, left_after, Wrote}
 use Rattle.writing.proofs.PutLaws.{room_granted}
 use Rattle.bed.specs.declared.Bed.{Bed}
@@ -28,6 +23,7 @@ use Rattle.chain.specs.declared.Chain.{Chain}
 use Rattle.chain.specs.Write as chain-write
 use Rattle.answers.specs.Answers.{told, refusal_code, no_room_at, Answered}
 use Rattle.entries.specs.Entries.{at_end, written, copied, name_bytes, bed_written, psl_written, chain_written}
+use Rattle.std.specs.Prelude.{Ok, Err, Result, ⊤}
 
 -- the place of a writer's refusal
 module _ (end : ℕ) (x : Refusal) (r m n : ℕ) (is : m ≡ reason_number x.reason) (room : n ≡ reason_number NoRoom) where
@@ -38,36 +34,36 @@ module _ (end : ℕ) (x : Refusal) (r m n : ℕ) (is : m ≡ reason_number x.rea
   not_moved f q = rw (ne_eqb (reason_number x.reason) (reason_number NoRoom) (λ e. f (is ∙ e ∙ sym room))) q
 
 -- the code of a writer's answer, whatever its text is
-pub code_written : (end n r : ℕ) (w : Writing) → w ≡ writing.Written n → r ≡ told n → (bytes : List ℕ) → r ≡ (written end w bytes).answer
+pub code_written : (end n r : ℕ) (w : Result ℕ Refusal) → w ≡ Ok n → r ≡ told n → (bytes : List ℕ) → r ≡ (written end w bytes).answer
 code_written end n r w e q bytes = rw e q
 
-pub code_refused : (end r : ℕ) (x : Refusal) (w : Writing) → w ≡ writing.Refused x → r ≡ refusal_code (at_end end x) → (bytes : List ℕ) → r ≡ (written end w bytes).answer
+pub code_refused : (end r : ℕ) (x : Refusal) (w : Result ℕ Refusal) → w ≡ Err x → r ≡ refusal_code (at_end end x) → (bytes : List ℕ) → r ≡ (written end w bytes).answer
 code_refused end r x w e q bytes = rw e q
 
 -- a writer's answer is its checks', then that of the text's length and the room
-module _ (then_write : Check → Writing → Writing) (goes : (w : Writing) → then_write Holds w ≡ w) (stops : (x : Refusal) (w : Writing) → then_write (check.Refused x) w ≡ writing.Refused x) where
-  full_length : (k : Check) (n room m : ℕ) → then_write k (room_answer n room) ≡ writing.Written m → n ≡ m
-  full_length Holds n room m e = (room_granted n room m (sym (goes (room_answer n room)) ∙ e)).2
-  full_length (check.Refused x) n room m e = let z = sym (stops x (room_answer n room)) ∙ e in absurd (let o : ◌≡◌ {A = ℕ} 0 1 = cc in omega arith)
+module _ (then_write : Result ⊤ Refusal → Result ℕ Refusal → Result ℕ Refusal) (goes : (w : Result ℕ Refusal) → then_write (Ok tt) w ≡ w) (stops : (x : Refusal) (w : Result ℕ Refusal) → then_write (Err x) w ≡ Err x) where
+  full_length : (k : Result ⊤ Refusal) (n room m : ℕ) → then_write k (room_answer n room) ≡ Ok m → n ≡ m
+  full_length (Ok tt) n room m e = (room_granted n room m (sym (goes (room_answer n room)) ∙ e)).2
+  full_length (Err x) n room m e = let z = sym (stops x (room_answer n room)) ∙ e in absurd (let o : ◌≡◌ {A = ℕ} 0 1 = cc in omega arith)
 
-  writes : (k : Check) (end : ℕ) (bytes b b' : List ℕ) (w : Writing) (r : ℕ) → w ≡ then_write k (room_answer (length bytes) (length b)) → b' ≡ left_after w bytes b
+  writes : (k : Result ⊤ Refusal) (end : ℕ) (bytes b b' : List ℕ) (w : Result ℕ Refusal) (r : ℕ) → w ≡ then_write k (room_answer (length bytes) (length b)) → b' ≡ left_after w bytes b
       → r ≡ (written end w bytes).answer → Answered (written end w bytes) b b' r
-  writes k end bytes b b' (writing.Written n) r e l q = let f : length bytes ≡ n = full_length k (length bytes) (length b) n (sym e) in record { is = q; left = rw f l }
-  writes k end bytes b b' (writing.Refused x) r e l q = record { is = q; left = l }
+  writes k end bytes b b' (Ok n) r e l q = let f : length bytes ≡ n = full_length k (length bytes) (length b) n (sym e) in record { is = q; left = rw f l }
+  writes k end bytes b b' (Err x) r e l q = record { is = q; left = l }
 
 -- a text's line as it stands, and a feed
 pub line_part : (s : List ℕ) (e : ℕ) → LineEnd s 0 e → e ≡ length (take e s)
 line_part s e h = rw length-take (omega (arith, h.high))
 
-pub line_copied : (s b b' : List ℕ) (e : ℕ) (w : Writing) (code : ℕ) → LineEnd s 0 e → Wrote (take e s ++ (10 ∷ [])) b b' w → ((bytes : List ℕ) → code ≡ (written (length s) w bytes).answer) → Answered (copied s (length b)) b b' code
+pub line_copied : (s b b' : List ℕ) (e : ℕ) (w : Result ℕ Refusal) (code : ℕ) → LineEnd s 0 e → Wrote (take e s ++ (10 ∷ [])) b b' w → ((bytes : List ℕ) → code ≡ (written (length s) w bytes).answer) → Answered (copied s (length b)) b b' code
 unfolding copied line_of line_end end_of
 line_copied s b b' e w code h g is =
     let q : e ≡ run Line s = omega (arith, h.is) in
     let g' : Wrote (take (run Line s) s ++ (10 ∷ [])) b b' w = rw q at g in
     let t = take (run Line s) s ++ (10 ∷ []) in
-    rw (← g'.is) (writes then_write (λ v. refl) (λ x v. refl) Holds (length s) t b b' w code g'.is g'.left (is t))
+    rw (← g'.is) (writes then_write (λ v. refl) (λ x v. refl) (Ok tt) (length s) t b b' w code g'.is g'.left (is t))
 
-module _ (s ts qs zs b b' : List ℕ) (w : Writing) (code : ℕ) (is : (bytes : List ℕ) → code ≡ (written (length s) w bytes).answer) where
+module _ (s ts qs zs b b' : List ℕ) (w : Result ℕ Refusal) (code : ℕ) (is : (bytes : List ℕ) → code ≡ (written (length s) w bytes).answer) where
   pub bed_written_lem : (r : Bed) (chrom name : List ℕ) → chrom ≡ name_bytes s r.chrom → name ≡ name_bytes s r.name → bed-write.BedWrote r chrom name ts qs zs b b' w
       → Answered (bed_written s r ts qs zs (length b)) b b' code
   unfolding bed_written bed-write.bed_write

@@ -1,5 +1,5 @@
 -- The entries of docs/DESK.md, each as a definition: what it answers and writes, for every input.
-use Rattle.std.specs.Prelude.{ℕ, suc, ◌-◌, ◌*◌, ◌/◌, ◌%◌, ◌≤◌, ◌≡◌, cond, List, [], ◌∷◌, ◌++◌, leb, eqb, length, drop, ℤ, pos, negsuc}
+use Rattle.std.specs.Prelude.{ℕ, suc, ◌-◌, ◌*◌, ◌/◌, ◌%◌, ◌≤◌, ◌≡◌, cond, List, [], ◌∷◌, ◌++◌, leb, eqb, length, drop, ℤ, pos, negsuc, Ok, Err, Result, ⊤}
 use Rattle.ledger.specs.Refusals.{without_text}
 use Rattle.ledger.specs.declared.Part.{Part}
 use Rattle.ledger.specs.declared.Reason.TheVariants.{BadWord, NoRoom, NoPair}
@@ -8,51 +8,31 @@ use Rattle.ledger.specs.declared.Row.{Row}
 use Rattle.ledger.specs.Limits.{block_limit, largest_number}
 use Rattle.ledger.specs.Reasons.{reason_number}
 use Rattle.blocks.specs.Rows.{targets_of, queries_of, sizes_of}
-use Rattle.text.specs.declared.Check.{Check}
-use Rattle.text.specs.declared.Check.TheVariants as check
 use Rattle.text.specs.Parts.{part_in, part_bytes}
 use Rattle.text.specs.Pieces.{line_of}
-use Rattle.writing.specs.declared.Writing.{Writing}
-use Rattle.writing.specs.declared.Writing.TheVariants as writing
 use Rattle.writing.specs.Answers.{room_answer}
 use Rattle.bed.specs.declared.Bed.{Bed}
-use Rattle.bed.specs.declared.BedAnswer.{BedAnswer}
-use Rattle.bed.specs.declared.BedAnswer.TheVariants as bed
 use Rattle.bed.specs.Records.{bed_targets, bed_queries, bed_sizes, bed_rows}
 use Rattle.bed.specs.Read.{bed_check}
 use Rattle.bed.specs.Write.{bed_write, bed_text}
 use Rattle.psl.specs.declared.Psl.{Psl}
-use Rattle.psl.specs.declared.PslAnswer.{PslAnswer}
-use Rattle.psl.specs.declared.PslAnswer.TheVariants as psl
 use Rattle.psl.specs.Records.{psl_targets, psl_queries, psl_sizes, psl_rows}
 use Rattle.psl.specs.Read.{psl_check}
 use Rattle.psl.specs.Write.{psl_write, psl_text}
 use Rattle.chain.specs.declared.Chain.{Chain}
-use Rattle.chain.specs.declared.ChainAnswer.{ChainAnswer}
-use Rattle.chain.specs.declared.ChainAnswer.TheVariants as chain
 use Rattle.chain.specs.Records.{chain_targets, chain_queries, chain_sizes, chain_rows}
 use Rattle.chain.specs.Read.{chain_check}
 use Rattle.chain.specs.Write.{chain_write, chain_text}
-use Rattle.number_line.specs.declared.NumbersAnswer.{NumbersAnswer}
-use Rattle.number_line.specs.declared.NumbersAnswer.TheVariants as number-line
 use Rattle.number_line.specs.Numbers.{numbers_in, numbers_check}
 use Rattle.lift.specs.declared.Span.{Span}
-use Rattle.lift.specs.declared.SpanAnswer.{SpanAnswer}
-use Rattle.lift.specs.declared.SpanAnswer.TheVariants as span
 use Rattle.lift.specs.Conversion.{converted}
-use Rattle.lift.specs.declared.PositionAnswer.{PositionAnswer}
-use Rattle.lift.specs.declared.PositionAnswer.TheVariants as position
 use Rattle.lift.specs.Positions.{lift_position}
 use Rattle.region.specs.declared.Region.{Region}
-use Rattle.region.specs.declared.RegionAnswer.{RegionAnswer}
-use Rattle.region.specs.declared.RegionAnswer.TheVariants as region
 use Rattle.region.specs.declared.Tally.{Tally}
 use Rattle.region.specs.declared.Tallied.{Tallied}
 use Rattle.region.specs.Regions.{lift_region}
 use Rattle.region.specs.Tallies.{tally_step, sent_through}
 use Rattle.region.specs.Batches.{answer_rows, region_size, rows_bytes, sent_text, text_batch_check}
-use Rattle.turn.specs.declared.TurnAnswer.{TurnAnswer}
-use Rattle.turn.specs.declared.TurnAnswer.TheVariants as turn
 use Rattle.turn.specs.Turns as turns
 use Rattle.binary.specs.Bytes.{word_size, words_bytes, low_at}
 use Rattle.answers.specs.Answers.{refusal_code, Outcome, Answered, gives, refuses, refuses_by, numbered, recorded, no_room_at}
@@ -63,17 +43,17 @@ unfoldable pub by_kind : ℕ → Outcome → Outcome → Outcome → Outcome
 by_kind kind bed psl chain = cond (eqb kind 1) bed (cond (eqb kind 2) psl (cond (eqb kind 3) chain (refuses_by BadWord)))
 
 -- an accepted text goes on with its record, any other is refused as its checker says
-abbrev pub of_bed : BedAnswer → (Bed → Outcome) → Outcome
-of_bed (bed.Accepted r) rest = rest r
-of_bed (bed.Refused x) rest = refuses x
+abbrev pub of_bed : Result Bed Refusal → (Bed → Outcome) → Outcome
+of_bed (Ok r) rest = rest r
+of_bed (Err x) rest = refuses x
 
-abbrev pub of_psl : PslAnswer → (Psl → Outcome) → Outcome
-of_psl (psl.Accepted r) rest = rest r
-of_psl (psl.Refused x) rest = refuses x
+abbrev pub of_psl : Result Psl Refusal → (Psl → Outcome) → Outcome
+of_psl (Ok r) rest = rest r
+of_psl (Err x) rest = refuses x
 
-abbrev pub of_chain : ChainAnswer → (Chain → Outcome) → Outcome
-of_chain (chain.Accepted r) rest = rest r
-of_chain (chain.Refused x) rest = refuses x
+abbrev pub of_chain : Result Chain Refusal → (Chain → Outcome) → Outcome
+of_chain (Ok r) rest = rest r
+of_chain (Err x) rest = refuses x
 
 -- CHECK: the number of blocks, and no byte is written
 unfoldable pub checked_bed : List ℕ → Outcome
@@ -102,17 +82,17 @@ unfoldable pub parsed : ℕ → List ℕ → ℕ → Outcome
 parsed kind s room = by_kind kind (parsed_bed s room) (parsed_psl s room) (parsed_chain s room)
 
 -- NUMBERS: those of a text of one line
-abbrev pub of_numbers : NumbersAnswer → Outcome → Outcome
-of_numbers (number-line.Accepted n) rest = rest
-of_numbers (number-line.Refused x) rest = refuses x
+abbrev pub of_numbers : Result ℕ Refusal → Outcome → Outcome
+of_numbers (Ok n) rest = rest
+of_numbers (Err x) rest = refuses x
 
 unfoldable pub numbers_given : List ℕ → ℕ → Outcome
 numbers_given s room = of_numbers (numbers_check s) (numbered (no_room_at (length s)) room (numbers_in s))
 
 -- CONVERT: a call without a text, so that every refusal is at place 0
-abbrev pub of_span : SpanAnswer → (Span → Outcome) → Outcome
-of_span (span.Converted x) rest = rest x
-of_span (span.Refused x) rest = refuses x
+abbrev pub of_span : Result Span Refusal → (Span → Outcome) → Outcome
+of_span (Ok x) rest = rest x
+of_span (Err x) rest = refuses x
 
 unfoldable pub converted_numbers : ℕ → ℕ → ℕ → ℕ → Outcome
 converted_numbers start end size room = of_span (converted start end size) (λ x. numbered (without_text NoRoom) room (x.start ∷ x.end ∷ []))
@@ -121,9 +101,9 @@ converted_numbers start end size room = of_span (converted start end size) (λ x
 abbrev pub at_end : ℕ → Refusal → Refusal
 at_end end x = cond (eqb (reason_number x.reason) (reason_number NoRoom)) (no_room_at end) x
 
-abbrev pub written : ℕ → Writing → List ℕ → Outcome
-written end (writing.Written n) bytes = gives n bytes
-written end (writing.Refused x) bytes = refuses (at_end end x)
+abbrev pub written : ℕ → Result ℕ Refusal → List ℕ → Outcome
+written end (Ok n) bytes = gives n bytes
+written end (Err x) bytes = refuses (at_end end x)
 
 -- a text's line as it stands, and a feed
 unfoldable pub copied : List ℕ → ℕ → Outcome
@@ -164,17 +144,17 @@ abbrev pub in_word : ℤ → ℕ
 in_word (pos n) = n
 in_word (negsuc n) = suc largest_number - suc n
 
-abbrev pub of_position : PositionAnswer → ℕ → ℕ → Outcome
-of_position (position.Lifted q d) end room = numbered (no_room_at end) room (q ∷ in_word d ∷ [])
-of_position (position.Refused x) end room = refuses x
+abbrev pub of_position : Result (ℕ × ℤ) Refusal → ℕ → ℕ → Outcome
+of_position (Ok (q, d)) end room = numbered (no_room_at end) room (q ∷ in_word d ∷ [])
+of_position (Err x) end room = refuses x
 
 unfoldable pub position_lifted : List ℕ → ℕ → ℕ → Outcome
 position_lifted s p room = of_chain (chain_check s) (λ c. of_position (lift_position c (chain_rows s c) p) (length s) room)
 
 -- LIFT A REGION: kept, dropped, start and end of the query region
-abbrev pub of_region : RegionAnswer → ℕ → ℕ → Outcome
-of_region (region.Lifted x) end room = numbered (no_room_at end) room (x.kept ∷ x.dropped ∷ x.start ∷ x.end ∷ [])
-of_region (region.Refused x) end room = refuses x
+abbrev pub of_region : Result Region Refusal → ℕ → ℕ → Outcome
+of_region (Ok x) end room = numbered (no_room_at end) room (x.kept ∷ x.dropped ∷ x.start ∷ x.end ∷ [])
+of_region (Err x) end room = refuses x
 
 unfoldable pub region_lifted : List ℕ → ℕ → ℕ → ℕ → Outcome
 region_lifted s start end room = of_chain (chain_check s) (λ c. of_region (lift_region c (chain_rows s c) start end) (length s) room)
@@ -193,9 +173,9 @@ abbrev pub tally_bytes : Tally → List ℕ
 tally_bytes t = words_bytes (t.asked ∷ t.kept ∷ t.dropped ∷ [])
 
 -- the tally is written where the region was lifted, and where it has no pair (12)
-abbrev pub of_tallied : RegionAnswer → Tally → Outcome
-of_tallied (region.Lifted x) t = gives x.kept (tally_bytes t)
-of_tallied (region.Refused x) t = cond (eqb (reason_number x.reason) (reason_number NoPair)) (record { answer = refusal_code x; bytes = tally_bytes t }) (refuses x)
+abbrev pub of_tallied : Result Region Refusal → Tally → Outcome
+of_tallied (Ok x) t = gives x.kept (tally_bytes t)
+of_tallied (Err x) t = cond (eqb (reason_number x.reason) (reason_number NoPair)) (record { answer = refusal_code x; bytes = tally_bytes t }) (refuses x)
 
 abbrev pub tally_outcome : Tallied → Outcome
 tally_outcome x = of_tallied x.answer x.tally
@@ -204,14 +184,14 @@ unfoldable pub tallied : List ℕ → ℕ → ℕ → List ℕ → Outcome
 tallied s start end lent = of_chain (chain_check s) (λ c. tally_outcome (tally_step (tally_in lent) c (chain_rows s c) start end))
 
 -- where a tally is written there is room for it
-pub record TallyRoom (answer : RegionAnswer) (lent : List ℕ) : Type 0 where
-  pub lifted : (x : Region) → answer ≡ region.Lifted x → 3 * word_size ≤ length lent
-  pub alone : (x : Refusal) → answer ≡ region.Refused x → reason_number x.reason ≡ reason_number NoPair → 3 * word_size ≤ length lent
+pub record TallyRoom (answer : Result Region Refusal) (lent : List ℕ) : Type 0 where
+  pub lifted : (x : Region) → answer ≡ Ok x → 3 * word_size ≤ length lent
+  pub alone : (x : Refusal) → answer ≡ Err x → reason_number x.reason ≡ reason_number NoPair → 3 * word_size ≤ length lent
 
 -- LIFT A BATCH: too few rows, or a region cut short, is 11 at place 0, before the text is read; then the text's refusals; then a row of five numbers for each region
-abbrev pub on_check : {A : Type 0} → Check → (Refusal → A) → A → A
-on_check check.Holds refused rest = rest
-on_check (check.Refused x) refused rest = refused x
+abbrev pub on_check : {A : Type 0} → Result ⊤ Refusal → (Refusal → A) → A → A
+on_check (Ok tt) refused rest = rest
+on_check (Err x) refused rest = refused x
 
 unfoldable pub batch_lifted : List ℕ → List ℕ → List ℕ → ℕ → Outcome
 batch_lifted s regions lent room = on_check (text_batch_check s regions room) refuses (gives (length regions / region_size) (rows_bytes (answer_rows (tally_in lent) (sent_text s regions room))))
@@ -229,9 +209,9 @@ pub record BatchTold (s regions lent lent' before after : List ℕ) (r : ℕ) : 
   pub tally_left : lent' ≡ tally_after s regions lent (length before)
 
 -- TURN: the standard text of the turned chain, its names being those of the text
-abbrev pub of_turn : TurnAnswer → (Chain → Outcome) → Outcome
-of_turn (turn.Turned d) rest = rest d
-of_turn (turn.Refused x) rest = refuses x
+abbrev pub of_turn : Result Chain Refusal → (Chain → Outcome) → Outcome
+of_turn (Ok d) rest = rest d
+of_turn (Err x) rest = refuses x
 
 unfoldable pub turn_written : List ℕ → Chain → List Row → ℕ → Outcome
 turn_written s c rows room =

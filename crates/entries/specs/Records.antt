@@ -1,27 +1,20 @@
 -- A record and its rows as numbers (docs/DESK.md, "What `parse` writes").
-use Rattle.std.specs.Prelude.{ℕ, ◌≤◌, ◌≡◌, List, [], ◌∷◌, length, take}
+use Rattle.std.specs.Prelude.{ℕ, ◌≤◌, ◌≡◌, List, [], ◌∷◌, length, take, Ok, Result}
 use Rattle.ledger.specs.declared.Row.{Row}
 use Rattle.ledger.specs.Limits.{block_limit}
 use Rattle.ledger.specs.Strands.{strand_letter}
 use Rattle.blocks.specs.Rows.{targets_of, queries_of, sizes_of}
 use Rattle.bed.specs.declared.Bed.{Bed}
-use Rattle.bed.specs.declared.BedAnswer.{BedAnswer}
-use Rattle.bed.specs.declared.BedAnswer.TheVariants as bed
 use Rattle.bed.specs.Records.{bed_targets, bed_queries, bed_sizes}
 use Rattle.bed.specs.Read.{bed_check}
 use Rattle.psl.specs.declared.Psl.{Psl}
-use Rattle.psl.specs.declared.PslAnswer.{PslAnswer}
-use Rattle.psl.specs.declared.PslAnswer.TheVariants as psl
 use Rattle.psl.specs.Records.{psl_targets, psl_queries, psl_sizes}
 use Rattle.psl.specs.Read.{psl_check}
 use Rattle.chain.specs.declared.Chain.{Chain}
-use Rattle.chain.specs.declared.ChainAnswer.{ChainAnswer}
-use Rattle.chain.specs.declared.ChainAnswer.TheVariants as chain
 use Rattle.chain.specs.Records.{chain_targets, chain_queries, chain_sizes}
 use Rattle.chain.specs.Read.{chain_check}
-use Rattle.turn.specs.declared.TurnAnswer.{TurnAnswer}
-use Rattle.turn.specs.declared.TurnAnswer.TheVariants as turn
 use Rattle.turn.specs.Turns as turns
+use Rattle.ledger.specs.declared.Refusal.{Refusal}
 
 -- a name is where it stands and its length, a strand its letter
 unfoldable pub bed_numbers : Bed → List ℕ
@@ -56,19 +49,19 @@ pub record Held (n : ℕ) (ts qs zs ts' qs' zs' : List ℕ) : Type 0 where
   pub sizes : take n zs' ≡ zs
 
 -- what reading a text into them promises
-pub record BedStaged (s ts' qs' zs' : List ℕ) (x : BedAnswer) : Type 0 where
+pub record BedStaged (s ts' qs' zs' : List ℕ) (x : Result Bed Refusal) : Type 0 where
   pub is : x ≡ bed_check s
-  pub held : (r : Bed) → x ≡ bed.Accepted r → Held r.blockCount (bed_targets s r) (bed_queries s r) (bed_sizes s r) ts' qs' zs'
+  pub held : (r : Bed) → x ≡ Ok r → Held r.blockCount (bed_targets s r) (bed_queries s r) (bed_sizes s r) ts' qs' zs'
 
-pub record PslStaged (s ts' qs' zs' : List ℕ) (x : PslAnswer) : Type 0 where
+pub record PslStaged (s ts' qs' zs' : List ℕ) (x : Result Psl Refusal) : Type 0 where
   pub is : x ≡ psl_check s
-  pub held : (r : Psl) → x ≡ psl.Accepted r → Held r.blockCount (psl_targets s) (psl_queries s) (psl_sizes s) ts' qs' zs'
+  pub held : (r : Psl) → x ≡ Ok r → Held r.blockCount (psl_targets s) (psl_queries s) (psl_sizes s) ts' qs' zs'
 
-pub record ChainStaged (s ts' qs' zs' : List ℕ) (x : ChainAnswer) : Type 0 where
+pub record ChainStaged (s ts' qs' zs' : List ℕ) (x : Result Chain Refusal) : Type 0 where
   pub is : x ≡ chain_check s
-  pub held : (r : Chain) → x ≡ chain.Accepted r → Held r.blockCount (chain_targets s r) (chain_queries s r) (chain_sizes s r) ts' qs' zs'
+  pub held : (r : Chain) → x ≡ Ok r → Held r.blockCount (chain_targets s r) (chain_queries s r) (chain_sizes s r) ts' qs' zs'
 
 -- and what turning a chain into them promises
-pub record TurnStaged (c : Chain) (rows : List Row) (ts' qs' zs' : List ℕ) (x : TurnAnswer) : Type 0 where
+pub record TurnStaged (c : Chain) (rows : List Row) (ts' qs' zs' : List ℕ) (x : Result Chain Refusal) : Type 0 where
   pub is : x ≡ turns.turn c rows block_limit
-  pub held : (d : Chain) → x ≡ turn.Turned d → Held d.blockCount (targets_of (turns.turned_rows c rows)) (queries_of (turns.turned_rows c rows)) (sizes_of (turns.turned_rows c rows)) ts' qs' zs'
+  pub held : (d : Chain) → x ≡ Ok d → Held d.blockCount (targets_of (turns.turned_rows c rows)) (queries_of (turns.turned_rows c rows)) (sizes_of (turns.turned_rows c rows)) ts' qs' zs'

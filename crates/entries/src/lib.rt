@@ -12,16 +12,11 @@ ghost use Rattle.answers.specs.Answers.{no_room_at, refusal_code, Answered, reco
 ghost use Rattle.entries.specs.Records.{bed_numbers, psl_numbers, chain_numbers, Staging, BedStaged, PslStaged, ChainStaged, TurnStaged};
 ghost use Rattle.entries.specs.Entries.{checked_bed, checked_psl, checked_chain, checked, parsed_bed, parsed_psl, parsed_chain, parsed, converted_numbers, at_end, written, copied, bed_written, psl_written, chain_written, formatted_bed, formatted_psl, formatted_chain, formatted, in_word, position_lifted, region_lifted, tally_in, tally_bytes, of_tallied, tally_outcome, TallyRoom, tallied, tally_kept, BatchTold, turn_written, turned_text, numbers_given};
 
-use bed::{Bed, BedAnswer};
-use chain::{Chain, ChainAnswer};
+use bed::Bed;
+use chain::Chain;
 use ledger::{Reason, Refusal};
-use lift::{PositionAnswer, SpanAnswer};
-use number_line::NumbersAnswer;
-use psl::{Psl, PslAnswer};
-use region::{RegionAnswer, Tally};
-use text::Check;
-use turn::TurnAnswer;
-use writing::Writing;
+use psl::Psl;
+use region::{Region, Tally};
 
 // Room for one number of each of a record's blocks.
 const ROWS: usize = ledger::BLOCK_LIMIT as usize;
@@ -39,14 +34,14 @@ fn few_rows() -> [u64; columns::FEW]
 }
 
 // The readers into room for any record's blocks.
-fn stage_bed(text: &[u8], targets: &mut [u64], queries: &mut [u64], sizes: &mut [u64]) -> BedAnswer
+fn stage_bed(text: &[u8], targets: &mut [u64], queries: &mut [u64], sizes: &mut [u64]) -> Result<Bed, Refusal>
     requires { Staging targets.old queries.old sizes.old }
     ensures { BedStaged text.now targets.new queries.new sizes.new result }
 {
     bed::read_bed(text, targets, queries, sizes)
 }
 
-fn stage_psl(text: &[u8], targets: &mut [u64], queries: &mut [u64], sizes: &mut [u64]) -> PslAnswer
+fn stage_psl(text: &[u8], targets: &mut [u64], queries: &mut [u64], sizes: &mut [u64]) -> Result<Psl, Refusal>
     requires { Staging targets.old queries.old sizes.old }
     ensures { PslStaged text.now targets.new queries.new sizes.new result }
 {
@@ -58,7 +53,7 @@ fn stage_chain(
     targets: &mut [u64],
     queries: &mut [u64],
     sizes: &mut [u64],
-) -> ChainAnswer
+) -> Result<Chain, Refusal>
     requires { Staging targets.old queries.old sizes.old }
     ensures { ChainStaged text.now targets.new queries.new sizes.new result }
 {
@@ -145,8 +140,8 @@ fn check_bed(text: &[u8]) -> u64
     ensures { result ≡ (checked_bed text.now).answer }
 {
     match bed::check_bed_text(text) {
-        BedAnswer::Refused(x) => answers::refusal_code(x),
-        BedAnswer::Accepted(r) => answers::told_as(r.blockCount),
+        Err(x) => answers::refusal_code(x),
+        Ok(r) => answers::told_as(r.blockCount),
     }
 }
 
@@ -154,8 +149,8 @@ fn check_psl(text: &[u8]) -> u64
     ensures { result ≡ (checked_psl text.now).answer }
 {
     match psl::check_psl_text(text) {
-        PslAnswer::Refused(x) => answers::refusal_code(x),
-        PslAnswer::Accepted(r) => answers::told_as(r.blockCount),
+        Err(x) => answers::refusal_code(x),
+        Ok(r) => answers::told_as(r.blockCount),
     }
 }
 
@@ -163,8 +158,8 @@ fn check_chain(text: &[u8]) -> u64
     ensures { result ≡ (checked_chain text.now).answer }
 {
     match chain::check_chain_text(text) {
-        ChainAnswer::Refused(x) => answers::refusal_code(x),
-        ChainAnswer::Accepted(r) => answers::told_as(r.blockCount),
+        Err(x) => answers::refusal_code(x),
+        Ok(r) => answers::told_as(r.blockCount),
     }
 }
 
@@ -186,8 +181,8 @@ pub fn numbers(text: &[u8], out: &mut [u8]) -> u64
         out.old out.new result }
 {
     match number_line::read_numbers(text, out) {
-        NumbersAnswer::Refused(x) => answers::refusal_code(x),
-        NumbersAnswer::Accepted(n) => answers::told_as(n as u64),
+        Err(x) => answers::refusal_code(x),
+        Ok(n) => answers::told_as(n as u64),
     }
 }
 
@@ -197,8 +192,8 @@ pub fn convert(start: u64, end: u64, size: u64, out: &mut [u8]) -> u64
         out.old out.new result }
 {
     match lift::convert(start, end, size) {
-        SpanAnswer::Refused(x) => answers::refusal_code(x),
-        SpanAnswer::Converted(x) => {
+        Err(x) => answers::refusal_code(x),
+        Ok(x) => {
             let numbers = [x.start, x.end];
             answers::answer_without_text(&numbers, out)
         }
@@ -240,8 +235,8 @@ fn parse_long_bed(text: &[u8], out: &mut [u8]) -> u64
     let mut queries = row_room();
     let mut sizes = row_room();
     match stage_bed(text, &mut targets, &mut queries, &mut sizes) {
-        BedAnswer::Refused(x) => answers::refusal_code(x),
-        BedAnswer::Accepted(r) => {
+        Err(x) => answers::refusal_code(x),
+        Ok(r) => {
             let fields = bed_fields(r);
             let n = r.blockCount as usize;
             answers::answer_record(text.len(), &fields, &targets, &queries, &sizes, n, out)
@@ -258,8 +253,8 @@ fn parse_short_bed(text: &[u8], out: &mut [u8]) -> u64
     let mut queries = few_rows();
     let mut sizes = few_rows();
     match bed::read_bed(text, &mut targets, &mut queries, &mut sizes) {
-        BedAnswer::Refused(_) => parse_long_bed(text, out),
-        BedAnswer::Accepted(r) => {
+        Err(_) => parse_long_bed(text, out),
+        Ok(r) => {
             let fields = bed_fields(r);
             let n = r.blockCount as usize;
             answers::answer_record(text.len(), &fields, &targets, &queries, &sizes, n, out)
@@ -284,8 +279,8 @@ fn parse_psl(text: &[u8], out: &mut [u8]) -> u64
 {
     let mut lists = blocks::working_room();
     match psl::read_lists(text, &mut lists) {
-        PslAnswer::Refused(x) => answers::refusal_code(x),
-        PslAnswer::Accepted(r) => {
+        Err(x) => answers::refusal_code(x),
+        Ok(r) => {
             let fields = psl_fields(r);
             let n = r.blockCount as usize;
             answer_lists(text.len(), &fields, &lists, n, out)
@@ -299,8 +294,8 @@ fn parse_chain(text: &[u8], out: &mut [u8]) -> u64
 {
     let mut rows = blocks::working_room();
     match chain::read_rows(text, &mut rows) {
-        ChainAnswer::Refused(x) => answers::refusal_code(x),
-        ChainAnswer::Accepted(r) => {
+        Err(x) => answers::refusal_code(x),
+        Ok(r) => {
             let fields = chain_fields(r);
             let n = r.blockCount as usize;
             answer_rows(text.len(), &fields, &rows, n, out)
@@ -334,12 +329,12 @@ fn refused_at_end(end: usize, x: Refusal) -> u64
 }
 
 // A writer's answer: its want of room stands at the text's end.
-fn written_code(end: usize, answer: Writing) -> u64
+fn written_code(end: usize, answer: Result<usize, Refusal>) -> u64
     ensures { (bytes : List ℕ) → result ≡ (written end answer bytes).answer }
 {
     match answer {
-        Writing::Written(n) => answers::told_as(n as u64),
-        Writing::Refused(x) => refused_at_end(end, x),
+        Ok(n) => answers::told_as(n as u64),
+        Err(x) => refused_at_end(end, x),
     }
 }
 
@@ -381,8 +376,8 @@ fn format_long_bed(text: &[u8], out: &mut [u8]) -> u64
     let mut queries = row_room();
     let mut sizes = row_room();
     match stage_bed(text, &mut targets, &mut queries, &mut sizes) {
-        BedAnswer::Refused(x) => answers::refusal_code(x),
-        BedAnswer::Accepted(r) => write_bed(text, r, &targets, &queries, &sizes, out),
+        Err(x) => answers::refusal_code(x),
+        Ok(r) => write_bed(text, r, &targets, &queries, &sizes, out),
     }
 }
 
@@ -443,8 +438,8 @@ fn format_psl(text: &[u8], out: &mut [u8]) -> u64
     let mut queries = row_room();
     let mut sizes = row_room();
     match stage_psl(text, &mut targets, &mut queries, &mut sizes) {
-        PslAnswer::Refused(x) => answers::refusal_code(x),
-        PslAnswer::Accepted(r) => write_psl(text, r, &targets, &queries, &sizes, out),
+        Err(x) => answers::refusal_code(x),
+        Ok(r) => write_psl(text, r, &targets, &queries, &sizes, out),
     }
 }
 
@@ -484,8 +479,8 @@ fn format_chain(text: &[u8], out: &mut [u8]) -> u64
     let mut queries = row_room();
     let mut sizes = row_room();
     match stage_chain(text, &mut targets, &mut queries, &mut sizes) {
-        ChainAnswer::Refused(x) => answers::refusal_code(x),
-        ChainAnswer::Accepted(r) => write_chain(text, r, &targets, &queries, &sizes, out),
+        Err(x) => answers::refusal_code(x),
+        Ok(r) => write_chain(text, r, &targets, &queries, &sizes, out),
     }
 }
 
@@ -518,8 +513,8 @@ pub fn lift_position(text: &[u8], position: u64, out: &mut [u8]) -> u64
         out.old out.new result }
 {
     match lift::position_text(text, position) {
-        PositionAnswer::Refused(x) => answers::refusal_code(x),
-        PositionAnswer::Lifted(partner, _) => {
+        Err(x) => answers::refusal_code(x),
+        Ok((partner, _)) => {
             let numbers = [partner, drift_word(position, partner)];
             answers::answer_numbers(text.len(), &numbers, out)
         }
@@ -532,8 +527,8 @@ pub fn lift_region(text: &[u8], start: u64, end: u64, out: &mut [u8]) -> u64
         out.old out.new result }
 {
     match region::lift_text(text, start, end) {
-        RegionAnswer::Refused(x) => answers::refusal_code(x),
-        RegionAnswer::Lifted(x) => {
+        Err(x) => answers::refusal_code(x),
+        Ok(x) => {
             let numbers = [x.kept, x.dropped, x.start, x.end];
             answers::answer_numbers(text.len(), &numbers, out)
         }
@@ -570,16 +565,16 @@ fn put_tally(lent: &mut [u8], t: Tally) -> usize
 }
 
 // The tally after a region and the region's answer. It is written where the region was lifted or has no pair (12).
-fn answer_tallied(answer: RegionAnswer, t: Tally, lent: &mut [u8]) -> u64
+fn answer_tallied(answer: Result<Region, Refusal>, t: Tally, lent: &mut [u8]) -> u64
     requires { TallyRoom answer lent.old }
     ensures { Answered (of_tallied answer t) lent.old lent.new result }
 {
     match answer {
-        RegionAnswer::Lifted(x) => {
+        Ok(x) => {
             put_tally(lent, t);
             answers::told_as(x.kept)
         }
-        RegionAnswer::Refused(x) => {
+        Err(x) => {
             let reason = x.reason;
             let alone = Reason::NoPair;
             if reason.number() == alone.number() {
@@ -632,8 +627,8 @@ pub fn tally(text: &[u8], start: u64, end: u64, tally: &mut [u8]) -> u64
     let mut queries = row_room();
     let mut sizes = row_room();
     match stage_chain(text, &mut targets, &mut queries, &mut sizes) {
-        ChainAnswer::Refused(x) => answers::refusal_code(x),
-        ChainAnswer::Accepted(c) => answer_tally(c, &targets, &queries, &sizes, start, end, tally),
+        Err(x) => answers::refusal_code(x),
+        Ok(c) => answer_tally(c, &targets, &queries, &sizes, start, end, tally),
     }
 }
 
@@ -658,8 +653,8 @@ pub fn lift_batch(text: &[u8], regions: &[u8], tally: &mut [u8], out: &mut [u8])
     let check = done.check;
     let after = done.tally;
     match check {
-        Check::Refused(x) => answers::refusal_code(x),
-        Check::Holds => {
+        Err(x) => answers::refusal_code(x),
+        Ok(()) => {
             keep_tally(tally, after);
             answers::told_as((regions.len() / region::REGION_SIZE) as u64)
         }
@@ -675,7 +670,7 @@ fn stage_turned(
     newTargets: &mut [u64],
     newQueries: &mut [u64],
     newSizes: &mut [u64],
-) -> TurnAnswer
+) -> Result<Chain, Refusal>
     requires { Wide c.blockCount targets.now queries.now sizes.now × Staging newTargets.old newQueries.old newSizes.old }
     ensures { TurnStaged c (table_of (take c.blockCount targets.now) (take c.blockCount queries.now)
         (take c.blockCount sizes.now)) newTargets.new newQueries.new newSizes.new result }
@@ -718,8 +713,8 @@ fn write_turned(
         &mut newQueries,
         &mut newSizes,
     ) {
-        TurnAnswer::Refused(x) => answers::refusal_code(x),
-        TurnAnswer::Turned(d) => write_chain(text, d, &newTargets, &newQueries, &newSizes, out),
+        Err(x) => answers::refusal_code(x),
+        Ok(d) => write_chain(text, d, &newTargets, &newQueries, &newSizes, out),
     }
 }
 
@@ -732,7 +727,7 @@ pub fn turn(text: &[u8], out: &mut [u8]) -> u64
     let mut queries = row_room();
     let mut sizes = row_room();
     match stage_chain(text, &mut targets, &mut queries, &mut sizes) {
-        ChainAnswer::Refused(x) => answers::refusal_code(x),
-        ChainAnswer::Accepted(c) => write_turned(text, c, &targets, &queries, &sizes, out),
+        Err(x) => answers::refusal_code(x),
+        Ok(c) => write_turned(text, c, &targets, &queries, &sizes, out),
     }
 }

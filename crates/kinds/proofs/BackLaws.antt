@@ -13,7 +13,6 @@ use Rattle.text.specs.Scan.{is_in, run}
 use Rattle.text.proofs.Laws.{more_ones}
 use Rattle.text.proofs.TextLaws.{All, all_append, digit_item}
 use Rattle.text.proofs.PieceLaws.{pieces_last}
-use Rattle.numbers.specs.declared.Spelt.TheVariants.{Means}
 use Rattle.numbers.specs.Numbers.{number_of}
 use Rattle.numbers.specs.Lists.{items_of, test_items, values_of, last_byte, open_end, list_end, list_of}
 use Rattle.writing.specs.Digits.{digits}
@@ -28,12 +27,13 @@ use Rattle.kinds.specs.declared.Kind.TheVariants.{Name, Number, Count, Items, St
 use Rattle.kinds.specs.Kinds.{least_of, most_of, fixed_text, is_strand, same_bytes, packed, colour_of, name_of, strand_of, fixed_of, spelt, items_in}
 use Rattle.kinds.specs.Words.{red_of, green_of, blue_of, colour_text, word_of}
 use Rattle.kinds.specs.Ranges.{InRange, list_in}
+use Rattle.std.specs.Prelude.{Ok}
 
 -- what the round trip asks of one word: it shows, it is there, it spells its value, and it holds its list
 pub record Written (c : Kind) (n v : ℕ) (w held : List ℕ) : Type 0 where
   pub shows : All Graphic w
   pub some : 0 < length w
-  pub back : spelt c n w ≡ Means v
+  pub back : spelt c n w ≡ Ok v
   pub holds : items_in c w ≡ held
 
 -- every greatest value has fewer digits than a word of the machine
@@ -45,7 +45,7 @@ most_small ChainScore = omega arith
 most_small ChainId = omega arith
 most_small BlockCount = omega arith
 
-number_back : (r : Range) (v : ℕ) → least_of r ≤ v → v ≤ most_of r → number_of (least_of r) (most_of r) (digits v) ≡ Means v
+number_back : (r : Range) (v : ℕ) → least_of r ≤ v → v ≤ most_of r → number_of (least_of r) (most_of r) (digits v) ≡ Ok v
 number_back r v h m = number_digits (least_of r) (most_of r) v h m (omega (arith, most_small r))
 
 -- a strand's letter is one of three
@@ -125,7 +125,7 @@ module _ (n v : ℕ) (h : v < Colours) (some : v ≡ 0 → ⊥) where
     items_only (digits (blue_of v)) (some_digits (blue_of v)) (digits_items (blue_of v)),
   )
 
-  colour_test : test_items 0 colour_limit 0 0 (items_of w) ≡ Means 3
+  colour_test : test_items 0 colour_limit 0 0 (items_of w) ≡ Ok 3
   unfolding test_items
   colour_test = rw (
     colour_items,
@@ -152,7 +152,7 @@ module _ (n v : ℕ) (h : v < Colours) (some : v ≡ 0 → ⊥) where
   colour_long : 1 < length w
   colour_long = simp length-append (omega (arith, some_digits (red_of v)))
 
-  colour_list : list_of 0 colour_limit false 3 w ≡ Means 3
+  colour_list : list_of 0 colour_limit false 3 w ≡ Ok 3
   unfolding list_of list_end open_end
   colour_list = rw (colour_test, ne_eqb (length w) 0 (λ e. omega (arith, colour_long)), colour_last)
 
@@ -165,9 +165,9 @@ module _ (n v : ℕ) (h : v < Colours) (some : v ≡ 0 → ⊥) where
       all_append Graphic (digits (red_of v)) (44 ∷ (digits (green_of v) ++ (44 ∷ digits (blue_of v)))) (digits_graphic (red_of v))
       (ap suc (all_append Graphic (digits (green_of v)) (44 ∷ digits (blue_of v)) (digits_graphic (green_of v)) (ap suc (digits_graphic (blue_of v)))))
 
-  colour_back : colour_of w ≡ Means v
+  colour_back : colour_of w ≡ Ok v
   unfolding colour_of
-  colour_back = rw (same_long w 48 colour_long, colour_list, colour_values) (ap Means colour_whole)
+  colour_back = rw (same_long w 48 colour_long, colour_list, colour_values) (ap Ok colour_whole)
 
   colour_some : Written Colour n v (colour_text v) []
   unfolding spelt colour_text
@@ -198,7 +198,7 @@ written_lem (Items r) t ls n base v p h =
     record {
       shows = list_graphic xs;
       some = list_some xs long;
-      back = list_back (least_of r) (most_of r) n xs long (h.there ∙ h.count) (most_small r) h.range ∙ ap Means (sym h.count);
+      back = list_back (least_of r) (most_of r) n xs long (h.there ∙ h.count) (most_small r) h.range ∙ ap Ok (sym h.count);
       holds = list_good (least_of r) (most_of r) xs (most_small r) h.range;
     }
 written_lem (Stranded dot) t ls n base v p h = strand_written dot n v h

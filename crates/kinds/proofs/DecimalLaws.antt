@@ -16,9 +16,7 @@ use Rattle.text.specs.Pieces.{onto, pieces_of, joined}
 use Rattle.text.proofs.Laws.{either, more_ones}
 use Rattle.text.proofs.TextLaws.{All, both}
 use Rattle.text.proofs.PieceLaws.{pieces_last}
-use Rattle.numbers.specs.declared.Spelt.{Spelt}
-use Rattle.numbers.specs.declared.Spelt.TheVariants.{Means, Faulty}
-use Rattle.ledger.specs.Refusals.{require}
+use Rattle.ledger.specs.Refusals.{require, fault_at}
 use Rattle.numbers.specs.Numbers.{well_spelt, value_from, value, number_of}
 use Rattle.numbers.specs.Ranges.{Between, between_none, between_more}
 use Rattle.numbers.specs.Lists.{items_of, or_item, test_items, last_byte, open_end, then_count, list_end, list_of, values_of}
@@ -28,6 +26,8 @@ use Rattle.writing.specs.Digits.{digits, list_text}
 use Rattle.writing.proofs.DigitLaws.{Most, digits_small, digits_large, some_digits, number_digits, value_digits, digits_items}
 use Rattle.writing.proofs.ListLaws.{items_join, list_items}
 use Rattle.kinds.specs.SpeltAs.{Decimal, parted, Listed}
+use Rattle.std.specs.Prelude.{Ok, Err, Result}
+use Rattle.ledger.specs.declared.Fault.{Fault}
 
 -- ---- numbers
 -- digits after a number that is not 0 are those of the longer number
@@ -76,11 +76,11 @@ well_spelt_digits (b ∷ w) h l =
         above : (b ≡ 48 → ⊥) → 1 ≤ b - 48
         above n = either b 48 _ (λ q. absurd (n (omega arith))) (λ q. omega arith)
 
-pub number_as : (least most v : ℕ) (w : List ℕ) → most < Most → number_of least most w ≡ Means v → Decimal least most w v
+pub number_as : (least most v : ℕ) (w : List ℕ) → most < Most → number_of least most w ≡ Ok v → Decimal least most w v
 unfolding number_of
 number_as least most v w l h = go (well_spelt w) (leb least (value w)) (leb (value w) most) refl refl refl h
   where
-    go : (t u x : Bool) → well_spelt w ≡ t → leb least (value w) ≡ u → leb (value w) most ≡ x → require t (Faulty NumberMisspelt 0) (require (u && x) (Faulty NumberOutOfRange 0) (Means (value w))) ≡ Means v → Decimal least most w v
+    go : (t u x : Bool) → well_spelt w ≡ t → leb least (value w) ≡ u → leb (value w) most ≡ x → require t (Err (fault_at NumberMisspelt 0)) (require (u && x) (Err (fault_at NumberOutOfRange 0)) (Ok (value w))) ≡ Ok v → Decimal least most w v
     go false u x p q r k = absurd (let o : ◌≡◌ {A = ℕ} 0 1 = cc in omega arith)
     go true false x p q r k = absurd (let o : ◌≡◌ {A = ℕ} 0 1 = cc in omega arith)
     go true true false p q r k = absurd (let o : ◌≡◌ {A = ℕ} 0 1 = cc in omega arith)
@@ -90,7 +90,7 @@ number_as least most v w l h = go (well_spelt w) (leb least (value w)) (leb (val
         let high = leb-true (value w) most r in
         record { low = omega arith; high = omega arith; word = well_spelt_digits w p (omega arith) ∙ ap digits e }
 
-pub as_number : (least most v : ℕ) (w : List ℕ) → most < Most → Decimal least most w v → number_of least most w ≡ Means v
+pub as_number : (least most v : ℕ) (w : List ℕ) → most < Most → Decimal least most w v → number_of least most w ≡ Ok v
 as_number least most v w l d = rw d.word (number_digits least most v d.low d.high (omega (arith, d.high)))
 
 -- ---- lists: words with a comma after each
@@ -158,15 +158,15 @@ pub record Good (least most n m : ℕ) (xs : List (List ℕ)) : Type 0 where
   pub range : Between least most (map value xs)
   pub count : m ≡ n + length xs
 
-items_as : (least most n at m : ℕ) (xs : List (List ℕ)) → most < Most → test_items least most n at xs ≡ Means m → Good least most n m xs
+items_as : (least most n at m : ℕ) (xs : List (List ℕ)) → most < Most → test_items least most n at xs ≡ Ok m → Good least most n m xs
 unfolding test_items
 items_as least most n at m [] l h = record { words = refl; range = between_none; count = let e : n ≡ m = cc in omega arith }
 items_as least most n at m (x ∷ xs) l h = go (number_of least most x) refl h (items_as least most (n + 1) (at + length x + 1) m xs l)
   where
-    go : (y : Spelt) → number_of least most x ≡ y → or_item y at (test_items least most (n + 1) (at + length x + 1) xs) ≡ Means m
-        → (test_items least most (n + 1) (at + length x + 1) xs ≡ Means m → Good least most (n + 1) m xs) → Good least most n m (x ∷ xs)
-    go (Faulty why p) e k rec = absurd (let o : ◌≡◌ {A = ℕ} 0 1 = cc in omega arith)
-    go (Means v) e k rec =
+    go : (y : Result ℕ Fault) → number_of least most x ≡ y → or_item y at (test_items least most (n + 1) (at + length x + 1) xs) ≡ Ok m
+        → (test_items least most (n + 1) (at + length x + 1) xs ≡ Ok m → Good least most (n + 1) m xs) → Good least most n m (x ∷ xs)
+    go (Err (fault_at why p)) e k rec = absurd (let o : ◌≡◌ {A = ℕ} 0 1 = cc in omega arith)
+    go (Ok v) e k rec =
         let g = rec k in
         let d = number_as least most v x l e in
         let z : value x ≡ v = ap value d.word ∙ value_digits v (omega (arith, d.high)) in
@@ -178,12 +178,12 @@ items_as least most n at m (x ∷ xs) l h = go (number_of least most x) refl h (
         }
 
 -- and numbers in their range are found good
-as_items : (least most n at : ℕ) (us : List ℕ) → most < Most → Between least most us → test_items least most n at (map digits us) ≡ Means (n + length us)
+as_items : (least most n at : ℕ) (us : List ℕ) → most < Most → Between least most us → test_items least most n at (map digits us) ≡ Ok (n + length us)
 unfolding test_items
-as_items least most n at [] l between_none = ap Means (omega arith)
+as_items least most n at [] l between_none = ap Ok (omega arith)
 as_items least most n at (v ∷ us) l (between_more low high t) =
     let e : n + 1 + length us ≡ n + suc (length us) = omega arith in
-    rw (number_digits least most v low high (omega arith)) (as_items least most (n + 1) (at + length (digits v) + 1) us l t ∙ ap Means e)
+    rw (number_digits least most v low high (omega arith)) (as_items least most (n + 1) (at + length (digits v) + 1) us l t ∙ ap Ok e)
 
 -- ---- a list that is read
 pub record Read (least most : ℕ) (comma : Bool) (n m : ℕ) (w : List ℕ) : Type 0 where
@@ -191,20 +191,20 @@ pub record Read (least most : ℕ) (comma : Bool) (n m : ℕ) (w : List ℕ) : T
   pub shut : open_end comma w ≡ false
   pub count : m ≡ n
 
-pub list_read : (least most : ℕ) (comma : Bool) (n m : ℕ) (w : List ℕ) → most < Most → list_of least most comma n w ≡ Means m → Read least most comma n m w
+pub list_read : (least most : ℕ) (comma : Bool) (n m : ℕ) (w : List ℕ) → most < Most → list_of least most comma n w ≡ Ok m → Read least most comma n m w
 unfolding list_of list_end
 list_read least most comma n m w l h = go (test_items least most 0 0 (items_of w)) refl h
   where
-    inner : (y : ℕ) (t u : Bool) → test_items least most 0 0 (items_of w) ≡ Means y → open_end comma w ≡ t → eqb y n ≡ u → require (not t) (Faulty NumberMisspelt (length w)) (require u (Faulty ListLength 0) (Means y)) ≡ Means m → Read least most comma n m w
+    inner : (y : ℕ) (t u : Bool) → test_items least most 0 0 (items_of w) ≡ Ok y → open_end comma w ≡ t → eqb y n ≡ u → require (not t) (Err (fault_at NumberMisspelt (length w))) (require u (Err (fault_at ListLength 0)) (Ok y)) ≡ Ok m → Read least most comma n m w
     inner y true u e p q k = absurd (let o : ◌≡◌ {A = ℕ} 0 1 = cc in omega arith)
     inner y false false e p q k = absurd (let o : ◌≡◌ {A = ℕ} 0 1 = cc in omega arith)
     inner y false true e p q k =
         let z : y ≡ m = cc in
-        record { items = items_as least most 0 0 m (items_of w) l (e ∙ ap Means z); shut = p; count = sym z ∙ eqb-true y n q }
+        record { items = items_as least most 0 0 m (items_of w) l (e ∙ ap Ok z); shut = p; count = sym z ∙ eqb-true y n q }
 
-    go : (x : Spelt) → test_items least most 0 0 (items_of w) ≡ x → then_count x (λ y. require (not (open_end comma w)) (Faulty NumberMisspelt (length w)) (require (eqb y n) (Faulty ListLength 0) (Means y))) ≡ Means m → Read least most comma n m w
-    go (Faulty why p) e k = absurd (let o : ◌≡◌ {A = ℕ} 0 1 = cc in omega arith)
-    go (Means y) e k = inner y (open_end comma w) (eqb y n) e refl refl k
+    go : (x : Result ℕ Fault) → test_items least most 0 0 (items_of w) ≡ x → then_count x (λ y. require (not (open_end comma w)) (Err (fault_at NumberMisspelt (length w))) (require (eqb y n) (Err (fault_at ListLength 0)) (Ok y))) ≡ Ok m → Read least most comma n m w
+    go (Err (fault_at why p)) e k = absurd (let o : ◌≡◌ {A = ℕ} 0 1 = cc in omega arith)
+    go (Ok y) e k = inner y (open_end comma w) (eqb y n) e refl refl k
 
 -- where an end is not open, there is a byte, and the last one is a comma only where one is allowed
 pub not_open : (comma : Bool) (w : List ℕ) → open_end comma w ≡ false → (0 < length w) × (comma ≡ false → eqb (last_byte 0 w) 44 ≡ false)
@@ -248,7 +248,7 @@ module _ (least most : ℕ) (comma : Bool) (n m : ℕ) (w : List ℕ) (r : Read 
   numbers_word = rw r.items.words at (parted_whole w (not_open comma w r.shut).0)
 
 -- A LIST IS READ EXACTLY WHEN ITS WORD SPELLS IT, one comma more allowed
-pub list_as : (least most n m : ℕ) (w : List ℕ) → most < Most → list_of least most true n w ≡ Means m → Listed least most n w (values_of w) × (m ≡ n)
+pub list_as : (least most n m : ℕ) (w : List ℕ) → most < Most → list_of least most true n w ≡ Ok m → Listed least most n w (values_of w) × (m ≡ n)
 list_as least most n m w l h =
     let r = list_read least most true n m w l h in (
       record {
@@ -276,14 +276,14 @@ values_listed least most [] l between_none = refl
 values_listed least most (v ∷ us) l (between_more low high t) = λ i. value_digits v (omega arith) i ∷ values_listed least most us l t i
 
 -- where its end is not open
-pub as_shut : (least most : ℕ) (comma : Bool) (n : ℕ) (w us : List ℕ) → most < Most → Listed least most n w us → open_end comma w ≡ false → (list_of least most comma n w ≡ Means n) × (us ≡ values_of w)
+pub as_shut : (least most : ℕ) (comma : Bool) (n : ℕ) (w us : List ℕ) → most < Most → Listed least most n w us → open_end comma w ≡ false → (list_of least most comma n w ≡ Ok n) × (us ≡ values_of w)
 unfolding list_of list_end values_of
 as_shut least most comma n w us l d shut =
     let k = listed_items w us d.some d.word in
     let e : 0 + length us ≡ n = omega (arith, d.count) in
     (rw (k.0, as_items least most 0 0 us l d.range, e, shut, eq-eqb n n refl), rw k.0 (sym (values_listed least most us l d.range)))
 
-pub as_list : (least most n : ℕ) (w us : List ℕ) → most < Most → Listed least most n w us → (list_of least most true n w ≡ Means n) × (us ≡ values_of w)
+pub as_list : (least most n : ℕ) (w us : List ℕ) → most < Most → Listed least most n w us → (list_of least most true n w ≡ Ok n) × (us ≡ values_of w)
 unfolding open_end
 as_list least most n w us l d =
     as_shut least most true n w us l d (rw (ne_eqb (length w) 0 (λ q. omega (arith, (listed_items w us d.some d.word).1))))

@@ -14,8 +14,6 @@ use Rattle.ledger.specs.Limits.{name_limit, colour_limit}
 use Rattle.ledger.specs.declared.Reason.{Reason}
 use Rattle.ledger.specs.declared.Reason.TheVariants.{BadWord}
 use Rattle.text.proofs.Laws.{either}
-use Rattle.numbers.specs.declared.Spelt.{Spelt}
-use Rattle.numbers.specs.declared.Spelt.TheVariants.{Means, Faulty}
 use Rattle.numbers.specs.Spelling.{fault_in}
 use Rattle.numbers.specs.Numbers.{number_of, NumberRead}
 use Rattle.numbers.specs.Ranges.{Between, between_more}
@@ -29,11 +27,14 @@ use Rattle.kinds.specs.declared.Fixed.TheVariants as fixed
 use Rattle.kinds.specs.declared.Kind.{Kind}
 use Rattle.kinds.specs.declared.Kind.TheVariants.{Name, Number, Count, Items, Stranded, Word, Colour}
 use Rattle.kinds.specs.Kinds.{least_of, most_of, fixed_text, is_strand, same_bytes, packed, colour_of, whole_of, name_of, strand_of, fixed_of, spelt, items_in, WordRead, Spelled}
+use Rattle.std.specs.Prelude.{Ok, Err, Result}
+use Rattle.ledger.specs.declared.Fault.{Fault}
+use Rattle.ledger.specs.Refusals.{fault_at}
 
-pub whole_good : (t : Bool) (v : ℕ) → t ≡ true → Means v ≡ whole_of t v
+pub whole_good : (t : Bool) (v : ℕ) → t ≡ true → Ok v ≡ whole_of t v
 whole_good t v e = rw e
 
-pub whole_bad : (t : Bool) (v : ℕ) → t ≡ false → Faulty BadWord 0 ≡ whole_of t v
+pub whole_bad : (t : Bool) (v : ℕ) → t ≡ false → Err (fault_at BadWord 0) ≡ whole_of t v
 whole_bad t v e = rw e
 
 -- a word refused as a whole is refused at its first byte
@@ -41,22 +42,22 @@ whole_near : (t : Bool) (v n : ℕ) → fault_in (whole_of t v) ≤ n
 whole_near true v n = zero-le
 whole_near false v n = zero-le
 
-whole_read : (t : Bool) (v : ℕ) (w : List ℕ) (r : Spelt) → r ≡ whole_of t v → WordRead (whole_of t v) w r
+whole_read : (t : Bool) (v : ℕ) (w : List ℕ) (r : Result ℕ Fault) → r ≡ whole_of t v → WordRead (whole_of t v) w r
 whole_read t v w r e = record { is = e; near = rw e (whole_near t v (length w)) }
 
-pub name_read : (w : List ℕ) (r : Spelt) → r ≡ whole_of (leb 1 (length w) && leb (length w) name_limit) (length w) → WordRead (name_of w) w r
+pub name_read : (w : List ℕ) (r : Result ℕ Fault) → r ≡ whole_of (leb 1 (length w) && leb (length w) name_limit) (length w) → WordRead (name_of w) w r
 unfolding name_of
 name_read w r e = whole_read (leb 1 (length w) && leb (length w) name_limit) (length w) w r e
 
-pub strand_read : (dot : Bool) (w : List ℕ) (t : Bool) (v : ℕ) (r : Spelt) → t ≡ is_strand dot w → v ≡ get_or w 0 0 → r ≡ whole_of t v → WordRead (strand_of dot w) w r
+pub strand_read : (dot : Bool) (w : List ℕ) (t : Bool) (v : ℕ) (r : Result ℕ Fault) → t ≡ is_strand dot w → v ≡ get_or w 0 0 → r ≡ whole_of t v → WordRead (strand_of dot w) w r
 unfolding strand_of
 strand_read dot w t v r et ev e = whole_read (is_strand dot w) (get_or w 0 0) w r (rw (et, ev) at e)
 
-pub fixed_read : (f : Fixed) (w : List ℕ) (t : Bool) (r : Spelt) → t ≡ same_bytes w (fixed_text f) → r ≡ whole_of t 0 → WordRead (fixed_of f w) w r
+pub fixed_read : (f : Fixed) (w : List ℕ) (t : Bool) (r : Result ℕ Fault) → t ≡ same_bytes w (fixed_text f) → r ≡ whole_of t 0 → WordRead (fixed_of f w) w r
 unfolding fixed_of
 fixed_read f w t r et e = whole_read (same_bytes w (fixed_text f)) 0 w r (rw et at e)
 
-pub ranged_read : (r : Range) (w : List ℕ) (low high : ℕ) (x : Spelt) → low ≡ least_of r → high ≡ most_of r → NumberRead low high w x → WordRead (number_of (least_of r) (most_of r) w) w x
+pub ranged_read : (r : Range) (w : List ℕ) (low high : ℕ) (x : Result ℕ Fault) → low ≡ least_of r → high ≡ most_of r → NumberRead low high w x → WordRead (number_of (least_of r) (most_of r) w) w x
 ranged_read r w low high x el eh h = record { is = rw (← el, ← eh) h.is; near = omega (arith, h.near) }
 
 -- two words compared byte by byte
@@ -122,16 +123,16 @@ three_stored (x ∷ y ∷ z ∷ []) e = refl
 three_stored (x ∷ y ∷ z ∷ u ∷ vs) e = absurd (omega arith)
 
 module _ (w : List ℕ) (t : Bool) (et : t ≡ same_bytes w (48 ∷ [])) where
-  pub colour_short : t ≡ true → WordRead (colour_of w) w (Means 0)
+  pub colour_short : t ≡ true → WordRead (colour_of w) w (Ok 0)
   unfolding colour_of
   colour_short q = record { is = rw (← et, q); near = zero-le }
 
-  module _ (no : t ≡ false) (v : List ℕ) (x : Spelt) (ex : ListRead 0 colour_limit false 3 w (0 ∷ 0 ∷ 0 ∷ []) v x) where
-    pub colour_bad : (why : Reason) (at : ℕ) → x ≡ Faulty why at → WordRead (colour_of w) w (Faulty why at)
+  module _ (no : t ≡ false) (v : List ℕ) (x : Result ℕ Fault) (ex : ListRead 0 colour_limit false 3 w (0 ∷ 0 ∷ 0 ∷ []) v x) where
+    pub colour_bad : (why : Reason) (at : ℕ) → x ≡ Err (fault_at why at) → WordRead (colour_of w) w (Err (fault_at why at))
     unfolding colour_of
     colour_bad why at q = record { is = rw (← et, no, ← ex.is, q); near = rw q at ex.near }
 
-    pub colour_good : (m : ℕ) → x ≡ Means m → (c : ℕ) → c ≡ packed (get_or v 0 0 % suc colour_limit) (get_or v 1 0 % suc colour_limit) (get_or v 2 0 % suc colour_limit) → WordRead (colour_of w) w (Means c)
+    pub colour_good : (m : ℕ) → x ≡ Ok m → (c : ℕ) → c ≡ packed (get_or v 0 0 % suc colour_limit) (get_or v 1 0 % suc colour_limit) (get_or v 2 0 % suc colour_limit) → WordRead (colour_of w) w (Ok c)
     unfolding colour_of
     colour_good m q c e =
         let r = list_range 0 colour_limit false 3 w m (sym ex.is ∙ q) in
@@ -174,7 +175,7 @@ part_stored d y xs base b eb ey =
     (λ h. sets_out d b xs (omega arith) ∙ sym (sets_out d base xs (omega arith))))
 
 -- a list, its items stored in a part of the table
-pub list_spelled : (r : Range) (n : ℕ) (w : List ℕ) (base b : ℕ) (d y : List ℕ) (low high : ℕ) (found x : Spelt) → low ≡ least_of r → high ≡ most_of r → b ≡ min base (length d)
+pub list_spelled : (r : Range) (n : ℕ) (w : List ℕ) (base b : ℕ) (d y : List ℕ) (low high : ℕ) (found x : Result ℕ Fault) → low ≡ least_of r → high ≡ most_of r → b ≡ min base (length d)
     → ItemsStored low high w (take (length d - b) (drop b d)) y found → ListEnded true n w found x
     → Spelled (list_of (least_of r) (most_of r) true n w) w (good_values (least_of r) (most_of r) (items_of w)) base d (put_mid b (length d - b) d y) x
 unfolding list_of
@@ -185,7 +186,7 @@ list_spelled r n w base b d y low high found x el eh eb walk end = record {
 }
 
 -- what a word spells, kind by kind
-module _ (k : Kind) (n : ℕ) (w : List ℕ) (base : ℕ) (d : List ℕ) (r : Spelt) where
+module _ (k : Kind) (n : ℕ) (w : List ℕ) (base : ℕ) (d : List ℕ) (r : Result ℕ Fault) where
   abbrev Goal : List ℕ → Type 0
   Goal d' = Spelled (spelt k n w) w (items_in k w) base d d' r
 

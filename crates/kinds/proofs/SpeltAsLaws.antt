@@ -14,8 +14,6 @@ use Rattle.text.specs.Scan.{is_in, run}
 use Rattle.text.specs.Pieces.{joined}
 use Rattle.text.proofs.Laws.{more_ones}
 use Rattle.text.proofs.TextLaws.{All, both}
-use Rattle.numbers.specs.declared.Spelt.{Spelt}
-use Rattle.numbers.specs.declared.Spelt.TheVariants.{Means, Faulty}
 use Rattle.numbers.specs.Ranges.{Between}
 use Rattle.numbers.specs.Lists.{last_byte, open_end, then_count, list_of, values_of}
 use Rattle.writing.specs.Digits.{digits}
@@ -27,9 +25,12 @@ use Rattle.kinds.specs.Kinds.{least_of, most_of, fixed_text, is_strand, same_byt
 use Rattle.kinds.specs.SpeltAs.{parted, Letter, Mixed, SpeltAs}
 use Rattle.kinds.proofs.BackLaws.{most_small}
 use Rattle.kinds.proofs.DecimalLaws.{number_as, as_number, list_read, not_open, numbers_in_lem, numbers_count, numbers_word, list_as, as_shut, as_list}
+use Rattle.std.specs.Prelude.{Ok, Err, Result}
+use Rattle.ledger.specs.declared.Fault.{Fault}
+use Rattle.ledger.specs.Refusals.{fault_at}
 
 -- a word that is good as a whole
-whole_as : (t : Bool) (u v : ℕ) → whole_of t u ≡ Means v → (t ≡ true) × (u ≡ v)
+whole_as : (t : Bool) (u v : ℕ) → whole_of t u ≡ Ok v → (t ≡ true) × (u ≡ v)
 whole_as true u v h = (refl, cc)
 whole_as false u v h = absurd (let o : ◌≡◌ {A = ℕ} 0 1 = cc in omega arith)
 
@@ -66,7 +67,7 @@ as_letter dot v (inl e) = rw e
 as_letter dot v (inr (inl e)) = rw e
 as_letter dot v (inr (inr e)) = rw (e.1, e.0)
 
-strand_as : (dot : Bool) (v : ℕ) (w : List ℕ) → strand_of dot w ≡ Means v → (w ≡ v ∷ []) × Letter dot v
+strand_as : (dot : Bool) (v : ℕ) (w : List ℕ) → strand_of dot w ≡ Ok v → (w ≡ v ∷ []) × Letter dot v
 unfolding strand_of
 strand_as dot v w h =
     let p = whole_as (is_strand dot w) (get_or w 0 0) v h in
@@ -74,7 +75,7 @@ strand_as dot v w h =
     let e = one_byte w (eqb-true (length w) 1 q.0) in
     (e ∙ ap (λ (b : ℕ). b ∷ []) p.1, rw p.1 at (letter_as dot (get_or w 0 0) q.1))
 
-as_strand : (dot : Bool) (v : ℕ) (w : List ℕ) → w ≡ v ∷ [] → Letter dot v → strand_of dot w ≡ Means v
+as_strand : (dot : Bool) (v : ℕ) (w : List ℕ) → w ≡ v ∷ [] → Letter dot v → strand_of dot w ≡ Ok v
 unfolding strand_of
 as_strand dot v w e l = rw (e, as_letter dot v l)
 
@@ -104,11 +105,11 @@ no_comma w us h (inr e) = absurd (eqb-false (last_byte 0 w) 44 h (ap (last_byte 
     last_none : last_byte 44 [] ≡ 44
     last_none = unfold last_byte in refl
 
-colour_as : (v : ℕ) (w : List ℕ) → colour_of w ≡ Means v → ((w ≡ 48 ∷ []) × (v ≡ 0)) ⊎ Mixed w v
+colour_as : (v : ℕ) (w : List ℕ) → colour_of w ≡ Ok v → ((w ≡ 48 ∷ []) × (v ≡ 0)) ⊎ Mixed w v
 unfolding colour_of
 colour_as v w h = go (same_bytes w (48 ∷ [])) (list_of 0 colour_limit false 3 w) refl refl h
   where
-    mixed : (m : ℕ) → list_of 0 colour_limit false 3 w ≡ Means m → packed (get_or (values_of w) 0 0) (get_or (values_of w) 1 0) (get_or (values_of w) 2 0) ≡ v → Mixed w v
+    mixed : (m : ℕ) → list_of 0 colour_limit false 3 w ≡ Ok m → packed (get_or (values_of w) 0 0) (get_or (values_of w) 1 0) (get_or (values_of w) 2 0) ≡ v → Mixed w v
     mixed m e q =
         let r = list_read 0 colour_limit false 3 m w (omega arith) e in
         let t = three (values_of w) (numbers_count 0 colour_limit false 3 m w r) in
@@ -122,13 +123,13 @@ colour_as v w h = go (same_bytes w (48 ∷ [])) (list_of 0 colour_limit false 3 
           value = sym q;
         }
 
-    go : (t : Bool) (x : Spelt) → same_bytes w (48 ∷ []) ≡ t → list_of 0 colour_limit false 3 w ≡ x
-        → cond t (Means 0) (then_count x (λ m. Means (packed (get_or (values_of w) 0 0) (get_or (values_of w) 1 0) (get_or (values_of w) 2 0)))) ≡ Means v → ((w ≡ 48 ∷ []) × (v ≡ 0)) ⊎ Mixed w v
+    go : (t : Bool) (x : Result ℕ Fault) → same_bytes w (48 ∷ []) ≡ t → list_of 0 colour_limit false 3 w ≡ x
+        → cond t (Ok 0) (then_count x (λ m. Ok (packed (get_or (values_of w) 0 0) (get_or (values_of w) 1 0) (get_or (values_of w) 2 0)))) ≡ Ok v → ((w ≡ 48 ∷ []) × (v ≡ 0)) ⊎ Mixed w v
     go true x e f k = inl (same_as w (48 ∷ []) e, let z : 0 ≡ v = cc in sym z)
-    go false (Faulty why at) e f k = absurd (let o : ◌≡◌ {A = ℕ} 0 1 = cc in omega arith)
-    go false (Means m) e f k = inr (mixed m f (cc))
+    go false (Err (fault_at why at)) e f k = absurd (let o : ◌≡◌ {A = ℕ} 0 1 = cc in omega arith)
+    go false (Ok m) e f k = inr (mixed m f (cc))
 
-as_mixed : (v : ℕ) (w : List ℕ) → Mixed w v → colour_of w ≡ Means v
+as_mixed : (v : ℕ) (w : List ℕ) → Mixed w v → colour_of w ≡ Ok v
 unfolding colour_of open_end joined
 as_mixed v w m =
     let us = m.red ∷ m.green ∷ m.blue ∷ [] in
@@ -157,7 +158,7 @@ numbers_in (Stranded dot) w = []
 numbers_in (Word f) w = []
 numbers_in Colour w = []
 
-pub spelt_as : (k : Kind) (n v : ℕ) (w : List ℕ) → spelt k n w ≡ Means v → SpeltAs k n w v (numbers_in k w)
+pub spelt_as : (k : Kind) (n v : ℕ) (w : List ℕ) → spelt k n w ≡ Ok v → SpeltAs k n w v (numbers_in k w)
 unfolding spelt name_of fixed_of
 spelt_as Name n v w h =
     let p = whole_as (leb 1 (length w) && leb (length w) name_limit) (length w) v h in
@@ -170,16 +171,16 @@ spelt_as (Stranded dot) n v w h = let p = strand_as dot v w h in (p.0, p.1, refl
 spelt_as (Word f) n v w h = let p = whole_as (same_bytes w (fixed_text f)) 0 v h in (same_as w (fixed_text f) p.0, sym p.1, refl)
 spelt_as Colour n v w h = (colour_as v w h, refl)
 
-pub as_spelt : (k : Kind) (n v : ℕ) (w us : List ℕ) → SpeltAs k n w v us → (spelt k n w ≡ Means v) × (us ≡ numbers_in k w)
+pub as_spelt : (k : Kind) (n v : ℕ) (w us : List ℕ) → SpeltAs k n w v us → (spelt k n w ≡ Ok v) × (us ≡ numbers_in k w)
 unfolding spelt name_of fixed_of colour_of same_bytes
 as_spelt Name n v w us p = (rw (le-leb 1 (length w) p.1, le-leb (length w) name_limit p.2, p.0), p.3)
 as_spelt (Number r) n v w us p = (as_number (least_of r) (most_of r) v w (most_small r) p.0, p.1)
 as_spelt Count n v w us p = (as_number (least_of BlockCount) (most_of BlockCount) v w (omega arith) p.0, p.1)
-as_spelt (Items r) n v w us p = let q = as_list (least_of r) (most_of r) n w us (most_small r) p.0 in (q.0 ∙ ap Means (sym p.1), q.1)
+as_spelt (Items r) n v w us p = let q = as_list (least_of r) (most_of r) n w us (most_small r) p.0 in (q.0 ∙ ap Ok (sym p.1), q.1)
 as_spelt (Stranded dot) n v w us p = (as_strand dot v w p.0 p.1, p.2)
 as_spelt (Word f) n v w us p = (rw (p.0, p.1, as_same (fixed_text f)), p.2)
 as_spelt Colour n v w us p = (go p.0, p.1)
   where
-    go : ((w ≡ 48 ∷ []) × (v ≡ 0)) ⊎ Mixed w v → colour_of w ≡ Means v
+    go : ((w ≡ 48 ∷ []) × (v ≡ 0)) ⊎ Mixed w v → colour_of w ≡ Ok v
     go (inl e) = rw (e.0, e.1)
     go (inr m) = as_mixed v w m

@@ -1,13 +1,11 @@
 -- The kinds of column: what a word of each kind spells, or why it is refused.
-use Rattle.std.specs.Prelude.{ℕ, suc, ◌+◌, ◌*◌, ◌≤◌, ◌≡◌, Bool, true, false, ◌&&◌, ◌||◌, cond, List, [], ◌∷◌, length, get_or, leb, eqb}
+use Rattle.std.specs.Prelude.{ℕ, suc, ◌+◌, ◌*◌, ◌≤◌, ◌≡◌, Bool, true, false, ◌&&◌, ◌||◌, cond, List, [], ◌∷◌, length, get_or, leb, eqb, Ok, Err, Result}
 use Rattle.std.proofs.lemmas.List.Edits.{sets}
 use Rattle.ledger.specs.Limits.{largest_position, name_limit, block_limit, chain_score_limit, chain_id_limit, bed_score_limit, colour_limit}
 use Rattle.ledger.specs.Strands.{strand_letter}
 use Rattle.ledger.specs.declared.Strand.TheVariants.{Plus, Minus, Dot}
 use Rattle.ledger.specs.declared.Reason.TheVariants.{BadWord}
-use Rattle.numbers.specs.declared.Spelt.{Spelt}
-use Rattle.numbers.specs.declared.Spelt.TheVariants.{Means, Faulty}
-use Rattle.ledger.specs.Refusals.{require}
+use Rattle.ledger.specs.Refusals.{require, fault_at}
 use Rattle.numbers.specs.Spelling.{fault_in}
 use Rattle.numbers.specs.Numbers.{number_of}
 use Rattle.numbers.specs.Lists.{items_of, list_of, values_of, good_values, then_count}
@@ -18,6 +16,7 @@ use Rattle.kinds.specs.declared.Fixed.{Fixed}
 use Rattle.kinds.specs.declared.Fixed.TheVariants as fixed
 use Rattle.kinds.specs.declared.Kind.{Kind}
 use Rattle.kinds.specs.declared.Kind.TheVariants.{Name, Number, Count, Items, Stranded, Word, Colour}
+use Rattle.ledger.specs.declared.Fault.{Fault}
 
 -- the ranges of numbers: least and greatest value
 abbrev pub least_of : Range → ℕ
@@ -73,29 +72,29 @@ abbrev pub packed : ℕ → ℕ → ℕ → ℕ
 packed r g b = (r * suc colour_limit + g) * suc colour_limit + b
 
 -- a colour is the word `0`, or three numbers parted by commas with none at the end
-unfoldable pub colour_of : List ℕ → Spelt
+unfoldable pub colour_of : List ℕ → Result ℕ Fault
 colour_of w =
-    cond (same_bytes w (48 ∷ [])) (Means 0)
-    (then_count (list_of 0 colour_limit false 3 w) (λ m. Means (packed (get_or (values_of w) 0 0) (get_or (values_of w) 1 0) (get_or (values_of w) 2 0))))
+    cond (same_bytes w (48 ∷ [])) (Ok 0)
+    (then_count (list_of 0 colour_limit false 3 w) (λ m. Ok (packed (get_or (values_of w) 0 0) (get_or (values_of w) 1 0) (get_or (values_of w) 2 0))))
 
 -- a word that is good or not as a whole (6)
-abbrev pub whole_of : Bool → ℕ → Spelt
-whole_of good v = require good (Faulty BadWord 0) (Means v)
+abbrev pub whole_of : Bool → ℕ → Result ℕ Fault
+whole_of good v = require good (Err (fault_at BadWord 0)) (Ok v)
 
 -- a name has 1 to 64 bytes; it means its length
-unfoldable pub name_of : List ℕ → Spelt
+unfoldable pub name_of : List ℕ → Result ℕ Fault
 name_of w = whole_of (leb 1 (length w) && leb (length w) name_limit) (length w)
 
 -- a strand means its letter
-unfoldable pub strand_of : Bool → List ℕ → Spelt
+unfoldable pub strand_of : Bool → List ℕ → Result ℕ Fault
 strand_of dot w = whole_of (is_strand dot w) (get_or w 0 0)
 
 -- a fixed word means nothing
-unfoldable pub fixed_of : Fixed → List ℕ → Spelt
+unfoldable pub fixed_of : Fixed → List ℕ → Result ℕ Fault
 fixed_of f w = whole_of (same_bytes w (fixed_text f)) 0
 
 -- what a word of a kind spells, n being the last count before it; a list means its length
-unfoldable pub spelt : Kind → ℕ → List ℕ → Spelt
+unfoldable pub spelt : Kind → ℕ → List ℕ → Result ℕ Fault
 spelt Name n w = name_of w
 spelt (Number r) n w = number_of (least_of r) (most_of r) w
 spelt Count n w = number_of (least_of BlockCount) (most_of BlockCount) w
@@ -146,12 +145,12 @@ abbrev pub base_after : Kind → ℕ → ℕ
 base_after k base = base_by block_limit k base
 
 -- what reading one word promises: what it spells, and that a fault lies in it, which follows
-pub record WordRead (x : Spelt) (w : List ℕ) (r : Spelt) : Type 0 where
+pub record WordRead (x : Result ℕ Fault) (w : List ℕ) (r : Result ℕ Fault) : Type 0 where
   pub is : r ≡ x
   pub near : fault_in r ≤ length w
 
 -- and, of a word that may be a list, its numbers, stored in a table from a base on
-pub record Spelled (x : Spelt) (w held : List ℕ) (base : ℕ) (before after : List ℕ) (r : Spelt) : Type 0 where
+pub record Spelled (x : Result ℕ Fault) (w held : List ℕ) (base : ℕ) (before after : List ℕ) (r : Result ℕ Fault) : Type 0 where
   pub is : r ≡ x
   pub near : fault_in r ≤ length w
   pub stored : after ≡ sets before base held

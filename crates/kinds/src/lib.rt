@@ -10,8 +10,7 @@ ghost use Rattle.writing.specs.Digits.{list_text};
 ghost use Rattle.kinds.specs.Words.{colour_text, word_of};
 ghost use Rattle.kinds.specs.Kinds.{least_of, most_of, kind_of, is_strand, same_bytes, fixed_text, name_of, strand_of, fixed_of, colour_of, whole_of, packed, spelt, items_in, count_after, is_list, WordRead, Spelled};
 
-use ledger::Reason;
-use numbers::Spelt;
+use ledger::{Fault, Reason};
 
 // The ranges of numbers; least and greatest are in specs/Kinds.antt.
 #[derive(Clone, Copy)]
@@ -172,18 +171,18 @@ fn is_fixed(f: Fixed, word: &[u8]) -> bool
 }
 
 // A word that is good or not as a whole.
-fn whole(good: bool, v: u64) -> Spelt
+fn whole(good: bool, v: u64) -> Result<u64, Fault>
     ensures { result ≡ whole_of good v }
 {
     if good {
-        Spelt::Means(v)
+        Ok(v)
     } else {
-        Spelt::Faulty(Reason::BadWord, 0)
+        Err(Fault { reason: Reason::BadWord, place: 0 })
     }
 }
 
 // A name of 1 to 64 bytes; it means its length.
-pub fn read_name(word: &[u8]) -> Spelt
+pub fn read_name(word: &[u8]) -> Result<u64, Fault>
     ensures { WordRead (name_of word.now) word.now result }
 {
     let n = word.len();
@@ -191,21 +190,21 @@ pub fn read_name(word: &[u8]) -> Spelt
 }
 
 // A strand, `.` too where three letters are allowed; it means its letter.
-pub fn read_strand(dot: bool, word: &[u8]) -> Spelt
+pub fn read_strand(dot: bool, word: &[u8]) -> Result<u64, Fault>
     ensures { WordRead (strand_of dot word.now) word.now result }
 {
     whole(is_strand(dot, word), first(word))
 }
 
 // A word that the format fixes.
-pub fn read_fixed(f: Fixed, word: &[u8]) -> Spelt
+pub fn read_fixed(f: Fixed, word: &[u8]) -> Result<u64, Fault>
     ensures { WordRead (fixed_of f word.now) word.now result }
 {
     whole(is_fixed(f, word), 0)
 }
 
 // A number in its range.
-pub fn read_ranged(r: Range, word: &[u8]) -> Spelt
+pub fn read_ranged(r: Range, word: &[u8]) -> Result<u64, Fault>
     ensures { WordRead (number_of (least_of r) (most_of r) word.now) word.now result }
 {
     numbers::read_number(word, least_of(r), most_of(r))
@@ -222,21 +221,19 @@ fn pack(r: u64, g: u64, b: u64) -> u64
 }
 
 // A colour: `0`, or three numbers with no comma at the end.
-pub fn read_colour(word: &[u8]) -> Spelt
+pub fn read_colour(word: &[u8]) -> Result<u64, Fault>
     ensures { WordRead (colour_of word.now) word.now result }
 {
     if same_bytes(word, b"0") {
-        return Spelt::Means(0);
+        return Ok(0);
     }
     let mut v = [0u64; 3];
-    match numbers::read_list(word, 0, ledger::COLOUR_LIMIT, false, 3, &mut v) {
-        Spelt::Faulty(reason, at) => Spelt::Faulty(reason, at),
-        Spelt::Means(_) => Spelt::Means(pack(v[0], v[1], v[2])),
-    }
+    numbers::read_list(word, 0, ledger::COLOUR_LIMIT, false, 3, &mut v)?;
+    Ok(pack(v[0], v[1], v[2]))
 }
 
 // A comma list of so many numbers, stored in a table from a base on.
-fn list_word(r: Range, count: u64, word: &[u8], base: usize, lists: &mut [u64]) -> Spelt
+fn list_word(r: Range, count: u64, word: &[u8], base: usize, lists: &mut [u64]) -> Result<u64, Fault>
     ensures { Spelled (list_of (least_of r) (most_of r) true count word.now)
         word.now (good_values (least_of r) (most_of r) (items_of word.now)) base lists.old
         lists.new result }
@@ -247,7 +244,7 @@ fn list_word(r: Range, count: u64, word: &[u8], base: usize, lists: &mut [u64]) 
 }
 
 // What a word of a kind spells; the numbers of a list are stored from a base on, up to its first bad item.
-pub fn spell(kind: Kind, count: u64, word: &[u8], base: usize, lists: &mut [u64]) -> Spelt
+pub fn spell(kind: Kind, count: u64, word: &[u8], base: usize, lists: &mut [u64]) -> Result<u64, Fault>
     ensures { Spelled (spelt kind count word.now) word.now (items_in kind word.now) base
         lists.old lists.new result }
 {

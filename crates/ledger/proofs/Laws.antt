@@ -11,9 +11,9 @@ use Rattle.ledger.specs.declared.Reason.{Reason}
 use Rattle.ledger.specs.declared.Reason.TheVariants.{TextTooLong, WrongCount, ByteNotAllowed, NumberMisspelt, NumberOutOfRange, BadWord, SpanDisagrees, ListLength, BlockRules, CountsDisagree, NoRoom, NoPair, OutsideTarget}
 use Rattle.ledger.specs.declared.Strand.{Strand}
 use Rattle.ledger.specs.declared.Strand.TheVariants.{Plus, Minus, Dot}
-use Rattle.ledger.specs.declared.Lettered.TheVariants.{Is, NoStrand}
 use Rattle.ledger.specs.Reasons.{reason_number}
 use Rattle.ledger.specs.Strands.{strand_opposite, strand_letter, strand_of, strand_is, is_told}
+use Rattle.std.specs.Prelude.{Some, None}
 
 pub opposite_twice : (s : Strand) → strand_opposite (strand_opposite s) ≡ s
 opposite_twice Plus = refl
@@ -21,7 +21,7 @@ opposite_twice Minus = refl
 opposite_twice Dot = refl
 
 -- a strand is read back from its letter
-pub strand_of_letter : (s : Strand) → strand_of (strand_letter s) ≡ Is s
+pub strand_of_letter : (s : Strand) → strand_of (strand_letter s) ≡ Some s
 strand_of_letter Plus = refl
 strand_of_letter Minus = refl
 strand_of_letter Dot = refl
@@ -29,7 +29,7 @@ strand_of_letter Dot = refl
 -- so two strands with one letter are the same
 pub letter_determines : (s t : Strand) → strand_letter s ≡ strand_letter t → s ≡ t
 letter_determines s t e =
-    let h : Is s ≡ Is t = sym (strand_of_letter s) ∙ ap strand_of e ∙ strand_of_letter t in
+    let h : Some s ≡ Some t = sym (strand_of_letter s) ∙ ap strand_of e ∙ strand_of_letter t in
     cc
 
 -- the ledger's rows in their order
@@ -72,7 +72,7 @@ module _ (v : ℕ) where
   pub value_dot : (v ≡ 43 → ⊥) → (v ≡ 45 → ⊥) → Dot ≡ strand_is (strand_of v)
   value_dot h k = rw (ne_eqb v 43 h, ne_eqb v 45 k) (go (eqb v 46))
     where
-      go : (t : Bool) → Dot ≡ strand_is (cond t (Is Dot) NoStrand)
+      go : (t : Bool) → Dot ≡ strand_is (cond t (Some Dot) None)
       go true = refl
       go false = refl
 

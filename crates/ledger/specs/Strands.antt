@@ -1,9 +1,7 @@
 -- The strand kind of 01: its opposite and its letter.
-use Rattle.std.specs.Prelude.{ℕ, Bool, true, false, cond, eqb}
+use Rattle.std.specs.Prelude.{ℕ, Bool, true, false, cond, eqb, Some, None, Option}
 use Rattle.ledger.specs.declared.Strand.{Strand}
 use Rattle.ledger.specs.declared.Strand.TheVariants.{Plus, Minus, Dot}
-use Rattle.ledger.specs.declared.Lettered.{Lettered}
-use Rattle.ledger.specs.declared.Lettered.TheVariants.{Is, NoStrand}
 
 abbrev pub strand_opposite : Strand → Strand
 strand_opposite Plus = Minus
@@ -17,12 +15,12 @@ strand_letter Minus = 45
 strand_letter Dot = 46
 
 -- the strand of a letter
-abbrev pub strand_of : ℕ → Lettered
-strand_of b = cond (eqb b (strand_letter Plus)) (Is Plus) (cond (eqb b (strand_letter Minus)) (Is Minus) (cond (eqb b (strand_letter Dot)) (Is Dot) NoStrand))
+abbrev pub strand_of : ℕ → Option Strand
+strand_of b = cond (eqb b (strand_letter Plus)) (Some Plus) (cond (eqb b (strand_letter Minus)) (Some Minus) (cond (eqb b (strand_letter Dot)) (Some Dot) None))
 
-abbrev pub strand_is : Lettered → Strand
-strand_is (Is s) = s
-strand_is NoStrand = Dot
+abbrev pub strand_is : Option Strand → Strand
+strand_is (Some s) = s
+strand_is None = Dot
 
 -- whether a strand is told: `+` or `-`
 abbrev pub is_told : Strand → Bool

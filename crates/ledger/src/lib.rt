@@ -147,13 +147,6 @@ pub enum Strand {
     Dot,
 }
 
-// The strand of a letter, where the letter is one.
-#[derive(Clone, Copy)]
-pub enum Lettered {
-    Is(Strand),
-    NoStrand,
-}
-
 impl Strand {
     // `+` and `-` change places; `.` is its own opposite.
     pub fn opposite(self) -> Strand
@@ -187,14 +180,14 @@ impl Strand {
         }
     }
 
-    pub fn of_letter(b: u8) -> Lettered
+    pub fn of_letter(b: u8) -> Option<Strand>
         ensures { result ≡ strand_of b }
     {
         match b {
-            b'+' => Lettered::Is(Strand::Plus),
-            b'-' => Lettered::Is(Strand::Minus),
-            b'.' => Lettered::Is(Strand::Dot),
-            _ => Lettered::NoStrand,
+            b'+' => Some(Strand::Plus),
+            b'-' => Some(Strand::Minus),
+            b'.' => Some(Strand::Dot),
+            _ => None,
         }
     }
 

@@ -13,9 +13,6 @@ use Rattle.ledger.specs.declared.Refusal.{Refusal}
 use Rattle.ledger.specs.declared.Reason.TheVariants.{BlockRules}
 use Rattle.ledger.specs.declared.Strand.TheVariants.{Dot}
 use Rattle.ledger.specs.Limits.{largest_position, name_limit, block_limit, chain_score_limit, chain_id_limit}
-use Rattle.text.specs.declared.Check.{Check}
-use Rattle.text.specs.declared.Check.TheVariants.{Holds}
-use Rattle.text.specs.declared.Check.TheVariants as check
 use Rattle.ledger.specs.Refusals.{require}
 use Rattle.text.specs.Checks.{refused}
 use Rattle.blocks.specs.Blocks.{count_fits, rows_of}
@@ -29,6 +26,7 @@ use Rattle.chain.specs.Write.{record_check}
 use Rattle.chain_laws.proofs.RuleLaws.{rules_of, rules_is, valid_used}
 use Rattle.lift.specs.Accepted.{used, accepted, Ready}
 use Rattle.lift.proofs.RunLaws.{run_at, Placed, placed_of, placed_is}
+use Rattle.std.specs.Prelude.{Ok, Err, Result, ⊤}
 
 -- the rules of an accepted chain, on a table of n rows whose used ones are bs
 pub record Rules (c : Chain) (n : ℕ) (bs : List Row) : Type 0 where
@@ -199,18 +197,18 @@ pub ready_if : (c : Chain) (ts qs zs : List ℕ) (u : Bool) → u ≡ accepted c
 ready_if c ts qs zs u e h = ready c ts qs zs (accepted_true c (table_of ts qs zs) u e h)
 
 -- the record checker's answer as a flag
-pub accepted_if : (c : Chain) (ts qs zs : List ℕ) (x : Check) → x ≡ record_check c ts qs zs → x ≡ Holds → true ≡ accepted c (table_of ts qs zs)
+pub accepted_if : (c : Chain) (ts qs zs : List ℕ) (x : Result ⊤ Refusal) → x ≡ record_check c ts qs zs → x ≡ (Ok tt) → true ≡ accepted c (table_of ts qs zs)
 unfolding record_check
 accepted_if c ts qs zs x e h = go (chain_valid c ts qs zs) refl (sym h ∙ e)
   where
-    go : (t : Bool) → chain_valid c ts qs zs ≡ t → Holds ≡ require t (refused BlockRules) Holds → true ≡ accepted c (table_of ts qs zs)
+    go : (t : Bool) → chain_valid c ts qs zs ≡ t → (Ok tt) ≡ require t (refused BlockRules) (Ok tt) → true ≡ accepted c (table_of ts qs zs)
     go true k l = sym k ∙ table_accepted c ts qs zs
     go false k l = absurd (let z : ◌≡◌ {A = ℕ} 0 1 = cc in omega arith)
 
-pub not_accepted_if : (c : Chain) (ts qs zs : List ℕ) (x : Check) (y : Refusal) → x ≡ record_check c ts qs zs → x ≡ check.Refused y → false ≡ accepted c (table_of ts qs zs)
+pub not_accepted_if : (c : Chain) (ts qs zs : List ℕ) (x : Result ⊤ Refusal) (y : Refusal) → x ≡ record_check c ts qs zs → x ≡ Err y → false ≡ accepted c (table_of ts qs zs)
 unfolding record_check
 not_accepted_if c ts qs zs x y e h = go (chain_valid c ts qs zs) refl (sym h ∙ e)
   where
-    go : (t : Bool) → chain_valid c ts qs zs ≡ t → check.Refused y ≡ require t (refused BlockRules) Holds → false ≡ accepted c (table_of ts qs zs)
+    go : (t : Bool) → chain_valid c ts qs zs ≡ t → Err y ≡ require t (refused BlockRules) (Ok tt) → false ≡ accepted c (table_of ts qs zs)
     go true k l = absurd (let z : ◌≡◌ {A = ℕ} 0 1 = cc in omega arith)
     go false k l = sym k ∙ table_accepted c ts qs zs

@@ -9,18 +9,18 @@ use lib.Dec.{leb, ltb}
 use borrow.Author.Tests.{le-leb, lt-ltb, leb-true, ltb-true}
 use Rattle.blocks.proofs.RuleLaws.{both}
 use Rattle.blocks.proofs.TableLaws.{taken, taken_cons, taken_end}
-use Rattle.lift.specs.declared.Partner.TheVariants.{Base, Alone}
 use Rattle.lift.specs.Accepted.{Wide}
 use Rattle.lift.specs.Pairs.{InBlock, in_block, pairs_of, partner_of}
 use Rattle.lift.proofs.RunLaws.{either}
 use Rattle.lift.proofs.PairLaws.{block_before, block_after, block_in}
+use Rattle.std.specs.Prelude.{Some, None}
 
 pub held : (x z p : ℕ) (u : Bool) → u ≡ in_block x z p → u ≡ true → (x ≤ p) × (p < x + z)
 held x z p u e k = let h = both (leb x p) (ltb p (x + z)) (sym e ∙ k) in (leb-true _ _ h.0, ltb-true _ _ h.1)
 
 module _ (f : ℕ → ℕ) (t q s : List ℕ) (p n i : ℕ) (h : i < n) (ht : n ≤ length t) (hq : n ≤ length q) (hs : n ≤ length s)
     (u : Bool) (e : u ≡ in_block (get_or t i 0) (get_or s i 0) p) (inv : partner_of p (pairs_of f (drop i (taken n t q s))) ≡ partner_of p (pairs_of f (taken n t q s))) where
-  pub found_here : u ≡ true → Base (f (get_or q i 0 + (p - get_or t i 0))) ≡ partner_of p (pairs_of f (taken n t q s))
+  pub found_here : u ≡ true → Some (f (get_or q i 0 + (p - get_or t i 0))) ≡ partner_of p (pairs_of f (taken n t q s))
   unfolding pairs_of
   found_here k =
       let b = held (get_or t i 0) (get_or s i 0) p u e k in
@@ -38,7 +38,7 @@ module _ (f : ℕ → ℕ) (t q s : List ℕ) (p n i : ℕ) (h : i < n) (ht : n 
       (λ l. sym (block_before f p (get_or t i 0) (get_or q i 0) (get_or s i 0) _ l) ∙ v)
 
 pub not_found : (f : ℕ → ℕ) (t q s : List ℕ) (p n i : ℕ) → n ≤ i → n ≤ length t → n ≤ length q → n ≤ length s
-    → partner_of p (pairs_of f (drop i (taken n t q s))) ≡ partner_of p (pairs_of f (taken n t q s)) → Alone ≡ partner_of p (pairs_of f (taken n t q s))
+    → partner_of p (pairs_of f (drop i (taken n t q s))) ≡ partner_of p (pairs_of f (taken n t q s)) → None ≡ partner_of p (pairs_of f (taken n t q s))
 unfolding pairs_of partner_of
 not_found f t q s p n i h ht hq hs inv = rw (taken_end n t q s ht hq hs i h) at inv
 
@@ -50,10 +50,10 @@ module _ (f : ℕ → ℕ) (t q s : List ℕ) (p n i : ℕ) (w : Wide n t q s) (
   pub seek_on : (u : Bool) → i < n → InBlock u (get_or t i 0) (get_or s i 0) p → u ≡ false → Seeking f t q s p n (i + 1)
   seek_on u h e k = record { to = omega arith; same = not_here f t q s p n i h w.targets w.queries w.sizes u e.is sk.same k }
 
-  pub seek_found : (u : Bool) (b : ℕ) → i < n → InBlock u (get_or t i 0) (get_or s i 0) p → u ≡ true → b ≡ f (get_or q i 0 + (p - get_or t i 0)) → Base b ≡ partner_of p (pairs_of f (taken n t q s))
-  seek_found u b h e k m = ap Base m ∙ found_here f t q s p n i h w.targets w.queries w.sizes u e.is sk.same k
+  pub seek_found : (u : Bool) (b : ℕ) → i < n → InBlock u (get_or t i 0) (get_or s i 0) p → u ≡ true → b ≡ f (get_or q i 0 + (p - get_or t i 0)) → Some b ≡ partner_of p (pairs_of f (taken n t q s))
+  seek_found u b h e k m = ap Some m ∙ found_here f t q s p n i h w.targets w.queries w.sizes u e.is sk.same k
 
-  pub seek_past : n ≤ i → Alone ≡ partner_of p (pairs_of f (taken n t q s))
+  pub seek_past : n ≤ i → None ≡ partner_of p (pairs_of f (taken n t q s))
   seek_past h = not_found f t q s p n i h w.targets w.queries w.sizes sk.same
 
 pub told_low : (u : Bool) (x z p : ℕ) → InBlock u x z p → u ≡ true → x ≤ p

@@ -21,16 +21,14 @@ use Rattle.ledger.specs.declared.Reason.TheVariants.{BlockRules, NoPair, Outside
 use Rattle.ledger.specs.Limits.{largest_position}
 use Rattle.blocks.specs.Rows.{target_end, query_end, table_of}
 use Rattle.chain.specs.declared.Chain.{Chain}
-use Rattle.lift.specs.declared.Partner.{Partner}
-use Rattle.lift.specs.declared.Partner.TheVariants.{Base, Alone}
-use Rattle.lift.specs.declared.PositionAnswer.{PositionAnswer}
-use Rattle.lift.specs.declared.PositionAnswer.TheVariants.{Lifted}
 use Rattle.lift.specs.Accepted.{accepted, used, Ready}
 use Rattle.lift.specs.Pairs.{Pair, pair, forward_on, forward, block_pairs, pairs_of, pairs, partner_of}
 use Rattle.lift.specs.Positions.{not_lifted, at_partner, lift_position}
 use Rattle.lift.proofs.RunLaws.{either, Run, run_below}
 use Rattle.lift.proofs.PairLaws.{in_block_lem, found_mem, mem_found}
 use Rattle.lift.proofs.AcceptLaws.{accepted_rules}
+use Rattle.std.specs.Prelude.{Ok, Some, None, Result, Option}
+use Rattle.ledger.specs.declared.Refusal.{Refusal}
 
 -- ---- the drift of two coordinates, as a signed word of the machine holds it
 mag_less : (b a m : ℕ) → b ≤ m → a ≤ m → mag (pos b -ℤ pos a) ≤ m
@@ -85,7 +83,7 @@ module _ (c : Chain) (rows : List Row) (ok : accepted c rows ≡ true) where
       let u = mem_found (forward c) _ _ _ _ (used c rows) (pair p q) run m in
       let v = mem_found (forward c) _ _ _ _ (used c rows) (pair p q') run n in cc
 
-  pub pair_found : (p q : ℕ) → Memᴰ (pair p q) (pairs c rows) → partner_of p (pairs c rows) ≡ Base q
+  pub pair_found : (p q : ℕ) → Memᴰ (pair p q) (pairs c rows) → partner_of p (pairs c rows) ≡ Some q
   unfolding pairs
   pair_found p q m = mem_found (forward c) _ _ _ _ (used c rows) (pair p q) run m
 
@@ -100,23 +98,23 @@ module _ (c : Chain) (rows : List Row) (ok : accepted c rows ≡ true) where
       (omega arith, rw w.query_is (forward_below c.qStrand c.qSize w.base l))
 
   -- a position in a pair lifts to its partner
-  pub lifts : (p q : ℕ) → Memᴰ (pair p q) (pairs c rows) → lift_position c rows p ≡ Lifted q (pos q -ℤ pos p)
+  pub lifts : (p q : ℕ) → Memᴰ (pair p q) (pairs c rows) → lift_position c rows p ≡ Ok (q, (pos q -ℤ pos p))
   unfolding lift_position
   lifts p q m = rw (ok, lt-ltb p c.tSize (pair_inside p q m).0, pair_found p q m)
 
   -- and what lifts stands in a pair
-  pub lifted_lem : (p q : ℕ) (d : ℤ) → lift_position c rows p ≡ Lifted q d → Memᴰ (pair p q) (pairs c rows) × (d ≡ pos q -ℤ pos p)
+  pub lifted_lem : (p q : ℕ) (d : ℤ) → lift_position c rows p ≡ Ok (q, d) → Memᴰ (pair p q) (pairs c rows) × (d ≡ pos q -ℤ pos p)
   unfolding lift_position
   lifted_lem p q d e = go (ltb p c.tSize) (partner_of p (pairs c rows)) refl (rw ok at e)
     where
-      go : (t : Bool) (x : Partner) → partner_of p (pairs c rows) ≡ x → require t (not_lifted OutsideTarget) (at_partner p x) ≡ Lifted q d → Memᴰ (pair p q) (pairs c rows) × (d ≡ pos q -ℤ pos p)
+      go : (t : Bool) (x : Option ℕ) → partner_of p (pairs c rows) ≡ x → require t (not_lifted OutsideTarget) (at_partner p x) ≡ Ok (q, d) → Memᴰ (pair p q) (pairs c rows) × (d ≡ pos q -ℤ pos p)
       go false x k h = absurd (let z : ◌≡◌ {A = ℕ} 0 1 = cc in omega arith)
-      go true Alone k h = absurd (let z : ◌≡◌ {A = ℕ} 0 1 = cc in omega arith)
-      go true (Base b) k h = let z : b ≡ q = cc in let y : pos b -ℤ pos p ≡ d = cc in
-          (found_mem p q (pairs c rows) (k ∙ ap Base z), sym y ∙ ap (λ (n : ℕ). pos n -ℤ pos p) z)
+      go true None k h = absurd (let z : ◌≡◌ {A = ℕ} 0 1 = cc in omega arith)
+      go true (Some b) k h = let z : b ≡ q = cc in let y : pos b -ℤ pos p ≡ d = cc in
+          (found_mem p q (pairs c rows) (k ∙ ap Some z), sym y ∙ ap (λ (n : ℕ). pos n -ℤ pos p) z)
 
   -- A POSITION LIFTS TO q EXACTLY WHEN IT STANDS IN A PAIR WITH q
-  pub lifts_exactly : (p q : ℕ) → (lift_position c rows p ≡ Lifted q (pos q -ℤ pos p)) ↔ Memᴰ (pair p q) (pairs c rows)
+  pub lifts_exactly : (p q : ℕ) → (lift_position c rows p ≡ Ok (q, (pos q -ℤ pos p))) ↔ Memᴰ (pair p q) (pairs c rows)
   lifts_exactly p q = (λ e. (lifted_lem p q (pos q -ℤ pos p) e).0, λ m. lifts p q m)
 
   -- a position inside the target that stands in no pair is refused by 12
@@ -124,17 +122,17 @@ module _ (c : Chain) (rows : List Row) (ok : accepted c rows ≡ true) where
   unfolding lift_position
   lone p h f = rw (ok, lt-ltb p c.tSize h) (go (partner_of p (pairs c rows)) refl)
     where
-      go : (x : Partner) → partner_of p (pairs c rows) ≡ x → at_partner p (partner_of p (pairs c rows)) ≡ not_lifted NoPair
-      go Alone k = rw k
-      go (Base b) k = absurd (f b (found_mem p b (pairs c rows) k))
+      go : (x : Option ℕ) → partner_of p (pairs c rows) ≡ x → at_partner p (partner_of p (pairs c rows)) ≡ not_lifted NoPair
+      go None k = rw k
+      go (Some b) k = absurd (f b (found_mem p b (pairs c rows) k))
 
 -- ---- the ways out of `lift_position`: the test fails, or the rows are ready
-pub not_accepted : (c : Chain) (rows : List Row) (p : ℕ) (u : Bool) (r : PositionAnswer) → u ≡ accepted c rows → not u ≡ true → r ≡ not_lifted BlockRules → r ≡ lift_position c rows p
+pub not_accepted : (c : Chain) (rows : List Row) (p : ℕ) (u : Bool) (r : Result (ℕ × ℤ) Refusal) → u ≡ accepted c rows → not u ≡ true → r ≡ not_lifted BlockRules → r ≡ lift_position c rows p
 unfolding lift_position
 not_accepted c rows p u r e h k = rw (← e, not-true u h) k
 
 module _ (c : Chain) (ts qs zs : List ℕ) (is : Ready c ts qs zs) (p : ℕ) where
-  module _ (r : PositionAnswer) where
+  module _ (r : Result (ℕ × ℤ) Refusal) where
     pub past_target : c.tSize ≤ p → r ≡ not_lifted OutsideTarget → r ≡ lift_position c (table_of ts qs zs) p
     unfolding lift_position
     past_target l k = rw (is.ok, le-ltb _ _ l) k
@@ -143,20 +141,20 @@ module _ (c : Chain) (ts qs zs : List ℕ) (is : Ready c ts qs zs) (p : ℕ) whe
     unfolding lift_position
     by_partner l k = rw (is.ok, lt-ltb _ _ l) k
 
-  module _ (x : Partner) (e : x ≡ partner_of p (pairs c (table_of ts qs zs))) where
+  module _ (x : Option ℕ) (e : x ≡ partner_of p (pairs c (table_of ts qs zs))) where
     -- both bases are coordinates
-    partnered : (b : ℕ) → x ≡ Base b → (p < c.tSize) × (b < c.qSize)
+    partnered : (b : ℕ) → x ≡ Some b → (p < c.tSize) × (b < c.qSize)
     partnered b l = pair_inside c (table_of ts qs zs) is.ok p b (found_mem p b (pairs c (table_of ts qs zs)) (sym e ∙ l))
 
-    pub small_target : (b : ℕ) → x ≡ Base b → p ≤ largest_position
+    pub small_target : (b : ℕ) → x ≡ Some b → p ≤ largest_position
     small_target b l = omega (arith, is.t_most, (partnered b l).0)
 
-    pub small_query : (b : ℕ) → x ≡ Base b → b ≤ largest_position
+    pub small_query : (b : ℕ) → x ≡ Some b → b ≤ largest_position
     small_query b l = omega (arith, is.q_most, (partnered b l).1)
 
     -- the drift, as the answer holds it
-    pub lift_at : (b : ℕ) (d : ℤ) → x ≡ Base b → d ≡ pos b -ℤ pos p → Lifted b (to_z w64 (of_z w64 d)) ≡ at_partner p (partner_of p (pairs c (table_of ts qs zs)))
+    pub lift_at : (b : ℕ) (d : ℤ) → x ≡ Some b → d ≡ pos b -ℤ pos p → Ok (b, (to_z w64 (of_z w64 d))) ≡ at_partner p (partner_of p (pairs c (table_of ts qs zs)))
     lift_at b d k h = rw (h, to_z-of_z (less_fits p b (small_target b k) (small_query b k)), ← e, k)
 
-    pub lift_none : (r : PositionAnswer) → x ≡ Alone → r ≡ not_lifted NoPair → r ≡ at_partner p (partner_of p (pairs c (table_of ts qs zs)))
+    pub lift_none : (r : Result (ℕ × ℤ) Refusal) → x ≡ None → r ≡ not_lifted NoPair → r ≡ at_partner p (partner_of p (pairs c (table_of ts qs zs)))
     lift_none r k h = rw (← e, k) h

@@ -8,17 +8,14 @@ use Rattle.ledger.specs.declared.Refusal.{Refusal}
 use Rattle.ledger.specs.Limits.{block_limit}
 use Rattle.blocks.specs.Rows.{table_of}
 use Rattle.chain.specs.declared.Chain.{Chain}
-use Rattle.chain.specs.declared.ChainAnswer.{ChainAnswer}
-use Rattle.chain.specs.declared.ChainAnswer.TheVariants as chain
 use Rattle.chain.specs.Records.{chain_targets, chain_queries, chain_sizes, chain_rows}
 use Rattle.chain.specs.Read.{InRoom}
 use Rattle.chain_laws.proofs.ValidLaws.{accepted_valid}
-use Rattle.lift.specs.declared.PositionAnswer.{PositionAnswer}
-use Rattle.lift.specs.declared.PositionAnswer.TheVariants as position
 use Rattle.lift.specs.Accepted.{Ready}
 use Rattle.lift.specs.Positions.{lift_position}
 use Rattle.lift.specs.Texts.{text_position, ChainHeld}
 use Rattle.lift.proofs.AcceptLaws.{table_accepted, ready}
+use Rattle.std.specs.Prelude.{Ok, Err, Result, ℤ}
 
 -- the rows in the working room
 module _ (s : List ℕ) (c : Chain) (l : List ℕ) (h : ChainHeld s c l) where
@@ -47,19 +44,19 @@ module _ (s : List ℕ) (c : Chain) (l : List ℕ) (h : ChainHeld s c l) where
     pub rows_are : table_of (take n l) (take (e - b) (drop b l)) (take (f - d) (drop d l)) ≡ chain_rows s c
     rows_are = rw (targets_are, queries_are, sizes_are)
 
-    pub rows_lifted : (r : PositionAnswer) (p : ℕ) → r ≡ lift_position c (table_of (take n l) (take (e - b) (drop b l)) (take (f - d) (drop d l))) p → r ≡ lift_position c (chain_rows s c) p
+    pub rows_lifted : (r : Result (ℕ × ℤ) Refusal) (p : ℕ) → r ≡ lift_position c (table_of (take n l) (take (e - b) (drop b l)) (take (f - d) (drop d l))) p → r ≡ lift_position c (chain_rows s c) p
     rows_lifted r p k = rw rows_are at k
 
 -- the text
-module _ (s rows rows' : List ℕ) (x : ChainAnswer) (read : InRoom s rows rows' x) where
-  pub text_held : (c : Chain) → x ≡ chain.Accepted c → length rows ≡ 3 * block_limit → ChainHeld s c rows'
+module _ (s rows rows' : List ℕ) (x : Result Chain Refusal) (read : InRoom s rows rows' x) where
+  pub text_held : (c : Chain) → x ≡ Ok c → length rows ≡ 3 * block_limit → ChainHeld s c rows'
   text_held c q l = record { is = sym read.is ∙ q; held = read.held l c q }
 
   module _ (p : ℕ) where
-    pub text_refused : (y : Refusal) → x ≡ chain.Refused y → position.Refused y ≡ text_position s p
+    pub text_refused : (y : Refusal) → x ≡ Err y → Err y ≡ text_position s p
     unfolding text_position
     text_refused y q = rw (← read.is, q)
 
-    pub text_lifted_lem : (c : Chain) → x ≡ chain.Accepted c → (r : PositionAnswer) → r ≡ lift_position c (chain_rows s c) p → r ≡ text_position s p
+    pub text_lifted_lem : (c : Chain) → x ≡ Ok c → (r : Result (ℕ × ℤ) Refusal) → r ≡ lift_position c (chain_rows s c) p → r ≡ text_position s p
     unfolding text_position
     text_lifted_lem c q r k = rw (← read.is, q) k

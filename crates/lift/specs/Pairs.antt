@@ -1,11 +1,9 @@
 -- The pairs of a chain (01, "Pairs, lifting, turning"), and looking up in them. The bases of each block pair off in order.
-use Rattle.std.specs.Prelude.{ℕ, zero, suc, ◌+◌, ◌≡◌, Bool, true, false, ◌&&◌, List, [], ◌∷◌, ◌++◌, leb, ltb, eqb}
+use Rattle.std.specs.Prelude.{ℕ, zero, suc, ◌+◌, ◌≡◌, Bool, true, false, ◌&&◌, List, [], ◌∷◌, ◌++◌, leb, ltb, eqb, Some, None, Option}
 use Rattle.ledger.specs.declared.Strand.{Strand}
 use Rattle.ledger.specs.declared.Row.{Row}
 use Rattle.blocks.specs.Strands.{strand_start}
 use Rattle.chain.specs.declared.Chain.{Chain}
-use Rattle.lift.specs.declared.Partner.{Partner}
-use Rattle.lift.specs.declared.Partner.TheVariants.{Base, Alone}
 use Rattle.lift.specs.Accepted.{used}
 
 -- a target base and its query base, both counted on the forward strand
@@ -37,17 +35,17 @@ unfoldable pub pairs : Chain → List Row → List Pair
 pairs c rows = pairs_of (forward c) (used c rows)
 
 -- what looking up a target base finds: the partner in its first pair, or none
-abbrev pub or_else : Bool → ℕ → Partner → Partner
-or_else true q rest = Base q
+abbrev pub or_else : Bool → ℕ → Option ℕ → Option ℕ
+or_else true q rest = Some q
 or_else false q rest = rest
 
-unfoldable pub partner_of : ℕ → List Pair → Partner
-partner_of p [] = Alone
+unfoldable pub partner_of : ℕ → List Pair → Option ℕ
+partner_of p [] = None
 partner_of p (x ∷ xs) = or_else (eqb x.target p) x.query (partner_of p xs)
 
-abbrev pub is_partner : Partner → Bool
-is_partner (Base q) = true
-is_partner Alone = false
+abbrev pub is_partner : Option ℕ → Bool
+is_partner (Some q) = true
+is_partner None = false
 
 -- whether a target base stands in a pair
 abbrev pub stands : ℕ → List Pair → Bool

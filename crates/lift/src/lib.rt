@@ -11,9 +11,8 @@ ghost use Rattle.lift.specs.Pairs.{forward_on, pairs, partner_of, InBlock};
 ghost use Rattle.lift.specs.Positions.{not_lifted, lift_position};
 ghost use Rattle.lift.specs.Texts.{text_position, ChainHeld};
 
-use chain::{Chain, ChainAnswer};
+use chain::Chain;
 use ledger::{Position, Reason, Refusal, Strand};
-use text::Check;
 
 // A span of a sequence: its first base, and the base after its last.
 #[derive(Clone, Copy)]
@@ -22,34 +21,14 @@ pub struct Span {
     pub end: u64,
 }
 
-#[derive(Clone, Copy)]
-pub enum SpanAnswer {
-    Converted(Span),
-    Refused(Refusal),
-}
-
-// What looking up a target base finds: its partner, or none.
-#[derive(Clone, Copy)]
-pub enum Partner {
-    Base(u64),
-    Alone,
-}
-
-// A position's partner and the drift, partner minus position; or the refusal.
-#[derive(Clone, Copy)]
-pub enum PositionAnswer {
-    Lifted(u64, i64),
-    Refused(Refusal),
-}
-
-fn not_converted(reason: Reason) -> SpanAnswer
+fn not_converted(reason: Reason) -> Result<Span, Refusal>
     ensures { result ≡ not_converted reason }
 {
-    SpanAnswer::Refused(Refusal::without_text(reason))
+    Err(Refusal::without_text(reason))
 }
 
 // THE CONVERSION of a span to the other strand of a sequence of so many bases.
-pub fn convert(start: u64, end: u64, size: u64) -> SpanAnswer
+pub fn convert(start: u64, end: u64, size: u64) -> Result<Span, Refusal>
     ensures { result ≡ converted start end size }
 {
     let most = Position::LARGEST;
@@ -62,7 +41,7 @@ pub fn convert(start: u64, end: u64, size: u64) -> SpanAnswer
     if size < end {
         return not_converted(Reason::SpanDisagrees);
     }
-    SpanAnswer::Converted(Span {
+    Ok(Span {
         start: size - end,
         end: size - start,
     })
@@ -73,8 +52,8 @@ pub fn is_accepted(c: Chain, targets: &[u64], queries: &[u64], sizes: &[u64]) ->
     ensures { result ≡ accepted c (table_of targets.now queries.now sizes.now) }
 {
     match chain::check_chain(c, targets, queries, sizes) {
-        Check::Holds => true,
-        Check::Refused(_) => false,
+        Ok(()) => true,
+        Err(_) => false,
     }
 }
 
@@ -97,7 +76,7 @@ fn in_block(start: u64, size: u64, p: u64) -> bool
 }
 
 // The partner of a target base, in an accepted chain: one pass over the blocks.
-fn find_partner(c: Chain, targets: &[u64], queries: &[u64], sizes: &[u64], p: u64) -> Partner
+fn find_partner(c: Chain, targets: &[u64], queries: &[u64], sizes: &[u64], p: u64) -> Option<u64>
     requires { Ready c targets.now queries.now sizes.now }
     ensures { result ≡ partner_of p (pairs c (table_of targets.now queries.now sizes.now)) }
 {
@@ -110,11 +89,11 @@ fn find_partner(c: Chain, targets: &[u64], queries: &[u64], sizes: &[u64], p: u6
         let z = sizes[i];
         if in_block(t, z, p) {
             let s = queries[i] + (p - t);
-            return Partner::Base(forward_base(k, size, s));
+            return Some(forward_base(k, size, s));
         }
         i += 1;
     }
-    Partner::Alone
+    None
 }
 
 // Partner minus position.
@@ -125,10 +104,10 @@ fn drift_of(p: u64, q: u64) -> i64
     (q as i64) - (p as i64)
 }
 
-fn not_lifted(reason: Reason) -> PositionAnswer
+fn not_lifted(reason: Reason) -> Result<(u64, i64), Refusal>
     ensures { result ≡ not_lifted reason }
 {
-    PositionAnswer::Refused(Refusal::without_text(reason))
+    Err(Refusal::without_text(reason))
 }
 
 // The lift of a position through rows of an accepted chain.
@@ -138,7 +117,7 @@ fn position_ready(
     queries: &[u64],
     sizes: &[u64],
     p: u64,
-) -> PositionAnswer
+) -> Result<(u64, i64), Refusal>
     requires { Ready c targets.now queries.now sizes.now }
     ensures { result ≡ lift_position c (table_of targets.now queries.now sizes.now) p }
 {
@@ -146,8 +125,8 @@ fn position_ready(
         return not_lifted(Reason::OutsideTarget);
     }
     match find_partner(c, targets, queries, sizes, p) {
-        Partner::Base(q) => PositionAnswer::Lifted(q, drift_of(p, q)),
-        Partner::Alone => not_lifted(Reason::NoPair),
+        Some(q) => Ok((q, drift_of(p, q))),
+        None => not_lifted(Reason::NoPair),
     }
 }
 
@@ -158,7 +137,7 @@ pub fn lift_position(
     queries: &[u64],
     sizes: &[u64],
     p: u64,
-) -> PositionAnswer
+) -> Result<(u64, i64), Refusal>
     ensures { result ≡ lift_position c (table_of targets.now queries.now sizes.now) p }
 {
     if !is_accepted(c, targets, queries, sizes) {
@@ -168,7 +147,7 @@ pub fn lift_position(
 }
 
 // The same through the rows that reading a chain's text left in its working room.
-fn position_rows(text: &[u8], c: Chain, rows: &[u64], p: u64) -> PositionAnswer
+fn position_rows(text: &[u8], c: Chain, rows: &[u64], p: u64) -> Result<(u64, i64), Refusal>
     requires { ChainHeld text.now c rows.now }
     ensures { result ≡ lift_position c (chain_rows text.now c) p }
 {
@@ -182,12 +161,10 @@ fn position_rows(text: &[u8], c: Chain, rows: &[u64], p: u64) -> PositionAnswer
 
 // THE LIFT OF A POSITION through a chain's text: what a text that is read says is an accepted chain, so it is not tested
 // again.
-pub fn position_text(text: &[u8], p: u64) -> PositionAnswer
+pub fn position_text(text: &[u8], p: u64) -> Result<(u64, i64), Refusal>
     ensures { result ≡ text_position text.now p }
 {
     let mut rows = blocks::working_room();
-    match chain::read_rows(text, &mut rows) {
-        ChainAnswer::Refused(x) => PositionAnswer::Refused(x),
-        ChainAnswer::Accepted(c) => position_rows(text, c, &rows, p),
-    }
+    let c = chain::read_rows(text, &mut rows)?;
+    position_rows(text, c, &rows, p)
 }

@@ -17,13 +17,13 @@ use Rattle.text.proofs.Laws.{end_of_step, end_of_past, blank_line, either}
 use Rattle.text.proofs.TextLaws.{All, digit_graphic, graphic_word, graphic_line, graphic_allowed}
 use Rattle.text.proofs.PieceLaws.{pieces_step}
 use Rattle.numbers.specs.declared.Digits.{Digits}
-use Rattle.numbers.specs.declared.Spelt.TheVariants.{Means}
 use Rattle.numbers.specs.Numbers.{is_led, number_of, DigitsRead}
 use Rattle.numbers.specs.Lists.{good_values}
 use Rattle.numbers.proofs.DigitLaws.{value_most, part_in_lem, part_length, digits_high, digits_pass, digits_ended, judged_good, judged_part}
 use Rattle.number_line.specs.declared.Quick.{Quick}
 use Rattle.number_line.specs.Numbers.{largest_listed}
 use Rattle.number_line.specs.Walks.{good_in, is_gap, QuickRead}
+use Rattle.std.specs.Prelude.{Ok}
 
 pub quick_unsure : (line room : List ℕ) (r : Quick) → (r.good ≡ false) × (r.count ≡ 0) → QuickRead line room r
 quick_unsure line room r e = record {
@@ -118,13 +118,13 @@ module _ (line : List ℕ) (at : ℕ) (h : at < length line) (m : ℕ) (d : Digi
   unfolding words_of non_empty
   words_next = rw (pieces_step Word line at d.end h word_end) (or_skip_lem (take (d.end - at) (drop at line)) (non_empty (pieces_of Word (drop (d.end + 1) line))) (omega (arith, part_length line at d.end end_high, some)))
 
-  spelt : m ≤ 18 → number_of 0 largest_listed (take (d.end - at) (drop at line)) ≡ Means d.value
+  spelt : m ≤ 18 → number_of 0 largest_listed (take (d.end - at) (drop at line)) ≡ Ok d.value
   spelt few =
       let a : All Digit (take (d.end - at) (drop at line)) = part_in_lem Digit line at d.end read.low inside in
       let l : length (take (d.end - at) (drop at line)) ≤ 18 = omega (arith, part_length line at d.end end_high, read.is) in
       let v : d.value ≤ largest_listed = rw read.means (value_most (take (d.end - at) (drop at line)) a l) in
       let j = judged_good (d.end - at) first d.value 0 largest_listed t et led (rw (le-leb 0 d.value (omega arith), le-leb d.value largest_listed v)) in
-      sym (judged_part line at d.end first d.value 0 largest_listed (Means d.value) read.low end_high a ef read.means j).is
+      sym (judged_part line at d.end first d.value 0 largest_listed (Ok d.value) read.low end_high a ef read.means j).is
 
   pub count_on : (n m : ℕ) → n + length (words_of (drop at line)) ≡ m → n + 1 + length (words_of (drop (d.end + 1) line)) ≡ m
   count_on n m inv = omega (arith, inv, ap length words_next)

@@ -14,10 +14,6 @@ use Rattle.ledger.specs.declared.Reason.TheVariants.{NoRoom}
 use Rattle.ledger.specs.declared.Fault.{Fault}
 use Rattle.ledger.specs.declared.Refusal.{Refusal}
 use Rattle.ledger.specs.Refusals.{refusal_at}
-use Rattle.number_line.specs.declared.NumbersAnswer.{NumbersAnswer}
-use Rattle.number_line.specs.declared.NumbersAnswer.TheVariants.{Accepted, Refused}
-use Rattle.text.specs.declared.Stage.{Stage}
-use Rattle.text.specs.declared.Stage.TheVariants as stage
 use Rattle.text.specs.declared.Class.TheVariants.{Blank, Line, Allowed}
 use Rattle.text.specs.Scan.{is_in, run, end_of}
 use Rattle.text.specs.Checks.{then_check, text_check, last_line_check}
@@ -29,13 +25,11 @@ use Rattle.text.proofs.PieceLaws.{line_fed}
 use Rattle.numbers.specs.Numbers.{value}
 use Rattle.writing.specs.Puts.{Put}
 use Rattle.binary.specs.Bytes.{word_size, words_bytes}
-use Rattle.number_line.specs.declared.NumbersReading.{NumbersReading}
-use Rattle.number_line.specs.declared.NumbersReading.TheVariants.{Counted}
-use Rattle.number_line.specs.declared.NumbersReading.TheVariants as reading
 use Rattle.number_line.specs.declared.Quick.{Quick}
 use Rattle.number_line.specs.Numbers.{words_from, numbers_in, numbers_answer, numbers_stages, numbers_check, numbers_read, bytes_after, NumbersStored}
 use Rattle.number_line.specs.Walks.{Walked, line_check, feedless, is_gap, QuickRead, QuickText, Handed, bytes_held, NumbersHeld}
 use Rattle.number_line.proofs.LineLaws.{words_good, all_good, checked_of, checked_is}
+use Rattle.std.specs.Prelude.{Ok, Err, Result, ⊤}
 
 -- ---- small tests
 pub fit_is : (n room : ℕ) → leb n (room / word_size) ≡ leb (word_size * n) room
@@ -76,62 +70,62 @@ pub feedless_count : (s : List ℕ) (m : ℕ) → m ≡ feedless s → m ≡ len
 feedless_count s m e = sym (length-take-le m s (omega (arith, e, feedless_few s)))
 
 -- ---- the checks one after the other
-module _ (s before after : List ℕ) (r : NumbersReading) (walked : Walked s before after r) where
-  words_hold : (n : ℕ) → r ≡ Counted n → (words_from s 0 (words_of (line_of s)) ≡ stage.Passes) × (n ≡ word_count s 0)
+module _ (s before after : List ℕ) (r : Result ℕ Fault) (walked : Walked s before after r) where
+  words_hold : (n : ℕ) → r ≡ Ok n → (words_from s 0 (words_of (line_of s)) ≡ (Ok tt)) × (n ≡ word_count s 0)
   words_hold n e = go (words_from s 0 (words_of (line_of s))) refl (sym e ∙ walked.is)
     where
-      go : (c : Stage) → words_from s 0 (words_of (line_of s)) ≡ c → Counted n ≡ then_check reading.Faulty c (Counted (word_count s 0)) → (words_from s 0 (words_of (line_of s)) ≡ stage.Passes) × (n ≡ word_count s 0)
-      go stage.Passes p k = (p, cc)
-      go (stage.Faulty x) p k = absurd (let o : ◌≡◌ {A = ℕ} 0 1 = cc in omega arith)
+      go : (c : Result ⊤ Fault) → words_from s 0 (words_of (line_of s)) ≡ c → Ok n ≡ then_check Err c (Ok (word_count s 0)) → (words_from s 0 (words_of (line_of s)) ≡ (Ok tt)) × (n ≡ word_count s 0)
+      go (Ok tt) p k = (p, cc)
+      go (Err x) p k = absurd (let o : ◌≡◌ {A = ℕ} 0 1 = cc in omega arith)
 
   count_is : word_count s 0 ≡ length (numbers_in s)
   unfolding word_count numbers_in
   count_is = sym (length-map (words_of (line_of s)) value)
 
-  pub line_bad : (x : Fault) → r ≡ reading.Faulty x → reading.Faulty x ≡ line_check s
+  pub line_bad : (x : Fault) → r ≡ Err x → Err x ≡ line_check s
   unfolding line_check
   line_bad x e = go (words_from s 0 (words_of (line_of s))) refl (sym e ∙ walked.is)
     where
-      go : (c : Stage) → words_from s 0 (words_of (line_of s)) ≡ c → reading.Faulty x ≡ then_check reading.Faulty c (Counted (word_count s 0)) → reading.Faulty x ≡ then_check reading.Faulty (words_from s 0 (words_of (line_of s))) (then_check reading.Faulty (last_line_check s 0) (Counted (length (numbers_in s))))
-      go stage.Passes p k = absurd (let o : ◌≡◌ {A = ℕ} 0 1 = cc in omega arith)
-      go (stage.Faulty y) p k = rw p k
+      go : (c : Result ⊤ Fault) → words_from s 0 (words_of (line_of s)) ≡ c → Err x ≡ then_check Err c (Ok (word_count s 0)) → Err x ≡ then_check Err (words_from s 0 (words_of (line_of s))) (then_check Err (last_line_check s 0) (Ok (length (numbers_in s))))
+      go (Ok tt) p k = absurd (let o : ◌≡◌ {A = ℕ} 0 1 = cc in omega arith)
+      go (Err y) p k = rw p k
 
-  module _ (n : ℕ) (e : r ≡ Counted n) (c : Stage) (ec : c ≡ last_line_check s 0) where
-    pub line_surplus : (x : Fault) → c ≡ stage.Faulty x → reading.Faulty x ≡ line_check s
+  module _ (n : ℕ) (e : r ≡ Ok n) (c : Result ⊤ Fault) (ec : c ≡ last_line_check s 0) where
+    pub line_surplus : (x : Fault) → c ≡ Err x → Err x ≡ line_check s
     unfolding line_check
     line_surplus x q = rw ((words_hold n e).0, ← ec, q)
 
-    pub line_good : c ≡ stage.Passes → Counted n ≡ line_check s
+    pub line_good : c ≡ (Ok tt) → Ok n ≡ line_check s
     unfolding line_check
     line_good q = rw ((words_hold n e).0, ← ec, q, (words_hold n e).1, count_is)
 
   -- the second walk, after all was tested
-  pub tested_read : (x : NumbersReading) (n : ℕ) (t : Bool) → x ≡ numbers_stages s → x ≡ Counted n → t ≡ leb (word_size * n) (length before) → t ≡ true → NumbersHeld s before after r
+  pub tested_read : (x : Result ℕ Fault) (n : ℕ) (t : Bool) → x ≡ numbers_stages s → x ≡ Ok n → t ≡ leb (word_size * n) (length before) → t ≡ true → NumbersHeld s before after r
   unfolding numbers_in
   tested_read x n t ex q et yes' =
-      let e : Counted n ≡ numbers_stages s = sym q ∙ ex in
+      let e : Ok n ≡ numbers_stages s = sym q ∙ ex in
       let c = checked_of s n (sym e) in
       let g = words_good s 0 (words_of (line_of s)) c.words in
-      let a : r ≡ Counted n = walked.is ∙ rw (c.words, count_is, c.count) in
+      let a : r ≡ Ok n = walked.is ∙ rw (c.words, count_is, c.count) in
       record {
         is = rw (← e, ← et, yes') a;
         left = rw a (walked.stored ∙ ap (λ (vs : List ℕ). sets before 0 (words_bytes vs)) g.values);
       }
 
-module _ (s : List ℕ) (c : Stage) (ec : c ≡ text_check s) where
-  pub text_bad : (x : Fault) → c ≡ stage.Faulty x → reading.Faulty x ≡ numbers_stages s
+module _ (s : List ℕ) (c : Result ⊤ Fault) (ec : c ≡ text_check s) where
+  pub text_bad : (x : Fault) → c ≡ Err x → Err x ≡ numbers_stages s
   unfolding numbers_stages
   text_bad x q = rw (← ec, q)
 
-  pub text_good : (r : NumbersReading) → c ≡ stage.Passes → r ≡ line_check s → r ≡ numbers_stages s
+  pub text_good : (r : Result ℕ Fault) → c ≡ (Ok tt) → r ≡ line_check s → r ≡ numbers_stages s
   unfolding numbers_stages line_check
   text_good r q e = rw (← ec, q) e
 
-module _ (s before : List ℕ) (r : NumbersReading) (er : r ≡ numbers_stages s) where
-  pub tested_bad : (x : Fault) → r ≡ reading.Faulty x → NumbersHeld s before before (reading.Faulty x)
+module _ (s before : List ℕ) (r : Result ℕ Fault) (er : r ≡ numbers_stages s) where
+  pub tested_bad : (x : Fault) → r ≡ Err x → NumbersHeld s before before (Err x)
   tested_bad x q = record { is = rw (← er, q); left = refl }
 
-  pub tested_full : (n : ℕ) (t : Bool) → r ≡ Counted n → t ≡ leb (word_size * n) (length before) → t ≡ false → NumbersHeld s before before (reading.Faulty (record { reason = NoRoom; place = length s }))
+  pub tested_full : (n : ℕ) (t : Bool) → r ≡ Ok n → t ≡ leb (word_size * n) (length before) → t ≡ false → NumbersHeld s before before (Err (record { reason = NoRoom; place = length s }))
   tested_full n t q et no' = record { is = rw (← er, q, ← et, no'); left = refl }
 
 -- ---- the quick way through a text
@@ -161,7 +155,7 @@ fed_or_not (b ∷ s) = go (eqb (get_or (b ∷ s) (length (b ∷ s) - 1) 0) 10) r
 record Lined (s line : List ℕ) : Type 0 where
   pub allowed : run Allowed s ≡ length s
   pub first : line_of s ≡ line
-  pub last : last_line_check s 0 ≡ stage.Passes
+  pub last : last_line_check s 0 ≡ (Ok tt)
 
 feed_lined : (t line : List ℕ) → t ≡ line ++ (10 ∷ []) → run Allowed line ≡ length line → run Line line ≡ length line → Lined t line
 unfolding line_end end_of run
@@ -203,10 +197,10 @@ module _ (s room : List ℕ) (m : ℕ) (em : m ≡ feedless s) (short : length s
       whole : r.good ≡ true → Lined s (take m s)
       whole g = lined s (take m s) (rw em (fed_or_not s)) (q.plain g).allowed (q.plain g).in_line
 
-      good_line : r.good ≡ true → words_from s 0 (words_of (take m s)) ≡ stage.Passes
+      good_line : r.good ≡ true → words_from s 0 (words_of (take m s)) ≡ (Ok tt)
       good_line g = all_good s 0 (words_of (take m s)) (ap length (q.plain g).values ∙ length-take-le r.count room q.few ∙ sym (q.plain g).count)
 
-      good : r.good ≡ true → words_from s 0 (words_of (line_of s)) ≡ stage.Passes
+      good : r.good ≡ true → words_from s 0 (words_of (line_of s)) ≡ (Ok tt)
       good g = rw (whole g).first (good_line g)
 
       count_is : r.good ≡ true → r.count ≡ length (map value (words_of (line_of s)))
@@ -223,36 +217,36 @@ quick_count s room q t = sym (length-take-le q.count room t.few)
 
 -- ---- the numbers handed over
 module _ (end : ℕ) (vs before : List ℕ) (t : Bool) (et : t ≡ leb (word_size * length vs) (length before)) where
-  pub handed_put : (after : List ℕ) (p : ℕ) → t ≡ true → Put (words_bytes vs) 0 before after p → Handed end vs before after (Counted (length vs))
+  pub handed_put : (after : List ℕ) (p : ℕ) → t ≡ true → Put (words_bytes vs) 0 before after p → Handed end vs before after (Ok (length vs))
   handed_put after p q f = record { is = rw (← et, q); left = f.stored }
 
-  pub handed_full : t ≡ false → Handed end vs before before (reading.Faulty (record { reason = NoRoom; place = end }))
+  pub handed_full : t ≡ false → Handed end vs before before (Err (record { reason = NoRoom; place = end }))
   handed_full q = record { is = rw (← et, q); left = refl }
 
-pub handed_read : (s room before after : List ℕ) (q : Quick) (n : ℕ) (r : NumbersReading) → QuickText s room q → q.good ≡ true → n ≡ q.count → Handed (length s) (take n room) before after r → NumbersHeld s before after r
+pub handed_read : (s room before after : List ℕ) (q : Quick) (n : ℕ) (r : Result ℕ Fault) → QuickText s room q → q.good ≡ true → n ≡ q.count → Handed (length s) (take n room) before after r → NumbersHeld s before after r
 handed_read s room before after q n r t g en h =
     let l : length (take n room) ≡ q.count = rw en (length-take-le q.count room t.few) in
     let v : take n room ≡ numbers_in s = rw en (sym (t.values g)) in
     record { is = rw (t.is g, ← l) h.is; left = rw (← v) h.left }
 
 -- as a caller is told
-bytes_told : (x : NumbersReading) (vs before : List ℕ) → bytes_after (numbers_answer x) vs before ≡ bytes_held x vs before
-bytes_told (Counted n) vs before = refl
-bytes_told (reading.Faulty y) vs before = refl
+bytes_told : (x : Result ℕ Fault) (vs before : List ℕ) → bytes_after (numbers_answer x) vs before ≡ bytes_held x vs before
+bytes_told (Ok n) vs before = refl
+bytes_told (Err y) vs before = refl
 
-pub numbers_told : (s before after : List ℕ) (x : NumbersReading) (r : NumbersAnswer) → NumbersHeld s before after x → r ≡ numbers_answer x → NumbersStored s before after r
+pub numbers_told : (s before after : List ℕ) (x : Result ℕ Fault) (r : Result ℕ Refusal) → NumbersHeld s before after x → r ≡ numbers_answer x → NumbersStored s before after r
 unfolding numbers_read
 numbers_told s before after x r h e = record {
   is = e ∙ ap numbers_answer h.is;
   left = h.left ∙ sym (rw e (bytes_told x (numbers_in s) before));
 }
 
-pub check_told : (s : List ℕ) (x : NumbersReading) (r : NumbersAnswer) → x ≡ numbers_stages s → r ≡ numbers_answer x → r ≡ numbers_check s
+pub check_told : (s : List ℕ) (x : Result ℕ Fault) (r : Result ℕ Refusal) → x ≡ numbers_stages s → r ≡ numbers_answer x → r ≡ numbers_check s
 unfolding numbers_check
 check_told s x r e q = q ∙ ap numbers_answer e
 
-pub counted_told : (n : ℕ) (x : NumbersReading) → x ≡ Counted n → Accepted n ≡ numbers_answer x
+pub counted_told : (n : ℕ) (x : Result ℕ Fault) → x ≡ Ok n → Ok n ≡ numbers_answer x
 counted_told n x e = rw e
 
-pub faulty_told : (f : Fault) (y : Refusal) (x : NumbersReading) → x ≡ reading.Faulty f → y ≡ refusal_at f → Refused y ≡ numbers_answer x
+pub faulty_told : (f : Fault) (y : Refusal) (x : Result ℕ Fault) → x ≡ Err f → y ≡ refusal_at f → Err y ≡ numbers_answer x
 faulty_told f y x e q = rw (e, q)

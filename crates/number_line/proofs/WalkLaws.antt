@@ -6,25 +6,21 @@ use native.Mathlib.Omega.{arith}
 use lib.ListN.{length, take, drop}
 use Rattle.ledger.specs.Limits.{largest_place}
 use Rattle.ledger.specs.declared.Reason.{Reason}
-use Rattle.text.specs.declared.Stage.{Stage}
 use Rattle.text.specs.Checks.{then_check}
-use Rattle.text.specs.declared.Stage.TheVariants as stage
 use Rattle.text.specs.declared.Extent.{Extent}
 use Rattle.text.specs.Pieces.{line_of, words_of}
 use Rattle.text.specs.Words.{next_word, bytes_of, word_count}
 use Rattle.text.proofs.PieceLaws.{words_same, words_step, words_none, word_again, count_done}
-use Rattle.numbers.specs.declared.Spelt.{Spelt}
-use Rattle.numbers.specs.declared.Spelt.TheVariants.{Means, Faulty}
 use Rattle.numbers.specs.Numbers.{NumberRead}
 use Rattle.numbers.specs.Lists.{good_values}
 use Rattle.writing.specs.Puts.{Put}
 use Rattle.writing.proofs.PutLaws.{Completes, completes_step, completes_done}
 use Rattle.binary.specs.Bytes.{word_size, low_bytes, words_bytes}
-use Rattle.number_line.specs.declared.NumbersReading.{NumbersReading}
-use Rattle.number_line.specs.declared.NumbersReading.TheVariants.{Counted}
-use Rattle.number_line.specs.declared.NumbersReading.TheVariants as reading
 use Rattle.number_line.specs.Numbers.{largest_listed, words_from}
 use Rattle.number_line.specs.Walks.{Walked}
+use Rattle.std.specs.Prelude.{Ok, Err, Result, ⊤}
+use Rattle.ledger.specs.declared.Fault.{Fault}
+use Rattle.ledger.specs.Refusals.{fault_at}
 
 -- the words from a place on
 abbrev pub rest_of : List ℕ → ℕ → List (List ℕ)
@@ -62,17 +58,17 @@ module _ (s : List ℕ) (w : Extent) (is : w ≡ next_word s w.start) where
       words_none s w.start k
 
   -- tested alike
-  module _ (all : Stage) (tested : words_from s w.start (rest_of s w.start) ≡ all) where
-    tested_done : w.start ≤ w.end → w.end ≤ w.start → stage.Passes ≡ all
+  module _ (all : Result ⊤ Fault) (tested : words_from s w.start (rest_of s w.start) ≡ all) where
+    tested_done : w.start ≤ w.end → w.end ≤ w.start → (Ok tt) ≡ all
     unfolding words_from
     tested_done l h = rw (words_over l h) at tested
 
-    module _ (r : Spelt) (h : w.start < w.end) (read : NumberRead 0 largest_listed (take (w.end - w.start) (drop w.start s)) r) where
-      tested_bad : (why : Reason) (off : ℕ) → r ≡ Faulty why off → stage.Faulty (record { reason = why; place = w.start }) ≡ all
+    module _ (r : Result ℕ Fault) (h : w.start < w.end) (read : NumberRead 0 largest_listed (take (w.end - w.start) (drop w.start s)) r) where
+      tested_bad : (why : Reason) (off : ℕ) → r ≡ Err (fault_at why off) → Err (record { reason = why; place = w.start }) ≡ all
       unfolding words_from bytes_of
       tested_bad why off e = rw (words_there h, ← read.is, e, ← is) at tested
 
-      pub tested_good : (v : ℕ) (w' : Extent) → r ≡ Means v → w' ≡ next_word s w.end → words_from s w'.start (rest_of s w'.start) ≡ all
+      pub tested_good : (v : ℕ) (w' : Extent) → r ≡ Ok v → w' ≡ next_word s w.end → words_from s w'.start (rest_of s w'.start) ≡ all
       unfolding words_from bytes_of
       tested_good v w' e e' = tested_from s w.end w' e' ∙ rw (words_there h, ← read.is, e, ← is) at tested
 
@@ -82,12 +78,12 @@ module _ (s : List ℕ) (w : Extent) (is : w ≡ next_word s w.start) where
     unfolding good_values words_bytes
     stored_done l h k m = completes_done (good_from s w.start) ys p at b b₀ inv (rw (words_over l h)) k m
 
-    module _ (r : Spelt) (h : w.start < w.end) (read : NumberRead 0 largest_listed (take (w.end - w.start) (drop w.start s)) r) where
-      stored_bad : (why : Reason) (off : ℕ) → r ≡ Faulty why off → p ≤ largest_place → length b ≤ largest_place → Put ys at b₀ b p
+    module _ (r : Result ℕ Fault) (h : w.start < w.end) (read : NumberRead 0 largest_listed (take (w.end - w.start) (drop w.start s)) r) where
+      stored_bad : (why : Reason) (off : ℕ) → r ≡ Err (fault_at why off) → p ≤ largest_place → length b ≤ largest_place → Put ys at b₀ b p
       unfolding good_values words_bytes bytes_of
       stored_bad why off e k m = completes_done (good_from s w.start) ys p at b b₀ inv (rw (words_there h, ← read.is, e)) k m
 
-      pub stored_good : (v q : ℕ) (b₁ : List ℕ) (w' : Extent) → r ≡ Means v → Put (low_bytes word_size v) p b b₁ q → w' ≡ next_word s w.end → Completes (good_from s w'.start) q b₁ ys at b₀
+      pub stored_good : (v q : ℕ) (b₁ : List ℕ) (w' : Extent) → r ≡ Ok v → Put (low_bytes word_size v) p b b₁ q → w' ≡ next_word s w.end → Completes (good_from s w'.start) q b₁ ys at b₀
       unfolding good_values words_bytes bytes_of
       stored_good v q b₁ w' e f e' =
           let g : good_from s w.start ≡ low_bytes word_size v ++ good_from s w.end = rw (words_there h, ← read.is, e) in
@@ -97,18 +93,18 @@ module _ (s : List ℕ) (w : Extent) (is : w ≡ next_word s w.start) where
   -- the walk's answer
   module _ (tested : words_from s w.start (rest_of s w.start) ≡ words_from s 0 (rest_of s 0)) (p : ℕ) (b b₀ : List ℕ) (inv : Completes (good_from s w.start) p b (good_from s 0) 0 b₀)
       (hp : p ≤ largest_place) (hb : length b ≤ largest_place) where
-    answer : Stage → NumbersReading
-    answer c = then_check reading.Faulty c (Counted (word_count s 0))
+    answer : Result ⊤ Fault → Result ℕ Fault
+    answer c = then_check Err c (Ok (word_count s 0))
 
-    pub walked_bad : (r : Spelt) → w.start < w.end → NumberRead 0 largest_listed (take (w.end - w.start) (drop w.start s)) r → (why : Reason) (off : ℕ) → r ≡ Faulty why off
-        → Walked s b₀ b (reading.Faulty (record { reason = why; place = w.start }))
+    pub walked_bad : (r : Result ℕ Fault) → w.start < w.end → NumberRead 0 largest_listed (take (w.end - w.start) (drop w.start s)) r → (why : Reason) (off : ℕ) → r ≡ Err (fault_at why off)
+        → Walked s b₀ b (Err (record { reason = why; place = w.start }))
     unfolding answer
     walked_bad r h read why off e = record {
       is = ap answer (tested_bad (words_from s 0 (rest_of s 0)) tested r h read why off e);
       stored = (stored_bad p 0 b b₀ (good_from s 0) inv r h read why off e hp hb).stored;
     }
 
-    pub walked_all : (n : ℕ) → w.start ≤ w.end → w.end ≤ w.start → n + word_count s w.start ≡ word_count s 0 → Walked s b₀ b (Counted n)
+    pub walked_all : (n : ℕ) → w.start ≤ w.end → w.end ≤ w.start → n + word_count s w.start ≡ word_count s 0 → Walked s b₀ b (Ok n)
     unfolding answer
     walked_all n l h count = record {
       is = rw (count_done s 0 n w is count l h) (ap answer (tested_done (words_from s 0 (rest_of s 0)) tested l h));

@@ -1,35 +1,28 @@
 -- A TEXT OF ONE LINE OF NUMBERS, any number of words (docs/DESK.md, `tenderchock_numbers`): its checks in the ledger's order, and what reading it leaves.
-use Rattle.std.specs.Prelude.{ℕ, ◌*◌, ◌≡◌, List, [], ◌∷◌, map, length, leb}
+use Rattle.std.specs.Prelude.{ℕ, ◌*◌, ◌≡◌, List, [], ◌∷◌, map, length, leb, Ok, Err, Result, ⊤}
 use Rattle.std.proofs.lemmas.List.Edits.{sets}
 use Rattle.ledger.specs.declared.Reason.TheVariants.{NoRoom}
 use Rattle.ledger.specs.Refusals.{fault_at, refusal_at, require}
-use Rattle.text.specs.declared.Stage.{Stage}
-use Rattle.text.specs.declared.Stage.TheVariants as stage
 use Rattle.text.specs.Checks.{then_check, text_check, last_line_check}
 use Rattle.text.specs.Pieces.{line_of, words_of}
 use Rattle.text.specs.Words.{next_word}
-use Rattle.numbers.specs.declared.Spelt.{Spelt}
-use Rattle.numbers.specs.declared.Spelt.TheVariants.{Means, Faulty}
 use Rattle.numbers.specs.Numbers.{value, number_of}
 use Rattle.binary.specs.Bytes.{word_size, words_bytes}
-use Rattle.number_line.specs.declared.NumbersReading.{NumbersReading}
-use Rattle.number_line.specs.declared.NumbersReading.TheVariants.{Counted}
-use Rattle.number_line.specs.declared.NumbersReading.TheVariants as reading
-use Rattle.number_line.specs.declared.NumbersAnswer.{NumbersAnswer}
-use Rattle.number_line.specs.declared.NumbersAnswer.TheVariants.{Accepted, Refused}
+use Rattle.ledger.specs.declared.Fault.{Fault}
+use Rattle.ledger.specs.declared.Refusal.{Refusal}
 
 -- the greatest number, of eighteen digits
 abbrev pub largest_listed : ℕ
 largest_listed = 999999999999999999
 
 -- a good word lets the rest be tested; a bad one is refused at its first byte
-abbrev pub or_word : Spelt → ℕ → Stage → Stage
-or_word (Means v) at rest = rest
-or_word (Faulty why off) at rest = stage.Faulty (fault_at why at)
+abbrev pub or_word : Result ℕ Fault → ℕ → Result ⊤ Fault → Result ⊤ Fault
+or_word (Ok v) at rest = rest
+or_word (Err (fault_at why off)) at rest = Err (fault_at why at)
 
 -- the words from a place on, from the left: misspelt (4), or out of range (5)
-unfoldable pub words_from : List ℕ → ℕ → List (List ℕ) → Stage
-words_from s at [] = stage.Passes
+unfoldable pub words_from : List ℕ → ℕ → List (List ℕ) → Result ⊤ Fault
+words_from s at [] = (Ok tt)
 words_from s at (w ∷ ws) = or_word (number_of 0 largest_listed w) (next_word s at).start (words_from s (next_word s at).end ws)
 
 -- the numbers that the words spell; a text of no line has no word
@@ -37,36 +30,36 @@ unfoldable pub numbers_in : List ℕ → List ℕ
 numbers_in s = map value (words_of (line_of s))
 
 -- length and bytes (1, 3), the words from the left (4, 5), a surplus line (2); then so many numbers
-unfoldable pub numbers_stages : List ℕ → NumbersReading
+unfoldable pub numbers_stages : List ℕ → Result ℕ Fault
 numbers_stages s =
-    then_check reading.Faulty (text_check s)
-    (then_check reading.Faulty (words_from s 0 (words_of (line_of s)))
-    (then_check reading.Faulty (last_line_check s 0)
-    (Counted (length (numbers_in s)))))
+    then_check Err (text_check s)
+    (then_check Err (words_from s 0 (words_of (line_of s)))
+    (then_check Err (last_line_check s 0)
+    (Ok (length (numbers_in s)))))
 
 -- as a caller is told
-abbrev pub numbers_answer : NumbersReading → NumbersAnswer
-numbers_answer (Counted n) = Accepted n
-numbers_answer (reading.Faulty x) = Refused (refusal_at x)
+abbrev pub numbers_answer : Result ℕ Fault → Result ℕ Refusal
+numbers_answer (Ok n) = Ok n
+numbers_answer (Err x) = Err (refusal_at x)
 
-unfoldable pub numbers_check : List ℕ → NumbersAnswer
+unfoldable pub numbers_check : List ℕ → Result ℕ Refusal
 numbers_check s = numbers_answer (numbers_stages s)
 
 -- so many numbers into so many bytes, or 11 at the text's end
-abbrev pub then_room : NumbersReading → ℕ → ℕ → NumbersReading
-then_room (Counted n) end room = require (leb (word_size * n) room) (reading.Faulty (fault_at NoRoom end)) (Counted n)
-then_room (reading.Faulty x) end room = reading.Faulty x
+abbrev pub then_room : Result ℕ Fault → ℕ → ℕ → Result ℕ Fault
+then_room (Ok n) end room = require (leb (word_size * n) room) (Err (fault_at NoRoom end)) (Ok n)
+then_room (Err x) end room = Err x
 
 -- all of them, and the room last
-unfoldable pub numbers_read : List ℕ → ℕ → NumbersAnswer
+unfoldable pub numbers_read : List ℕ → ℕ → Result ℕ Refusal
 numbers_read s room = numbers_answer (then_room (numbers_stages s) (length s) room)
 
 -- the lent bytes afterwards: the numbers at their front, 8 bytes each, the lowest first; after a refusal as they were
-abbrev pub bytes_after : NumbersAnswer → List ℕ → List ℕ → List ℕ
-bytes_after (Accepted n) vs before = sets before 0 (words_bytes vs)
-bytes_after (Refused x) vs before = before
+abbrev pub bytes_after : Result ℕ Refusal → List ℕ → List ℕ → List ℕ
+bytes_after (Ok n) vs before = sets before 0 (words_bytes vs)
+bytes_after (Err x) vs before = before
 
 -- what reading the numbers promises
-pub record NumbersStored (s before after : List ℕ) (r : NumbersAnswer) : Type 0 where
+pub record NumbersStored (s before after : List ℕ) (r : Result ℕ Refusal) : Type 0 where
   pub is : r ≡ numbers_read s (length before)
   pub left : after ≡ bytes_after r (numbers_in s) before

@@ -1,5 +1,5 @@
 -- What the steps of reading promise, inside the crate: the walk over the words, and the quick way through a plain line.
-use Rattle.std.specs.Prelude.{ℕ, ◌-◌, ◌≤◌, ◌≡◌, Bool, true, ◌||◌, cond, List, length, take, get_or, leb, eqb}
+use Rattle.std.specs.Prelude.{ℕ, ◌-◌, ◌≤◌, ◌≡◌, Bool, true, ◌||◌, cond, List, length, take, get_or, leb, eqb, Ok, Err, Result}
 use Rattle.std.proofs.lemmas.List.Edits.{sets}
 use Rattle.text.specs.declared.Class.TheVariants.{Blank, Line, Allowed}
 use Rattle.text.specs.Scan.{is_in, run}
@@ -8,24 +8,22 @@ use Rattle.text.specs.Pieces.{line_of, words_of}
 use Rattle.text.specs.Words.{word_count}
 use Rattle.numbers.specs.Lists.{good_values}
 use Rattle.binary.specs.Bytes.{words_bytes}
-use Rattle.number_line.specs.declared.NumbersReading.{NumbersReading}
-use Rattle.number_line.specs.declared.NumbersReading.TheVariants.{Counted}
-use Rattle.number_line.specs.declared.NumbersReading.TheVariants as reading
 use Rattle.number_line.specs.declared.Quick.{Quick}
 use Rattle.number_line.specs.Numbers.{largest_listed, words_from, numbers_in, numbers_stages, then_room}
+use Rattle.ledger.specs.declared.Fault.{Fault}
 
 -- the values of a line's words before the first bad one
 abbrev pub good_in : List ℕ → List ℕ
 good_in line = good_values 0 largest_listed (words_of line)
 
 -- the walk: the words from the left, and the good ones stored as far as the bytes reach
-pub record Walked (s before after : List ℕ) (r : NumbersReading) : Type 0 where
-  pub is : r ≡ then_check reading.Faulty (words_from s 0 (words_of (line_of s))) (Counted (word_count s 0))
+pub record Walked (s before after : List ℕ) (r : Result ℕ Fault) : Type 0 where
+  pub is : r ≡ then_check Err (words_from s 0 (words_of (line_of s))) (Ok (word_count s 0))
   pub stored : after ≡ sets before 0 (words_bytes (good_in (line_of s)))
 
 -- after the length and the bytes: the words, then a surplus line
-unfoldable pub line_check : List ℕ → NumbersReading
-line_check s = then_check reading.Faulty (words_from s 0 (words_of (line_of s))) (then_check reading.Faulty (last_line_check s 0) (Counted (length (numbers_in s))))
+unfoldable pub line_check : List ℕ → Result ℕ Fault
+line_check s = then_check Err (words_from s 0 (words_of (line_of s))) (then_check Err (last_line_check s 0) (Ok (length (numbers_in s))))
 
 -- the length of a text without a line feed at its end
 unfoldable pub feedless : List ℕ → ℕ
@@ -49,21 +47,21 @@ pub record QuickRead (line room : List ℕ) (r : Quick) : Type 0 where
 
 -- and through a text
 pub record QuickText (s room : List ℕ) (r : Quick) : Type 0 where
-  pub is : r.good ≡ true → numbers_stages s ≡ Counted r.count
+  pub is : r.good ≡ true → numbers_stages s ≡ Ok r.count
   pub values : r.good ≡ true → numbers_in s ≡ take r.count room
   pub few : r.count ≤ length room
 
 -- the lent bytes after a reading
-abbrev pub bytes_held : NumbersReading → List ℕ → List ℕ → List ℕ
-bytes_held (Counted n) vs before = sets before 0 (words_bytes vs)
-bytes_held (reading.Faulty x) vs before = before
+abbrev pub bytes_held : Result ℕ Fault → List ℕ → List ℕ → List ℕ
+bytes_held (Ok n) vs before = sets before 0 (words_bytes vs)
+bytes_held (Err x) vs before = before
 
 -- a whole reading: its answer with the room, and the bytes
-pub record NumbersHeld (s before after : List ℕ) (r : NumbersReading) : Type 0 where
+pub record NumbersHeld (s before after : List ℕ) (r : Result ℕ Fault) : Type 0 where
   pub is : r ≡ then_room (numbers_stages s) (length s) (length before)
   pub left : after ≡ bytes_held r (numbers_in s) before
 
 -- numbers into lent bytes, or 11 at the text's end
-pub record Handed (end : ℕ) (vs before after : List ℕ) (r : NumbersReading) : Type 0 where
-  pub is : r ≡ then_room (Counted (length vs)) end (length before)
+pub record Handed (end : ℕ) (vs before after : List ℕ) (r : Result ℕ Fault) : Type 0 where
+  pub is : r ≡ then_room (Ok (length vs)) end (length before)
   pub left : after ≡ bytes_held r vs before

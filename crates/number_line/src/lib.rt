@@ -7,30 +7,15 @@ ghost use Rattle.number_line.specs.Numbers.{numbers_answer, numbers_stages, numb
 ghost use Rattle.number_line.specs.Walks.{Walked, line_check, feedless, is_gap, QuickRead, QuickText, Handed, NumbersHeld};
 
 use ledger::{Fault, Reason, Refusal};
-use numbers::Spelt;
-use text::{Class, Stage};
-
-// How many numbers a text has, or its first fault.
-#[derive(Clone, Copy)]
-pub enum NumbersReading {
-    Counted(usize),
-    Faulty(Fault),
-}
-
-// The same, as a caller is told.
-#[derive(Clone, Copy)]
-pub enum NumbersAnswer {
-    Accepted(usize),
-    Refused(Refusal),
-}
+use text::Class;
 
 // The one place where a fault becomes a refusal.
-fn answered(x: NumbersReading) -> NumbersAnswer
+fn answered(x: Result<usize, Fault>) -> Result<usize, Refusal>
     ensures { result ≡ numbers_answer x }
 {
     match x {
-        NumbersReading::Counted(n) => NumbersAnswer::Accepted(n),
-        NumbersReading::Faulty(f) => NumbersAnswer::Refused(Refusal::at(f)),
+        Ok(n) => Ok(n),
+        Err(f) => Err(Refusal::at(f)),
     }
 }
 
@@ -40,7 +25,7 @@ const LARGEST: u64 = 999999999999999999;
 const DIGITS: usize = 18;
 
 // The words from the left, each a number; the good ones are stored, 8 bytes each, as far as the bytes reach.
-fn walk_numbers(text: &[u8], out: &mut [u8]) -> NumbersReading
+fn walk_numbers(text: &[u8], out: &mut [u8]) -> Result<usize, Fault>
     ensures { Walked text.now out.old out.new result }
 {
     let mut w = text::next_word(text, 0);
@@ -50,45 +35,39 @@ fn walk_numbers(text: &[u8], out: &mut [u8]) -> NumbersReading
         let a = w.start;
         let e = w.end;
         match numbers::read_number(&text[a..e], 0, LARGEST) {
-            Spelt::Means(v) => {
+            Ok(v) => {
                 p = binary::put_low(out, p, v, binary::WORD_SIZE);
             }
-            Spelt::Faulty(reason, _) => {
-                return NumbersReading::Faulty(Fault { reason, place: a });
+            Err(Fault { reason: reason, place: _ }) => {
+                return Err(Fault { reason, place: a });
             }
         }
         w = text::next_word(text, e);
         n += 1;
     }
-    NumbersReading::Counted(n)
+    Ok(n)
 }
 
 // The words, then a surplus line.
-fn check_line(text: &[u8]) -> NumbersReading
+fn check_line(text: &[u8]) -> Result<usize, Fault>
     ensures { result ≡ line_check text.now }
 {
     let mut none = [0u8; 0];
-    match walk_numbers(text, &mut none) {
-        NumbersReading::Faulty(x) => NumbersReading::Faulty(x),
-        NumbersReading::Counted(n) => match text::check_last_line(text, 0) {
-            Stage::Faulty(x) => NumbersReading::Faulty(x),
-            Stage::Passes => NumbersReading::Counted(n),
-        },
-    }
+    let n = walk_numbers(text, &mut none)?;
+    text::check_last_line(text, 0)?;
+    Ok(n)
 }
 
 // The length and the bytes, then the line.
-fn stage(text: &[u8]) -> NumbersReading
+fn stage(text: &[u8]) -> Result<usize, Fault>
     ensures { result ≡ numbers_stages text.now }
 {
-    match text::check_text(text) {
-        Stage::Faulty(x) => NumbersReading::Faulty(x),
-        Stage::Passes => check_line(text),
-    }
+    text::check_text(text)?;
+    check_line(text)
 }
 
 // How many numbers a text has, or its first refusal: 1, 3, the words from the left (4, 5), a surplus line (2).
-pub fn check_numbers(text: &[u8]) -> NumbersAnswer
+pub fn check_numbers(text: &[u8]) -> Result<usize, Refusal>
     ensures { result ≡ numbers_check text.now }
 {
     answered(stage(text))
@@ -101,21 +80,17 @@ fn numbers_fit(n: usize, room: usize) -> bool
 }
 
 // All is tested in a first walk, so that a refusal leaves the lent bytes as they were.
-fn read_tested(text: &[u8], out: &mut [u8]) -> NumbersReading
+fn read_tested(text: &[u8], out: &mut [u8]) -> Result<usize, Fault>
     ensures { NumbersHeld text.now out.old out.new result }
 {
-    match stage(text) {
-        NumbersReading::Faulty(x) => NumbersReading::Faulty(x),
-        NumbersReading::Counted(n) => {
-            if numbers_fit(n, out.len()) {
-                return walk_numbers(text, out);
-            }
-            NumbersReading::Faulty(Fault {
-                reason: Reason::NoRoom,
-                place: text.len(),
-            })
-        }
+    let n = stage(text)?;
+    if numbers_fit(n, out.len()) {
+        return walk_numbers(text, out);
     }
+    Err(Fault {
+        reason: Reason::NoRoom,
+        place: text.len(),
+    })
 }
 
 // Numbers taken from a line. Where they are not good, the line has to be read with more care.
@@ -194,21 +169,21 @@ fn quick_text(text: &[u8], room: &mut [u64]) -> Quick
 }
 
 // Stores numbers, or 11 at the text's end.
-fn hand_over(end: usize, vs: &[u64], out: &mut [u8]) -> NumbersReading
+fn hand_over(end: usize, vs: &[u64], out: &mut [u8]) -> Result<usize, Fault>
     ensures { Handed end vs.now out.old out.new result }
 {
     if numbers_fit(vs.len(), out.len()) {
         binary::put_words(out, 0, vs);
-        return NumbersReading::Counted(vs.len());
+        return Ok(vs.len());
     }
-    NumbersReading::Faulty(Fault {
+    Err(Fault {
         reason: Reason::NoRoom,
         place: end,
     })
 }
 
 // The numbers of a text by way of working room: the quick way if they fit there, else with more care.
-fn read_by(text: &[u8], room: &mut [u64], out: &mut [u8]) -> NumbersReading
+fn read_by(text: &[u8], room: &mut [u64], out: &mut [u8]) -> Result<usize, Fault>
     ensures { NumbersHeld text.now out.old out.new result }
 {
     let q = quick_text(text, room);
@@ -224,7 +199,7 @@ const SHORT: usize = 512;
 
 const FEW: usize = SHORT / 2;
 
-fn read_short(text: &[u8], out: &mut [u8]) -> NumbersReading
+fn read_short(text: &[u8], out: &mut [u8]) -> Result<usize, Fault>
     ensures { NumbersHeld text.now out.old out.new result }
 {
     let mut room = [0u64; FEW];
@@ -235,7 +210,7 @@ fn read_short(text: &[u8], out: &mut [u8]) -> NumbersReading
 // numbers each; zeros are left to the C library, which stores as fast but is counted by the byte (docs/BENCHMARKS.md).
 const ROOM: usize = 4096;
 
-fn read_long(text: &[u8], out: &mut [u8]) -> NumbersReading
+fn read_long(text: &[u8], out: &mut [u8]) -> Result<usize, Fault>
     ensures { NumbersHeld text.now out.old out.new result }
 {
     let mut room = [1u64; ROOM];
@@ -243,7 +218,7 @@ fn read_long(text: &[u8], out: &mut [u8]) -> NumbersReading
 }
 
 // All ways answer alike; which is the quickest depends on the length.
-fn read_any(text: &[u8], out: &mut [u8]) -> NumbersReading
+fn read_any(text: &[u8], out: &mut [u8]) -> Result<usize, Fault>
     ensures { NumbersHeld text.now out.old out.new result }
 {
     if SHORT < text.len() {
@@ -253,7 +228,7 @@ fn read_any(text: &[u8], out: &mut [u8]) -> NumbersReading
 }
 
 // The numbers of a text to the front of the lent bytes, 8 bytes each, the lowest first; too little room is 11 at the text's end, last.
-pub fn read_numbers(text: &[u8], out: &mut [u8]) -> NumbersAnswer
+pub fn read_numbers(text: &[u8], out: &mut [u8]) -> Result<usize, Refusal>
     ensures { NumbersStored text.now out.old out.new result }
 {
     answered(read_any(text, out))

@@ -18,10 +18,11 @@ use Rattle.text.proofs.Laws.{more_ones, run_append, end_of_past, end_of_stop, sc
 use Rattle.text.proofs.CheckLaws.{run_most}
 use Rattle.text.proofs.TextLaws.{All, all_within, both}
 use Rattle.numbers.specs.declared.Digits.{Digits}
-use Rattle.numbers.specs.declared.Spelt.{Spelt}
-use Rattle.numbers.specs.declared.Spelt.TheVariants.{Means, Faulty}
 use Rattle.numbers.specs.Numbers.{short_limit, well_spelt, is_led, value_from, value, number_of, DigitsRead, NumberRead, Judged}
 use Rattle.numbers.proofs.NumberLaws.{and_no}
+use Rattle.std.specs.Prelude.{Ok, Err, Result}
+use Rattle.ledger.specs.declared.Fault.{Fault}
+use Rattle.ledger.specs.Refusals.{fault_at}
 
 -- ---- the value of so many digits
 unfoldable pub tens : ℕ → ℕ
@@ -201,18 +202,18 @@ led_some n first h = rw (ne_eqb n 0 h)
 
 -- a value that so many digits spell: misspelt, good, or out of range
 module _ (n first v least most : ℕ) (t : Bool) (is : t ≡ is_led n first) where
-  pub judged_misspelt : not t ≡ true → Judged n first v least most (Faulty NumberMisspelt 0)
+  pub judged_misspelt : not t ≡ true → Judged n first v least most (Err (fault_at NumberMisspelt 0))
   judged_misspelt e = record { is = rw (← is, not-true t e); near = refl }
 
   module _ (led : not t ≡ false) where
-    pub judged_good : (leb least v && leb v most) ≡ true → Judged n first v least most (Means v)
+    pub judged_good : (leb least v && leb v most) ≡ true → Judged n first v least most (Ok v)
     judged_good e = record { is = rw (← is, not-false t led, e); near = refl }
 
-    pub judged_range : (leb least v && leb v most) ≡ false → Judged n first v least most (Faulty NumberOutOfRange 0)
+    pub judged_range : (leb least v && leb v most) ≡ false → Judged n first v least most (Err (fault_at NumberOutOfRange 0))
     judged_range e = record { is = rw (← is, not-false t led, e); near = refl }
 
 -- what was judged is what the bytes from i to e spell
-pub judged_part : (s : List ℕ) (i e first v least most : ℕ) (r : Spelt) → i ≤ e → e ≤ length s → All Digit (take (e - i) (drop i s)) → first ≡ get_or s i 0 → v ≡ value (take (e - i) (drop i s))
+pub judged_part : (s : List ℕ) (i e first v least most : ℕ) (r : Result ℕ Fault) → i ≤ e → e ≤ length s → All Digit (take (e - i) (drop i s)) → first ≡ get_or s i 0 → v ≡ value (take (e - i) (drop i s))
     → Judged (e - i) first v least most r → NumberRead least most (take (e - i) (drop i s)) r
 unfolding number_of
 judged_part s i e first v least most r l h a ef ev j = record { is = rw (← (part_led s i e l h a), ← ev, ← ef) j.is; near = j.near }
@@ -223,11 +224,11 @@ module _ (w : List ℕ) (least most : ℕ) (d : Digits) (read : DigitsRead w 0 (
   unfolding end_of
   short_word = omega (arith, read.is, run_most Digit (drop 0 w))
 
-  pub word_bad : d.end < length w → NumberRead least most w (Faulty NumberMisspelt 0)
+  pub word_bad : d.end < length w → NumberRead least most w (Err (fault_at NumberMisspelt 0))
   unfolding number_of well_spelt
   word_bad h = record { is = rw (← short_word, ne_eqb d.end (length w) (λ x. omega arith), and_no (not (eqb (length w) 0))); near = refl }
 
-  pub word_digits : (first : ℕ) (r : Spelt) → length w ≤ d.end → first ≡ get_or w 0 0 → Judged (length w) first d.value least most r → NumberRead least most w r
+  pub word_digits : (first : ℕ) (r : Result ℕ Fault) → length w ≤ d.end → first ≡ get_or w 0 0 → Judged (length w) first d.value least most r → NumberRead least most w r
   word_digits first r h ef j =
       let z : d.end ≡ length w = omega (arith, read.high) in
       let n : length w - 0 ≡ length w = omega arith in

@@ -12,14 +12,14 @@ use Rattle.text.specs.declared.Class.TheVariants.{Digit, Item, Word}
 use Rattle.text.specs.Scan.{is_in, end_of, Scanned}
 use Rattle.text.proofs.TextLaws.{both, digit_item, digit_graphic, graphic_word}
 use Rattle.numbers.specs.declared.Digits.{Digits}
-use Rattle.numbers.specs.declared.Spelt.{Spelt}
-use Rattle.numbers.specs.declared.Spelt.TheVariants.{Means}
 use Rattle.numbers.specs.Numbers.{is_led, is_word_end, number_of, NumberRead, NumberTaken, Judged, DigitsRead}
 use Rattle.numbers.specs.Lists.{is_item_end, PieceRead}
 use Rattle.numbers.proofs.DigitLaws.{part_in_lem, part_led, digits_ended, judged_part}
+use Rattle.std.specs.Prelude.{Ok, Result}
+use Rattle.ledger.specs.declared.Fault.{Fault}
 
 -- found before it is read
-pub piece_found : (least most : ℕ) (w : List ℕ) (i e : ℕ) (r : Spelt) → i ≤ length w → Scanned Item w i e → NumberRead least most (take (e - i) (drop i w)) r → PieceRead least most w i (record { spelt = r; end = e })
+pub piece_found : (least most : ℕ) (w : List ℕ) (i e : ℕ) (r : Result ℕ Fault) → i ≤ length w → Scanned Item w i e → NumberRead least most (take (e - i) (drop i w)) r → PieceRead least most w i (record { spelt = r; end = e })
 piece_found least most w i e r h s n = record { is = rw (← s.is) n.is; ends = s.is; low = s.low; high = omega (arith, s.high) }
 
 -- a test by the end or by the byte there, before the end
@@ -38,7 +38,7 @@ module _ (least most : ℕ) (w : List ℕ) (i : ℕ) (h : i ≤ length w) (d : D
   inside : d.end ≤ end_of Digit w i
   inside = omega (arith, read.is)
 
-  pub piece_short : (first : ℕ) (r : Spelt) → first ≡ get_or w i 0 → Judged (d.end - i) first d.value least most r → PieceRead least most w i (record { spelt = r; end = d.end })
+  pub piece_short : (first : ℕ) (r : Result ℕ Fault) → first ≡ get_or w i 0 → Judged (d.end - i) first d.value least most r → PieceRead least most w i (record { spelt = r; end = d.end })
   piece_short first r ef j =
       let e : d.end ≡ end_of Item w i = digits_ended Item digit_item w i d.end h read.low inside no_item in
       let high : d.end ≤ length w = omega (arith, read.high) in
@@ -67,7 +67,7 @@ module _ (least most : ℕ) (s : List ℕ) (i : ℕ) (d : Digits) (read : Digits
         (λ k. not-true (is_in Word (get_or s d.end 0)) (by_byte (length s) d.end (not (is_in Word (get_or s d.end 0))) e k))
 
     word_spells : (first : ℕ) → first ≡ get_or s i 0 → is_led (d.end - i) first ≡ true → (leb least d.value && leb d.value most) ≡ true → is_word_end s d.end ≡ true
-        → number_of least most (take (end_of Word s i - i) (drop i s)) ≡ Means d.value
+        → number_of least most (take (end_of Word s i - i) (drop i s)) ≡ Ok d.value
     unfolding number_of
     word_spells first ef led fits e =
         let h = part_led s i d.end read.low high (part_in_lem Digit s i d.end read.low passed) in

@@ -1,14 +1,13 @@
 -- A number: digits only, no leading zero but in `0` itself, within a least and a greatest value.
-use Rattle.std.specs.Prelude.{ℕ, ◌+◌, ◌-◌, ◌*◌, ◌≤◌, ◌<◌, min, max, ◌≡◌, Bool, true, not, ◌&&◌, ◌||◌, List, [], ◌∷◌, length, get_or, take, drop, leb, eqb}
+use Rattle.std.specs.Prelude.{ℕ, ◌+◌, ◌-◌, ◌*◌, ◌≤◌, ◌<◌, min, max, ◌≡◌, Bool, true, not, ◌&&◌, ◌||◌, List, [], ◌∷◌, length, get_or, take, drop, leb, eqb, Ok, Err, Result}
 use Rattle.ledger.specs.declared.Reason.TheVariants.{NumberMisspelt, NumberOutOfRange}
 use Rattle.text.specs.declared.Class.TheVariants.{Digit, Word}
 use Rattle.text.specs.Scan.{is_in, end_of}
 use Rattle.numbers.specs.declared.Digits.{Digits}
-use Rattle.numbers.specs.declared.Spelt.{Spelt}
 use Rattle.numbers.specs.declared.Taken.{Taken}
-use Rattle.numbers.specs.declared.Spelt.TheVariants.{Means, Faulty}
-use Rattle.ledger.specs.Refusals.{require}
+use Rattle.ledger.specs.Refusals.{require, fault_at}
 use Rattle.numbers.specs.Spelling.{fault_in}
+use Rattle.ledger.specs.declared.Fault.{Fault}
 
 -- some digits and nothing else; the first is `0` only where it stands alone
 unfoldable pub well_spelt : List ℕ → Bool
@@ -23,11 +22,11 @@ unfoldable pub value : List ℕ → ℕ
 value w = value_from 0 w
 
 -- misspelt (4) before out of range (5), both at the word's first byte
-unfoldable pub number_of : ℕ → ℕ → List ℕ → Spelt
+unfoldable pub number_of : ℕ → ℕ → List ℕ → Result ℕ Fault
 number_of least most w =
-    require (well_spelt w) (Faulty NumberMisspelt 0)
-    (require (leb least (value w) && leb (value w) most) (Faulty NumberOutOfRange 0)
-    (Means (value w)))
+    require (well_spelt w) (Err (fault_at NumberMisspelt 0))
+    (require (leb least (value w) && leb (value w) most) (Err (fault_at NumberOutOfRange 0))
+    (Ok (value w)))
 
 -- so many digits have a value below 2^64, whatever they are
 abbrev pub short_limit : ℕ
@@ -45,12 +44,12 @@ abbrev pub is_led : ℕ → ℕ → Bool
 is_led n first = not (eqb n 0) && (eqb n 1 || not (eqb first 48))
 
 -- what judging a value promises, which so many digits spell
-pub record Judged (n first v least most : ℕ) (r : Spelt) : Type 0 where
-  pub is : r ≡ require (is_led n first) (Faulty NumberMisspelt 0) (require (leb least v && leb v most) (Faulty NumberOutOfRange 0) (Means v))
+pub record Judged (n first v least most : ℕ) (r : Result ℕ Fault) : Type 0 where
+  pub is : r ≡ require (is_led n first) (Err (fault_at NumberMisspelt 0)) (require (leb least v && leb v most) (Err (fault_at NumberOutOfRange 0)) (Ok v))
   pub near : fault_in r ≡ 0
 
 -- what reading a number promises: what it spells, and that a fault stands at its first byte, which follows
-pub record NumberRead (least most : ℕ) (w : List ℕ) (r : Spelt) : Type 0 where
+pub record NumberRead (least most : ℕ) (w : List ℕ) (r : Result ℕ Fault) : Type 0 where
   pub is : r ≡ number_of least most w
   pub near : fault_in r ≡ 0
 
@@ -61,7 +60,7 @@ is_word_end s i = leb (length s) i || not (is_in Word (get_or s i 0))
 -- what taking the number at a place promises: where it is good, it is what the word there spells, and ends with the
 -- word
 pub record NumberTaken (least most : ℕ) (s : List ℕ) (i : ℕ) (r : Taken) : Type 0 where
-  pub means : r.good ≡ true → number_of least most (take (end_of Word s i - i) (drop i s)) ≡ Means r.value
+  pub means : r.good ≡ true → number_of least most (take (end_of Word s i - i) (drop i s)) ≡ Ok r.value
   pub ends : r.good ≡ true → r.end ≡ end_of Word s i
   pub some : r.good ≡ true → i < r.end
   pub inside : r.good ≡ true → r.end ≤ length s

@@ -1,9 +1,9 @@
 -- What a word spells: a value, or a fault with its place in the word.
-use Rattle.std.specs.Prelude.{ℕ}
-use Rattle.numbers.specs.declared.Spelt.{Spelt}
-use Rattle.numbers.specs.declared.Spelt.TheVariants.{Means, Faulty}
+use Rattle.std.specs.Prelude.{ℕ, Ok, Err, Result}
+use Rattle.ledger.specs.declared.Fault.{Fault}
+use Rattle.ledger.specs.Refusals.{fault_at}
 
 -- where in the word a fault stands
-abbrev pub fault_in : Spelt → ℕ
-fault_in (Means v) = 0
-fault_in (Faulty why at) = at
+abbrev pub fault_in : Result ℕ Fault → ℕ
+fault_in (Ok v) = 0
+fault_in (Err (fault_at why at)) = at

@@ -7,15 +7,8 @@ ghost use Rattle.text.specs.Scan.{is_in};
 ghost use Rattle.numbers.specs.Numbers.{short_limit, well_spelt, is_led, is_word_end, NumberRead, NumberTaken, Judged, DigitsRead};
 ghost use Rattle.numbers.specs.Lists.{is_item_end, last_byte, open_end, PieceRead, ItemsStored, ListEnded, ListRead};
 
-use ledger::Reason;
+use ledger::{Fault, Reason};
 use text::Class;
-
-// What a word spells; a fault's place counts from the word's first byte.
-#[derive(Clone, Copy)]
-pub enum Spelt {
-    Means(u64),
-    Faulty(Reason, usize),
-}
 
 // So many digits have a value below 2^64, whatever they are.
 const SHORT: usize = 19;
@@ -102,16 +95,16 @@ pub fn leads(n: usize, first: u8) -> bool
 }
 
 // A value that so many digits spell, the first of them given: its spelling, then its range.
-fn judge(n: usize, first: u8, v: u64, least: u64, most: u64) -> Spelt
+fn judge(n: usize, first: u8, v: u64, least: u64, most: u64) -> Result<u64, Fault>
     ensures { Judged n first v least most result }
 {
     if !leads(n, first) {
-        return Spelt::Faulty(Reason::NumberMisspelt, 0);
+        return Err(Fault { reason: Reason::NumberMisspelt, place: 0 });
     }
     if (least <= v) & (v <= most) {
-        return Spelt::Means(v);
+        return Ok(v);
     }
-    Spelt::Faulty(Reason::NumberOutOfRange, 0)
+    Err(Fault { reason: Reason::NumberOutOfRange, place: 0 })
 }
 
 // The byte at a place, or 0 past the end.
@@ -140,11 +133,11 @@ fn well_spelt(word: &[u8]) -> bool
 }
 
 // The number that a word of any length spells: each digit is tested against the greatest value.
-fn read_long(word: &[u8], least: u64, most: u64) -> Spelt
+fn read_long(word: &[u8], least: u64, most: u64) -> Result<u64, Fault>
     ensures { NumberRead least most word.now result }
 {
     if !well_spelt(word) {
-        return Spelt::Faulty(Reason::NumberMisspelt, 0);
+        return Err(Fault { reason: Reason::NumberMisspelt, place: 0 });
     }
     let tens = most / 10;
     let mut acc: u64 = 0;
@@ -152,22 +145,22 @@ fn read_long(word: &[u8], least: u64, most: u64) -> Spelt
     while i < word.len() {
         let d = digit(word[i]);
         if tens < acc {
-            return Spelt::Faulty(Reason::NumberOutOfRange, 0);
+            return Err(Fault { reason: Reason::NumberOutOfRange, place: 0 });
         }
         if most - acc * 10 < d {
-            return Spelt::Faulty(Reason::NumberOutOfRange, 0);
+            return Err(Fault { reason: Reason::NumberOutOfRange, place: 0 });
         }
         acc = acc * 10 + d;
         i += 1;
     }
     if acc < least {
-        return Spelt::Faulty(Reason::NumberOutOfRange, 0);
+        return Err(Fault { reason: Reason::NumberOutOfRange, place: 0 });
     }
-    Spelt::Means(acc)
+    Ok(acc)
 }
 
 // The number that a word spells, from a least to a greatest value. A word of any length is told apart: misspelt, or out of range.
-pub fn read_number(word: &[u8], least: u64, most: u64) -> Spelt
+pub fn read_number(word: &[u8], least: u64, most: u64) -> Result<u64, Fault>
     ensures { NumberRead least most word.now result }
 {
     let n = word.len();
@@ -176,7 +169,7 @@ pub fn read_number(word: &[u8], least: u64, most: u64) -> Spelt
     }
     let d = digits_in(word, 0, n);
     if d.end < n {
-        return Spelt::Faulty(Reason::NumberMisspelt, 0);
+        return Err(Fault { reason: Reason::NumberMisspelt, place: 0 });
     }
     judge(n, byte_at(word, 0), d.value, least, most)
 }
@@ -191,7 +184,7 @@ fn is_item_end(word: &[u8], i: usize) -> bool
 // An item of a list: what it spells, and the place past it.
 #[derive(Clone, Copy)]
 struct Piece {
-    spelt: Spelt,
+    spelt: Result<u64, Fault>,
     end: usize,
 }
 
@@ -274,7 +267,7 @@ pub fn store(out: &mut [u64], n: usize, v: u64)
 
 // Tests the items from the left and stores their values as far as the table reaches: the number of items, or the first bad one.
 // The table is the caller's working room: where an item is bad, it holds the values before it.
-pub fn store_items(word: &[u8], least: u64, most: u64, out: &mut [u64]) -> Spelt
+pub fn store_items(word: &[u8], least: u64, most: u64, out: &mut [u64]) -> Result<u64, Fault>
     ensures { ItemsStored least most word.now out.old out.new result }
 {
     let mut i = 0;
@@ -283,17 +276,17 @@ pub fn store_items(word: &[u8], least: u64, most: u64, out: &mut [u64]) -> Spelt
         let x = read_item(word, i, least, most);
         let spelt = x.spelt;
         match spelt {
-            Spelt::Means(v) => {
+            Ok(v) => {
                 store(out, n, v);
             }
-            Spelt::Faulty(reason, _) => {
-                return Spelt::Faulty(reason, i);
+            Err(Fault { reason: reason, place: _ }) => {
+                return Err(Fault { reason: reason, place: i });
             }
         }
         n += 1;
         i = x.end + 1;
     }
-    Spelt::Means(n as u64)
+    Ok(n as u64)
 }
 
 fn last_byte(word: &[u8]) -> u8
@@ -315,21 +308,17 @@ fn open_end(word: &[u8], comma: bool) -> bool
 
 // Ends a list whose items were found good or bad: an empty item at the end, then the number of items against a count.
 // `comma`: whether one further comma may stand at the end.
-pub fn end_list(found: Spelt, word: &[u8], comma: bool, count: u64) -> Spelt
+pub fn end_list(found: Result<u64, Fault>, word: &[u8], comma: bool, count: u64) -> Result<u64, Fault>
     ensures { ListEnded comma count word.now found result }
 {
-    match found {
-        Spelt::Faulty(reason, at) => Spelt::Faulty(reason, at),
-        Spelt::Means(m) => {
-            if open_end(word, comma) {
-                return Spelt::Faulty(Reason::NumberMisspelt, word.len());
-            }
-            if m != count {
-                return Spelt::Faulty(Reason::ListLength, 0);
-            }
-            Spelt::Means(m)
-        }
+    let m = found?;
+    if open_end(word, comma) {
+        return Err(Fault { reason: Reason::NumberMisspelt, place: word.len() });
     }
+    if m != count {
+        return Err(Fault { reason: Reason::ListLength, place: 0 });
+    }
+    Ok(m)
 }
 
 // Reads a comma list of so many numbers into a table. All is tested before a number is stored, so a refusal leaves the table as it was.
@@ -340,13 +329,11 @@ pub fn read_list(
     comma: bool,
     count: u64,
     out: &mut [u64],
-) -> Spelt
+) -> Result<u64, Fault>
     ensures { ListRead least most comma count word.now out.old out.new result }
 {
     let mut none = [0u64; 0];
     let found = store_items(word, least, most, &mut none);
-    match end_list(found, word, comma, count) {
-        Spelt::Faulty(reason, at) => Spelt::Faulty(reason, at),
-        Spelt::Means(_) => store_items(word, least, most, out),
-    }
+    end_list(found, word, comma, count)?;
+    store_items(word, least, most, out)
 }

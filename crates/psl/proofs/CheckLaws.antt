@@ -11,7 +11,6 @@ use Rattle.ledger.specs.Limits.{largest_position}
 use Rattle.ledger.specs.declared.Reason.TheVariants.{NumberOutOfRange}
 use Rattle.ledger.specs.declared.Refusal.{Refusal}
 use Rattle.ledger.specs.Refusals.{without_text}
-use Rattle.text.specs.declared.Check.TheVariants as check
 use Rattle.text.proofs.TextLaws.{both}
 use Rattle.blocks.specs.Blocks.{count_fits, rows_of, row_numbers_fit}
 use Rattle.psl.specs.declared.Psl.{Psl}
@@ -20,6 +19,7 @@ use Rattle.psl.specs.Tests.{count_numbers_fit, fields_fit, spans_fit, psl_valid}
 use Rattle.psl.specs.Write.{numbers_check}
 use Rattle.psl.specs.Steps.{CountsRange, head_fits}
 use Rattle.columns.specs.Names.{length_fits}
+use Rattle.std.specs.Prelude.{Err}
 
 -- counts in range
 pub counts_range : (r : Psl) → fields_fit r ≡ true → CountsRange r.counts
@@ -78,7 +78,7 @@ module _ (r : Psl) (ts qs zs : List ℕ) (rows : ℕ) (er : rows ≡ rows_of ts 
 
 -- the writer's checks from the numbers on
 module _ (r : Psl) (f : Bool) (ef : f ≡ fields_fit r) where
-  pub numbers_bad : (ts qs zs : List ℕ) (x : Refusal) → not f ≡ true → x ≡ without_text NumberOutOfRange → check.Refused x ≡ numbers_check r ts qs zs
+  pub numbers_bad : (ts qs zs : List ℕ) (x : Refusal) → not f ≡ true → x ≡ without_text NumberOutOfRange → Err x ≡ numbers_check r ts qs zs
   numbers_bad ts qs zs x q e = rw (← ef, not-true f q, e)
 
   module _ (good : not f ≡ false) where

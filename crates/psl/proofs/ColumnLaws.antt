@@ -13,7 +13,6 @@ use Rattle.text.specs.Words.{word_at, bytes_of}
 use Rattle.text.specs.Pieces.{words_of, line_of}
 use Rattle.text.proofs.PieceLaws.{word_bytes}
 use Rattle.text.proofs.StageLaws.{went, staged_stops}
-use Rattle.numbers.specs.declared.Spelt.TheVariants.{Means}
 use Rattle.numbers.specs.Lists.{values_of}
 use Rattle.kinds.specs.declared.Range.{Range}
 use Rattle.kinds.specs.declared.Range.TheVariants.{Coordinate, Size}
@@ -21,9 +20,6 @@ use Rattle.kinds.specs.declared.Kind.TheVariants.{Number, Items}
 use Rattle.kinds.specs.Codes as code
 use Rattle.kinds.specs.Kinds.{kind_of, spelt, items_in}
 use Rattle.kinds.proofs.RangeLaws.{number_spelt, count_spelt, items_spelt}
-use Rattle.columns.specs.declared.Columns.{Columns}
-use Rattle.columns.specs.declared.Columns.TheVariants.{Next}
-use Rattle.columns.specs.declared.Columns.TheVariants as columns
 use Rattle.columns.specs.Columns.{table_of, columns_from, values_from, lists_from, value_of}
 use Rattle.columns.specs.Spells.{firsts}
 use Rattle.columns.proofs.Meant.{Meant}
@@ -33,14 +29,13 @@ use Rattle.columns.proofs.SpellsLaws.{columns_mean}
 use Rattle.columns.proofs.PlaceLaws.{spelt_at, value_first, values_length, lists_length, lists_at}
 use Rattle.columns.proofs.OneLineLaws.{line_found}
 use Rattle.psl.specs.declared.Psl.{Psl}
-use Rattle.psl.specs.declared.PslReading.{PslReading}
-use Rattle.psl.specs.declared.PslReading.TheVariants.{Read, Faulty}
 use Rattle.psl.specs.Columns as column
 use Rattle.psl.specs.Table.{psl_columns}
 use Rattle.psl.specs.Records.{counts_of, psl_record, psl_sizes, psl_queries, psl_targets}
 use Rattle.psl.specs.Read.{span_check, row_check, after_line, psl_stages, Listed}
 use Rattle.psl.specs.Steps.{CountsRange, Ready}
 use Rattle.psl.proofs.AnswerLaws.{read_apart}
+use Rattle.std.specs.Prelude.{Ok, Err, Result}
 
 -- the codes of the table in the code
 abbrev pub psl_codes : List ℕ
@@ -53,20 +48,20 @@ unfolding table_of kind_of psl_columns
 table_is = refl
 
 -- what is read is the columns' record
-pub read_record : (s vs : List ℕ) (r : Psl) → after_line s vs ≡ Read r → psl_record vs ≡ r
+pub read_record : (s vs : List ℕ) (r : Psl) → after_line s vs ≡ Ok r → psl_record vs ≡ r
 unfolding after_line
 read_record s vs r e =
-    let a = went Faulty (span_check (psl_record vs) vs) (then_check Faulty (row_check s (psl_record vs)) (Read (psl_record vs))) (Read r) (read_apart r) e in
-    let b = went Faulty (row_check s (psl_record vs)) (Read (psl_record vs)) (Read r) (read_apart r) a.1 in
+    let a = went Err (span_check (psl_record vs) vs) (then_check Err (row_check s (psl_record vs)) (Ok (psl_record vs))) (Ok r) (read_apart r) e in
+    let b = went Err (row_check s (psl_record vs)) (Ok (psl_record vs)) (Ok r) (read_apart r) a.1 in
     let q = b.1 in
     cc
 
 -- the columns of a line that is read
-module _ (s : List ℕ) (e : ℕ) (found : line_read psl_columns s ≡ Next e) where
+module _ (s : List ℕ) (e : ℕ) (found : line_read psl_columns s ≡ Ok e) where
   abbrev vs : List ℕ
   vs = values_from psl_columns 0 s 0
 
-  read : columns_from psl_columns 0 s 0 ≡ Next e
+  read : columns_from psl_columns 0 s 0 ≡ Ok e
   read = (line_found psl_columns s e found).read
 
   spells : Meant psl_columns 0 (words_of (line_of s)) (firsts vs)
@@ -102,7 +97,7 @@ module _ (s : List ℕ) (e : ℕ) (found : line_read psl_columns s ≡ Next e) w
       rw (value_first vs column.block_count) at c.1
 
   -- a list holds the values of its word, as many as blockCount says
-  list_is : (k : ℕ) (r : Range) → spelt (Items r) (get_or (firsts vs) column.block_count 0) (get_or (words_of (line_of s)) k []) ≡ Means (get_or (firsts vs) k 0)
+  list_is : (k : ℕ) (r : Range) → spelt (Items r) (get_or (firsts vs) column.block_count 0) (get_or (words_of (line_of s)) k []) ≡ Ok (get_or (firsts vs) k 0)
       → (items_in (Items r) (bytes_of s (word_at s 0 k)) ≡ values_of (bytes_of s (word_at s 0 k))) × (length (items_in (Items r) (bytes_of s (word_at s 0 k))) ≡ value_of vs column.block_count)
   list_is k r p =
       let c = items_spelt r (get_or (firsts vs) column.block_count 0) (get_or (words_of (line_of s)) k []) (get_or (firsts vs) k 0) p in
@@ -156,12 +151,12 @@ module _ (s : List ℕ) (e : ℕ) (found : line_read psl_columns s ≡ Next e) w
       x ∙ rw (y, append-nil)
 
 -- the line read, and on
-module _ (s b' d d' : List ℕ) (long : length d ≡ 3 * block_limit) (x : Columns) (read : LineWalked (table_of psl_codes) s (replicate (2 * column.count) 0) b' d d' x) where
+module _ (s b' d d' : List ℕ) (long : length d ≡ 3 * block_limit) (x : Result ℕ Fault) (read : LineWalked (table_of psl_codes) s (replicate (2 * column.count) 0) b' d d' x) where
   read_is : x ≡ line_read psl_columns s
   read_is = rw table_is at read.result
 
-  module _ (e : ℕ) (q : x ≡ Next e) where
-    next : line_read psl_columns s ≡ Next e
+  module _ (e : ℕ) (q : x ≡ Ok e) where
+    next : line_read psl_columns s ≡ Ok e
     next = sym read_is ∙ q
 
     values_are : b' ≡ values_from psl_columns 0 s 0
@@ -175,15 +170,15 @@ module _ (s b' d d' : List ℕ) (long : length d ≡ 3 * block_limit) (x : Colum
     pub stage_ready : Ready s (psl_record b') d'
     stage_ready = rw (values_are, lists_are) (line_ready s e next d long)
 
-    pub stage_on : (a : PslReading) → a ≡ after_line s b' → Staged Read (Listed s) (psl_stages s) d' a
+    pub stage_on : (a : Result Psl Fault) → a ≡ after_line s b' → Staged Ok (Listed s) (psl_stages s) d' a
     unfolding psl_stages
     stage_on a h = record {
       is = rw (next, ← values_are) h;
       held = λ r p. rw (read_record s b' r (sym h ∙ p)) at stage_ready.held;
     }
 
-  pub stage_stops : (l : List ℕ) (y : Fault) → x ≡ columns.Faulty y → Staged Read (Listed s) (psl_stages s) l (Faulty y)
+  pub stage_stops : (l : List ℕ) (y : Fault) → x ≡ Err y → Staged Ok (Listed s) (psl_stages s) l (Err y)
   unfolding psl_stages
   stage_stops l y q =
-      let z : line_read psl_columns s ≡ columns.Faulty y = sym read_is ∙ q in
-      staged_stops Faulty read_apart y (rw z)
+      let z : line_read psl_columns s ≡ Err y = sym read_is ∙ q in
+      staged_stops Err read_apart y (rw z)

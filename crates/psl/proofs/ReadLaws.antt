@@ -10,9 +10,6 @@ use Rattle.ledger.specs.declared.Reason.TheVariants.{BlockRules, CountsDisagree}
 use Rattle.ledger.specs.declared.Fault.{Fault}
 use Rattle.ledger.specs.Limits.{block_limit}
 use Rattle.ledger.specs.Refusals.{require}
-use Rattle.text.specs.declared.Stage.{Stage}
-use Rattle.text.specs.declared.Stage.TheVariants.{Passes}
-use Rattle.text.specs.declared.Stage.TheVariants as stage
 use Rattle.text.specs.Checks.{fault}
 use Rattle.text.specs.Steps.{Staged}
 use Rattle.blocks.specs.Blocks.{capped, sum_of, gap_count, gap_bases}
@@ -20,14 +17,13 @@ use Rattle.blocks.proofs.GapLaws.{capped_eq}
 use Rattle.blocks.proofs.TakeLaws.{part_all}
 use Rattle.psl.specs.declared.Counts.{Counts}
 use Rattle.psl.specs.declared.Psl.{Psl}
-use Rattle.psl.specs.declared.PslReading.{PslReading}
-use Rattle.psl.specs.declared.PslReading.TheVariants.{Read, Faulty}
-use Rattle.psl.specs.declared.PslAnswer.{PslAnswer}
 use Rattle.psl.specs.Records.{psl_record, psl_sizes, psl_queries, psl_targets}
 use Rattle.psl.specs.Rows.{rows_fit, counts_fit}
 use Rattle.psl.specs.Read.{span_check, row_check, after_line, psl_stages, psl_answer, psl_check, Listed, InRoom}
 use Rattle.psl.specs.Steps.{CountsRange, Ready}
 use Rattle.psl.proofs.AnswerLaws.{told_read}
+use Rattle.std.specs.Prelude.{Ok, Err, Result, ⊤}
+use Rattle.ledger.specs.declared.Refusal.{Refusal}
 
 -- the counts, by sums that are capped
 module _ (c : Counts) (range : CountsRange c) (ts qs zs : List ℕ) (sum qGaps qBases tGaps tBases : ℕ) (es : sum ≡ capped (sum_of zs)) (eq : qGaps ≡ gap_count qs zs) (eqb' : qBases ≡ capped (gap_bases qs zs))
@@ -66,22 +62,22 @@ module _ (s : List ℕ) (r : Psl) (l : List ℕ) (ready : Ready s r l) where
       counts_held : b ≡ counts_fit r.counts (psl_targets s) (psl_queries s) (psl_sizes s)
       counts_held = rw (held_targets, held_queries, ready.held.sizes) at eb
 
-      pub rows_checked : (c d : Stage) → d ≡ require b (fault CountsDisagree (length s)) Passes → c ≡ require a (fault BlockRules (length s)) d → c ≡ row_check s r
+      pub rows_checked : (c d : Result ⊤ Fault) → d ≡ require b (fault CountsDisagree (length s)) (Ok tt) → c ≡ require a (fault BlockRules (length s)) d → c ≡ row_check s r
       unfolding row_check
       rows_checked c d ed ec = rw (← rows_are, ← counts_held, ← ed) ec
 
 -- a check that stops the reader, and both that pass
-module _ (s vs : List ℕ) (r : Psl) (er : r ≡ psl_record vs) (c : Stage) (ec : c ≡ span_check r vs) where
-  pub spans_stop : (x : Fault) → c ≡ stage.Faulty x → Faulty x ≡ after_line s vs
+module _ (s vs : List ℕ) (r : Psl) (er : r ≡ psl_record vs) (c : Result ⊤ Fault) (ec : c ≡ span_check r vs) where
+  pub spans_stop : (x : Fault) → c ≡ Err x → Err x ≡ after_line s vs
   unfolding after_line
   spans_stop x q = rw (← er, ← ec, q)
 
-  module _ (q : c ≡ Passes) (d : Stage) (ed : d ≡ row_check s r) where
-    pub rows_stop : (x : Fault) → d ≡ stage.Faulty x → Faulty x ≡ after_line s vs
+  module _ (q : c ≡ (Ok tt)) (d : Result ⊤ Fault) (ed : d ≡ row_check s r) where
+    pub rows_stop : (x : Fault) → d ≡ Err x → Err x ≡ after_line s vs
     unfolding after_line
     rows_stop x k = rw (← er, ← ec, q, ← ed, k)
 
-    pub line_reads : d ≡ Passes → Read r ≡ after_line s vs
+    pub line_reads : d ≡ (Ok tt) → Ok r ≡ after_line s vs
     unfolding after_line
     line_reads k = rw (← er, ← ec, q, ← ed, k)
 
@@ -89,7 +85,7 @@ pub ready_as : (s : List ℕ) (r b : Psl) (l : List ℕ) → r ≡ b → Ready s
 ready_as s r b l e h = rw e h
 
 -- the text checker, and the reader into working room
-module _ (s lists lists' : List ℕ) (a : PslReading) (staged : Staged Read (Listed s) (psl_stages s) lists' a) (x : PslAnswer) (told : x ≡ psl_answer a) where
+module _ (s lists lists' : List ℕ) (a : Result Psl Fault) (staged : Staged Ok (Listed s) (psl_stages s) lists' a) (x : Result Psl Refusal) (told : x ≡ psl_answer a) where
   pub text_checked : x ≡ psl_check s
   unfolding psl_check
   text_checked = told ∙ ap psl_answer staged.is
@@ -97,5 +93,5 @@ module _ (s lists lists' : List ℕ) (a : PslReading) (staged : Staged Read (Lis
   pub room_read : InRoom s lists lists' x
   room_read = record { is = text_checked; held = λ l r q. staged.held r (told_read a r (sym told ∙ q)) }
 
-pub room_other : (s lists : List ℕ) (x : PslAnswer) → (length lists ≡ 3 * block_limit → ⊥) → x ≡ psl_check s → InRoom s lists lists x
+pub room_other : (s lists : List ℕ) (x : Result Psl Refusal) → (length lists ≡ 3 * block_limit → ⊥) → x ≡ psl_check s → InRoom s lists lists x
 room_other s lists x n h = record { is = h; held = λ l. absurd (n l) }

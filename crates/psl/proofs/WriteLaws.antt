@@ -13,14 +13,9 @@ use borrow.Rule.Slice.PartMut.{put_mid}
 use Rattle.ledger.specs.Limits.{name_limit, block_limit}
 use Rattle.ledger.specs.declared.Refusal.{Refusal}
 use Rattle.ledger.specs.Strands.{is_told}
-use Rattle.text.specs.declared.Check.{Check}
-use Rattle.text.specs.declared.Check.TheVariants.{Holds}
-use Rattle.text.specs.declared.Check.TheVariants as check
 use Rattle.text.proofs.TextLaws.{both}
 use Rattle.text.proofs.StageLaws.{require_holds}
 use Rattle.writing.specs.Answers.{Wrote}
-use Rattle.writing.specs.declared.Writing.{Writing}
-use Rattle.writing.specs.declared.Writing.TheVariants as writing
 use Rattle.kinds.proofs.SpellLaws.{part_stored}
 use Rattle.columns.specs.Columns.{table_of}
 use Rattle.columns.specs.Lines.{line_text, fed_line}
@@ -36,6 +31,7 @@ use Rattle.psl.proofs.ColumnLaws.{psl_codes, table_is}
 use Rattle.psl.specs.Write.{words_show, write_check, psl_words, psl_text, psl_write, PslWrote}
 use Rattle.psl.specs.Steps.{values_put, psl_values, RowsThere, ListsPut, Writable}
 use Rattle.columns.proofs.WordLaws.{letter_byte}
+use Rattle.std.specs.Prelude.{Ok, Err, Result, ⊤}
 
 -- three lists stored one after the other, room for a record's blocks each
 pub lists_put : (n : ℕ) (ts qs zs l l₁ y l₂ z : List ℕ) → RowsThere n ts qs zs l → l₁ ≡ sets l 0 (take n zs)
@@ -80,7 +76,7 @@ module _ (r : Psl) (query target ts qs zs t l : List ℕ) (names : NamesPut quer
   unfolding fed_line line_text psl_text
   text_is = rw (table_is, line_joins 9 t (psl_values r (length query) (length target)) l psl_columns, words_are)
 
-  pub text_wrote : (vs b b' : List ℕ) (x : Writing) → vs ≡ psl_values r (length query) (length target) → Wrote (fed_line (table_of psl_codes) 9 t vs l) b b' x → Wrote (psl_text r query target ts qs zs) b b' x
+  pub text_wrote : (vs b b' : List ℕ) (x : Result ℕ Refusal) → vs ≡ psl_values r (length query) (length target) → Wrote (fed_line (table_of psl_codes) 9 t vs l) b b' x → Wrote (psl_text r query target ts qs zs) b b' x
   text_wrote vs b b' x ev w = rw (ev, text_is) at w
 
 -- what the stages ask of a record that passed the checks
@@ -92,7 +88,7 @@ module _ (r : Psl) (query target ts qs zs : List ℕ) (w : Writable r query targ
   rows_there l e = record { long = e; few = w.few; targets = w.targets; queries = w.queries; sizes = w.sizes }
 
 -- a record that passes the checks can be written
-check_writable : (r : Psl) (query target ts qs zs : List ℕ) → write_check r query target ts qs zs ≡ Holds → Writable r query target ts qs zs
+check_writable : (r : Psl) (query target ts qs zs : List ℕ) → write_check r query target ts qs zs ≡ (Ok tt) → Writable r query target ts qs zs
 unfolding write_check words_show
 check_writable r query target ts qs zs e =
     let a = require_holds _ _ _ e in
@@ -113,14 +109,14 @@ check_writable r query target ts qs zs e =
     }
 
 -- the writer: the checks, then the text
-module _ (r : Psl) (query target ts qs zs b : List ℕ) (c : Check) (ec : c ≡ write_check r query target ts qs zs) where
-  pub write_refused : (x : Refusal) → c ≡ check.Refused x → PslWrote r query target ts qs zs b b (writing.Refused x)
+module _ (r : Psl) (query target ts qs zs b : List ℕ) (c : Result ⊤ Refusal) (ec : c ≡ write_check r query target ts qs zs) where
+  pub write_refused : (x : Refusal) → c ≡ Err x → PslWrote r query target ts qs zs b b (Err x)
   unfolding psl_write
   write_refused x q = record { is = rw (← ec, q); left = refl }
 
-  pub write_ready : c ≡ Holds → Writable r query target ts qs zs
+  pub write_ready : c ≡ (Ok tt) → Writable r query target ts qs zs
   write_ready q = check_writable r query target ts qs zs (sym ec ∙ q)
 
-  pub write_wrote : (b' : List ℕ) (x : Writing) → c ≡ Holds → Wrote (psl_text r query target ts qs zs) b b' x → PslWrote r query target ts qs zs b b' x
+  pub write_wrote : (b' : List ℕ) (x : Result ℕ Refusal) → c ≡ (Ok tt) → Wrote (psl_text r query target ts qs zs) b b' x → PslWrote r query target ts qs zs b b' x
   unfolding psl_write
   write_wrote b' x q h = record { is = rw (← ec, q) h.is; left = h.left }

@@ -1,5 +1,5 @@
 -- For private contracts: what the steps of reading and writing promise each other. Not a definition of the format.
-use Rattle.std.specs.Prelude.{ℕ, ◌+◌, ◌*◌, ◌≤◌, ◌≡◌, Bool, ◌&&◌, List, [], ◌∷◌, length, replicate, set, take, drop}
+use Rattle.std.specs.Prelude.{ℕ, ◌+◌, ◌*◌, ◌≤◌, ◌≡◌, Bool, ◌&&◌, List, [], ◌∷◌, length, replicate, set, take, drop, Result}
 use Rattle.ledger.specs.Limits.{name_limit, block_limit, largest_position}
 use Rattle.ledger.specs.Strands.{strand_letter, is_told}
 use Rattle.columns.specs.Names.{length_fits}
@@ -7,11 +7,11 @@ use Rattle.blocks.specs.Blocks.{count_fits}
 use Rattle.blocks.specs.Readers.{RowsRead}
 use Rattle.psl.specs.declared.Counts.{Counts}
 use Rattle.psl.specs.declared.Psl.{Psl}
-use Rattle.psl.specs.declared.PslReading.{PslReading}
 use Rattle.psl.specs.Columns as column
 use Rattle.psl.specs.Records.{psl_sizes, psl_queries, psl_targets}
 use Rattle.psl.specs.Read.{on_reading, Listed}
 use Rattle.psl.specs.Tests.{fields_fit}
+use Rattle.ledger.specs.declared.Fault.{Fault}
 
 -- counts that columns hold are coordinates
 pub record CountsRange (c : Counts) : Type 0 where
@@ -28,7 +28,7 @@ pub record Ready (s : List ℕ) (r : Psl) (lists : List ℕ) : Type 0 where
   pub range : CountsRange r.counts
 
 -- a reading, and the rows of a record that was read in the lent slices
-abbrev pub RowsStored : PslReading → List ℕ → List ℕ → List ℕ → List ℕ → List ℕ → List ℕ → List ℕ → PslReading → Type 0
+abbrev pub RowsStored : Result Psl Fault → List ℕ → List ℕ → List ℕ → List ℕ → List ℕ → List ℕ → List ℕ → Result Psl Fault → Type 0
 RowsStored answer s ts ts' qs qs' zs zs' x = RowsRead on_reading answer (λ (r : Psl). psl_targets s) (λ (r : Psl). psl_queries s) (λ (r : Psl). psl_sizes s) ts ts' qs qs' zs zs' x
 
 -- what the record checker tests before the rows: the count of blocks, the names by length, the strand, the numbers

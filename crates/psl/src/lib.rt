@@ -1,14 +1,13 @@
 // One PSL line: reader, text checker, record checker, writer, over three flat slices of blocks.
 #![tactic(auto)]
 
-ghost use Rattle.std.specs.Prelude.{◌≡◌, ◌*◌, ◌≤◌, length, take};
+ghost use Rattle.std.specs.Prelude.{◌≡◌, ◌*◌, ◌≤◌, length, take, Ok, Err};
 ghost use Rattle.ledger.specs.Limits.{block_limit};
 ghost use Rattle.text.specs.Checks.{then_check, room_check};
 ghost use Rattle.text.specs.Steps.{Staged};
 ghost use Rattle.writing.specs.Answers.{Wrote};
 ghost use Rattle.columns.specs.Columns.{column_limit};
 ghost use Rattle.blocks.specs.Blocks.{rows_of};
-ghost use Rattle.psl.specs.declared.PslReading.TheVariants as reading;
 ghost use Rattle.psl.specs.Records.{counts_of, side_of, psl_record};
 ghost use Rattle.psl.specs.Rows.{rows_fit, counts_fit};
 ghost use Rattle.psl.specs.Tests.{side_fits, count_numbers_fit, fields_fit, spans_fit, psl_valid};
@@ -16,10 +15,7 @@ ghost use Rattle.psl.specs.Write.{words_show, numbers_check, write_check, psl_te
 ghost use Rattle.psl.specs.Read.{span_check, row_check, after_line, psl_stages, room_stages, psl_answer, psl_check, Listed, InRoom, PslRead};
 ghost use Rattle.psl.specs.Steps.{CountsRange, Ready, RowsStored, head_fits, values_put, psl_values, RowsThere, ListsPut, Writable};
 
-use columns::Columns;
 use ledger::{Fault, Part, Reason, Refusal, Strand};
-use text::{Check, Stage};
-use writing::Writing;
 
 // The eight counts of a PSL line.
 #[derive(Clone, Copy)]
@@ -51,20 +47,6 @@ pub struct Psl {
     pub query: Side,
     pub target: Side,
     pub blockCount: u64,
-}
-
-// What the checks of a text find: its record, or the first fault.
-#[derive(Clone, Copy)]
-pub enum PslReading {
-    Read(Psl),
-    Faulty(Fault),
-}
-
-// What a caller is told.
-#[derive(Clone, Copy)]
-pub enum PslAnswer {
-    Accepted(Psl),
-    Refused(Refusal),
 }
 
 // The columns by their numbers, as specs/Columns.antt has them.
@@ -171,7 +153,7 @@ fn record_of(values: &[u64]) -> Psl
 }
 
 // The spans (7): the query's, then the target's.
-fn check_spans(r: Psl, values: &[u64]) -> Stage
+fn check_spans(r: Psl, values: &[u64]) -> Result<(), Fault>
     ensures { result ≡ span_check r values.now }
 {
     let query = r.query;
@@ -182,7 +164,7 @@ fn check_spans(r: Psl, values: &[u64]) -> Stage
         blocks::span_fits(target.start, target.end, target.size),
         Reason::SpanDisagrees,
         target_end,
-        Stage::Passes,
+        Ok(()),
     );
     text::require(
         blocks::span_fits(query.start, query.end, query.size),
@@ -221,7 +203,7 @@ fn counts_fit(c: Counts, targets: &[u64], queries: &[u64], sizes: &[u64], count:
 }
 
 // The blocks (9), then the counts (10), in the working room.
-fn check_rows(text: &[u8], r: Psl, lists: &[u64]) -> Stage
+fn check_rows(text: &[u8], r: Psl, lists: &[u64]) -> Result<(), Fault>
     requires { Ready text.now r lists.now }
     ensures { result ≡ row_check text.now r }
 {
@@ -235,7 +217,7 @@ fn check_rows(text: &[u8], r: Psl, lists: &[u64]) -> Stage
         counts_fit(counts, targets, queries, lists, count),
         Reason::CountsDisagree,
         text.len(),
-        Stage::Passes,
+        Ok(()),
     );
     text::require(
         rows_fit(r, targets, queries, lists, count),
@@ -246,45 +228,39 @@ fn check_rows(text: &[u8], r: Psl, lists: &[u64]) -> Stage
 }
 
 // The spans, the blocks and the counts, and the record.
-fn after_line(text: &[u8], values: &[u64], lists: &[u64]) -> PslReading
+fn after_line(text: &[u8], values: &[u64], lists: &[u64]) -> Result<Psl, Fault>
     requires { Ready text.now (psl_record values.now) lists.now }
     ensures { result ≡ after_line text.now values.now }
 {
     let r = record_of(values);
-    match check_spans(r, values) {
-        Stage::Faulty(x) => PslReading::Faulty(x),
-        Stage::Passes => match check_rows(text, r, lists) {
-            Stage::Faulty(x) => PslReading::Faulty(x),
-            Stage::Passes => PslReading::Read(r),
-        },
-    }
+    check_spans(r, values)?;
+    check_rows(text, r, lists)?;
+    Ok(r)
 }
 
 // All checks of a text, the blocks of a good line in the working room.
-fn stage(text: &[u8], lists: &mut [u64]) -> PslReading
+fn stage(text: &[u8], lists: &mut [u64]) -> Result<Psl, Fault>
     requires { length lists.old ≡ 3 * block_limit }
-    ensures { Staged reading.Read (Listed text.now) (psl_stages text.now) lists.new result }
+    ensures { Staged Ok (Listed text.now) (psl_stages text.now) lists.new result }
 {
     let table = PSL;
     let mut values = [0u64; 2 * COLUMNS];
-    match columns::walk_text(text, &table, &mut values, lists) {
-        Columns::Faulty(x) => PslReading::Faulty(x),
-        Columns::Next(_) => after_line(text, &values, lists),
-    }
+    columns::walk_text(text, &table, &mut values, lists)?;
+    after_line(text, &values, lists)
 }
 
 // What a caller is told of a reading.
-fn answered(x: PslReading) -> PslAnswer
+fn answered(x: Result<Psl, Fault>) -> Result<Psl, Refusal>
     ensures { result ≡ psl_answer x }
 {
     match x {
-        PslReading::Read(r) => PslAnswer::Accepted(r),
-        PslReading::Faulty(f) => PslAnswer::Refused(Refusal::at(f)),
+        Ok(r) => Ok(r),
+        Err(f) => Err(Refusal::at(f)),
     }
 }
 
 // THE TEXT CHECKER: what the reader answers, given room.
-pub fn check_psl_text(text: &[u8]) -> PslAnswer
+pub fn check_psl_text(text: &[u8]) -> Result<Psl, Refusal>
     ensures { result ≡ psl_check text.now }
 {
     let mut lists = blocks::working_room();
@@ -293,7 +269,7 @@ pub fn check_psl_text(text: &[u8]) -> PslAnswer
 
 // The reader into working room for any record's blocks: sizes, queries and targets, each after the room for a record's
 // blocks. In room of another length nothing is stored.
-pub fn read_lists(text: &[u8], lists: &mut [u64]) -> PslAnswer
+pub fn read_lists(text: &[u8], lists: &mut [u64]) -> Result<Psl, Refusal>
     ensures { InRoom text.now lists.old lists.new result }
 {
     if lists.len() != blocks::ROOM {
@@ -310,17 +286,17 @@ fn store_rows(
     targets: &mut [u64],
     queries: &mut [u64],
     sizes: &mut [u64],
-) -> PslReading
+) -> Result<Psl, Fault>
     requires { Listed text.now r lists.now }
-    ensures { RowsStored (then_check reading.Faulty (room_check text.now r.blockCount (rows_of
-        targets.old queries.old sizes.old)) (reading.Read r)) text.now
+    ensures { RowsStored (then_check Err (room_check text.now r.blockCount (rows_of
+        targets.old queries.old sizes.old)) (Ok r)) text.now
         targets.old targets.new queries.old queries.new sizes.old
         sizes.new result }
 {
     let room = blocks::rows_of(targets, queries, sizes);
     let count = r.blockCount as usize;
     if room < count {
-        return PslReading::Faulty(Fault {
+        return Err(Fault {
             reason: Reason::NoRoom,
             place: text.len(),
         });
@@ -330,21 +306,19 @@ fn store_rows(
     blocks::copy_numbers(&lists[d..], count, targets);
     blocks::copy_numbers(&lists[b..], count, queries);
     blocks::copy_numbers(lists, count, sizes);
-    PslReading::Read(r)
+    Ok(r)
 }
 
 // All checks of a text, the room last, and the rows of a good line.
-fn read_rows(text: &[u8], targets: &mut [u64], queries: &mut [u64], sizes: &mut [u64]) -> PslReading
+fn read_rows(text: &[u8], targets: &mut [u64], queries: &mut [u64], sizes: &mut [u64]) -> Result<Psl, Fault>
     ensures { RowsStored (room_stages text.now (rows_of targets.old
         queries.old sizes.old)) text.now
         targets.old targets.new queries.old queries.new sizes.old
         sizes.new result }
 {
     let mut lists = blocks::working_room();
-    match stage(text, &mut lists) {
-        PslReading::Faulty(x) => PslReading::Faulty(x),
-        PslReading::Read(r) => store_rows(text, r, &lists, targets, queries, sizes),
-    }
+    let r = stage(text, &mut lists)?;
+    store_rows(text, r, &lists, targets, queries, sizes)
 }
 
 // THE READER: one PSL line, its blocks to the front of three lent slices. A refusal leaves them as they were, and rows past the
@@ -354,7 +328,7 @@ pub fn read_psl(
     targets: &mut [u64],
     queries: &mut [u64],
     sizes: &mut [u64],
-) -> PslAnswer
+) -> Result<Psl, Refusal>
     ensures { PslRead text.now targets.old targets.new queries.old
         queries.new sizes.old sizes.new result }
 {
@@ -433,13 +407,13 @@ fn record_fits(r: Psl, targets: &[u64], queries: &[u64], sizes: &[u64]) -> bool
 }
 
 // THE RECORD CHECKER: a record with the first blockCount rows of three slices; any breach is 9.
-pub fn check_psl(r: Psl, targets: &[u64], queries: &[u64], sizes: &[u64]) -> Check
+pub fn check_psl(r: Psl, targets: &[u64], queries: &[u64], sizes: &[u64]) -> Result<(), Refusal>
     ensures { result ≡ record_check r targets.now queries.now sizes.now }
 {
     text::demand(
         record_fits(r, targets, queries, sizes),
         Reason::BlockRules,
-        Check::Holds,
+        Ok(()),
     )
 }
 
@@ -453,18 +427,18 @@ fn words_show(r: Psl, query: &[u8], target: &[u8]) -> bool
 }
 
 // The numbers (5), a row's too, then the spans (7), the blocks (9) and the counts (10).
-fn check_numbers(r: Psl, targets: &[u64], queries: &[u64], sizes: &[u64]) -> Check
+fn check_numbers(r: Psl, targets: &[u64], queries: &[u64], sizes: &[u64]) -> Result<(), Refusal>
     ensures { result ≡ numbers_check r targets.now queries.now sizes.now }
 {
     if !fields_fit(r) {
-        return Check::Refused(Refusal::without_text(Reason::NumberOutOfRange));
+        return Err(Refusal::without_text(Reason::NumberOutOfRange));
     }
     let count = r.blockCount as usize;
     let counts = r.counts;
     let last = text::demand(
         counts_fit(counts, targets, queries, sizes, count),
         Reason::CountsDisagree,
-        Check::Holds,
+        Ok(()),
     );
     let blocks = text::demand(
         rows_fit(r, targets, queries, sizes, count),
@@ -487,7 +461,7 @@ fn check_write(
     targets: &[u64],
     queries: &[u64],
     sizes: &[u64],
-) -> Check
+) -> Result<(), Refusal>
     ensures { result ≡ write_check r query.now target.now targets.now
         queries.now sizes.now }
 {
@@ -572,7 +546,7 @@ fn write_text(
     queries: &[u64],
     sizes: &[u64],
     buf: &mut [u8],
-) -> Writing
+) -> Result<usize, Refusal>
     requires { Writable r query.now target.now targets.now queries.now sizes.now }
     ensures { Wrote (psl_text r query.now target.now targets.now
         queries.now sizes.now) buf.old buf.new result }
@@ -596,12 +570,10 @@ pub fn write_psl(
     queries: &[u64],
     sizes: &[u64],
     buf: &mut [u8],
-) -> Writing
+) -> Result<usize, Refusal>
     ensures { PslWrote r query.now target.now targets.now queries.now
         sizes.now buf.old buf.new result }
 {
-    match check_write(r, query, target, targets, queries, sizes) {
-        Check::Refused(x) => Writing::Refused(x),
-        Check::Holds => write_text(r, query, target, targets, queries, sizes, buf),
-    }
+    check_write(r, query, target, targets, queries, sizes)?;
+    write_text(r, query, target, targets, queries, sizes, buf)
 }

@@ -6,7 +6,6 @@ use native.Mathlib.Omega.{arith}
 use lib.ListN.{length, take, get_or}
 use Rattle.ledger.specs.Limits.{text_limit, largest_position}
 use Rattle.text.specs.declared.Class.TheVariants.{Allowed}
-use Rattle.text.specs.declared.Check.TheVariants.{Holds}
 use Rattle.text.specs.Scan.{run}
 use Rattle.text.specs.Parts.{part_bytes}
 use Rattle.text.specs.Pieces.{lines_of, line_of, words_of}
@@ -16,7 +15,6 @@ use Rattle.text.proofs.PieceLaws.{Worded, line_joined, words_joined, word_bytes}
 use Rattle.writing.proofs.ListLaws.{list_values}
 use Rattle.blocks.proofs.TakeLaws.{fills_take}
 use Rattle.psl.specs.declared.Psl.{Psl}
-use Rattle.psl.specs.declared.PslAnswer.TheVariants.{Accepted}
 use Rattle.psl.specs.Columns as column
 use Rattle.psl.specs.Table.{psl_columns}
 use Rattle.psl.specs.Records.{psl_sizes, psl_queries, psl_targets}
@@ -28,6 +26,7 @@ use Rattle.psl_laws.proofs.LineLaws.{listed_sizes, listed_queries, listed_target
 use Rattle.psl_laws.proofs.BackWordLaws.{MayWrite, may_write, word_values, sizes_between, queries_between, targets_between, words_spell, words_worded}
 use Rattle.columns.proofs.Meant.{Meant, lists_in, meant_spells}
 use Rattle.columns.proofs.WordLaws.{part_bytes_lem}
+use Rattle.std.specs.Prelude.{Ok}
 
 -- what a record that may be written reads back as
 module _ (r : Psl) (qName tName ts qs zs : List ℕ) (ok : MayWrite r qName tName ts qs zs) where
@@ -115,14 +114,14 @@ module _ (r : Psl) (qName tName ts qs zs : List ℕ) (ok : MayWrite r qName tNam
       }
 
 -- THE ROUND TRIP: the writer's checks hold, and the text is short enough
-module _ (r : Psl) (qName tName ts qs zs : List ℕ) (ok : write_check r qName tName ts qs zs ≡ Holds) (short : length (psl_text r qName tName ts qs zs) ≤ text_limit) where
+module _ (r : Psl) (qName tName ts qs zs : List ℕ) (ok : write_check r qName tName ts qs zs ≡ (Ok tt)) (short : length (psl_text r qName tName ts qs zs) ≤ text_limit) where
   abbrev text : List ℕ
   text = psl_text r qName tName ts qs zs
 
   may : MayWrite r qName tName ts qs zs
   may = may_write r qName tName ts qs zs ok
 
-  pub back_check : psl_check text ≡ Accepted (placed text r)
+  pub back_check : psl_check text ≡ Ok (placed text r)
   back_check = line_is text (placed text r) _ _ _ _ _ (line_read r qName tName ts qs zs may short)
 
   pub back_query : part_bytes text (placed text r).query.name ≡ qName
@@ -141,6 +140,6 @@ module _ (r : Psl) (qName tName ts qs zs : List ℕ) (ok : write_check r qName t
   back_targets = targets_read r qName tName ts qs zs may
 
   -- and with room for its blocks the text is read
-  pub back_read : (room : ℕ) → r.blockCount ≤ room → psl_read text room ≡ Accepted (placed text r)
+  pub back_read : (room : ℕ) → r.blockCount ≤ room → psl_read text room ≡ Ok (placed text r)
   unfolding placed
   back_read room h = read_roomy text room (placed text r) back_check h

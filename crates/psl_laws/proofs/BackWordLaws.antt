@@ -11,7 +11,6 @@ use Rattle.ledger.specs.declared.Strand.TheVariants.{Plus, Minus, Dot}
 use Rattle.ledger.specs.Limits.{largest_position}
 use Rattle.ledger.specs.Strands.{strand_letter, is_told}
 use Rattle.text.specs.declared.Class.TheVariants.{Graphic}
-use Rattle.text.specs.declared.Check.TheVariants.{Holds}
 use Rattle.text.proofs.StageLaws.{require_holds}
 use Rattle.text.proofs.TextLaws.{All, both}
 use Rattle.text.proofs.PieceLaws.{Worded}
@@ -33,6 +32,7 @@ use Rattle.psl.specs.Write.{words_show, write_check, psl_words}
 use Rattle.psl_laws.proofs.RuleLaws.{rules_of}
 use Rattle.columns.specs.Names.{length_fits, all_graphic}
 use Rattle.columns.proofs.WordLaws.{all_graphic_lem, name_written, list_written, row_spells, row_worded, Row, row_none, row_more, and_i}
+use Rattle.std.specs.Prelude.{Ok}
 
 -- what the writer's checks show of a record, its names and its rows
 pub record MayWrite (r : Psl) (qName tName ts qs zs : List ℕ) : Type 0 where
@@ -45,7 +45,7 @@ pub record MayWrite (r : Psl) (qName tName ts qs zs : List ℕ) : Type 0 where
   pub sizes : all_between 1 largest_position (take r.blockCount zs) ≡ true
 
 -- THE WRITER'S CHECKS, ONE BY ONE
-pub may_write : (r : Psl) (qName tName ts qs zs : List ℕ) → write_check r qName tName ts qs zs ≡ Holds → MayWrite r qName tName ts qs zs
+pub may_write : (r : Psl) (qName tName ts qs zs : List ℕ) → write_check r qName tName ts qs zs ≡ (Ok tt) → MayWrite r qName tName ts qs zs
 unfolding write_check words_show psl_valid fields_fit row_numbers_fit spans_fit rows_fit
 may_write r qName tName ts qs zs e =
     let n = r.blockCount in

@@ -6,22 +6,17 @@ use Prim.Native.Nat.{ℕ, ◌-◌, ◌≤◌, ◌<◌}
 use native.Mathlib.Omega.{arith}
 use lib.ListN.{length, get_or}
 use Rattle.ledger.specs.Parts.{part_at}
-use Rattle.text.specs.declared.Stage.TheVariants.{Passes}
 use Rattle.text.specs.Checks.{then_check}
 use Rattle.text.specs.Words.{word_at, word_count, bytes_of}
 use Rattle.text.specs.Pieces.{line_of, words_of}
 use Rattle.text.proofs.TextLaws.{both}
 use Rattle.text.proofs.StageLaws.{require_passes, went}
 use Rattle.text.proofs.PieceLaws.{word_bytes}
-use Rattle.numbers.specs.declared.Spelt.TheVariants.{Means}
 use Rattle.numbers.specs.Ranges.{Between}
 use Rattle.kinds.specs.declared.Range.TheVariants.{Coordinate, Size}
 use Rattle.kinds.specs.declared.Kind.TheVariants.{Name}
 use Rattle.kinds.specs.Kinds.{least_of, most_of, spelt, is_strand}
 use Rattle.kinds.proofs.RangeLaws.{name_spelt, strand_spelt, items_spelt}
-use Rattle.columns.specs.declared.Columns.{Columns}
-use Rattle.columns.specs.declared.Columns.TheVariants.{Next}
-use Rattle.columns.specs.declared.Columns.TheVariants as columns
 use Rattle.columns.specs.Columns.{values_from, value_of, place_of, then_next}
 use Rattle.columns.specs.Spells.{firsts}
 use Rattle.columns.specs.Places.{kind_at, count_before}
@@ -38,9 +33,6 @@ use Rattle.blocks.proofs.RuleLaws.{fills_of, fills_is}
 use Rattle.psl.specs.declared.Counts.{Counts}
 use Rattle.psl.specs.declared.Side.{Side}
 use Rattle.psl.specs.declared.Psl.{Psl}
-use Rattle.psl.specs.declared.PslReading.{PslReading}
-use Rattle.psl.specs.declared.PslReading.TheVariants.{Read, Faulty}
-use Rattle.psl.specs.declared.PslAnswer.TheVariants.{Accepted}
 use Rattle.psl.specs.Columns as column
 use Rattle.psl.specs.Table.{psl_columns}
 use Rattle.psl.specs.Records.{counts_of, side_of, psl_record, psl_sizes, psl_queries, psl_targets}
@@ -53,6 +45,8 @@ use Rattle.psl_laws.proofs.CheckedLaws.{checked_of, checked_is}
 use Rattle.psl_laws.proofs.RuleLaws.{span_of, span_is, counts_of_lem, counts_is}
 use Rattle.columns.specs.Names.{part_of}
 use Rattle.columns.proofs.WordLaws.{word_length, strand_is_lem, letter_is, and_i}
+use Rattle.std.specs.Prelude.{Ok, Err, Result}
+use Rattle.ledger.specs.declared.Fault.{Fault}
 
 -- the values of a line: two numbers for each of its words
 abbrev pub line_values : List ℕ → List ℕ
@@ -61,48 +55,48 @@ line_values s = values_from psl_columns 0 s 0
 -- what the row of checks found of a line that is accepted with the record r
 pub record Accepts (s : List ℕ) (r : Psl) : Type 0 where
   pub end : ℕ
-  pub read : line_read psl_columns s ≡ Next end
+  pub read : line_read psl_columns s ≡ Ok end
   pub is : r ≡ psl_record (line_values s)
-  pub spans : span_check r (line_values s) ≡ Passes
-  pub rows : row_check s r ≡ Passes
+  pub spans : span_check r (line_values s) ≡ (Ok tt)
+  pub rows : row_check s r ≡ (Ok tt)
 
-record Went (c : Columns) (rest : PslReading) (r : Psl) : Type 0 where
+record Went (c : Result ℕ Fault) (rest : Result Psl Fault) (r : Psl) : Type 0 where
   end : ℕ
-  read : c ≡ Next end
-  on : rest ≡ Read r
+  read : c ≡ Ok end
+  on : rest ≡ Ok r
 
-next_went : (c : Columns) (rest : PslReading) (r : Psl) → then_next Faulty c rest ≡ Read r → Went c rest r
-next_went (Next n) rest r e = record { end = n; read = refl; on = e }
-next_went (columns.Faulty x) rest r e = absurd (read_apart r x e)
+next_went : (c : Result ℕ Fault) (rest : Result Psl Fault) (r : Psl) → then_next Err c rest ≡ Ok r → Went c rest r
+next_went (Ok n) rest r e = record { end = n; read = refl; on = e }
+next_went (Err x) rest r e = absurd (read_apart r x e)
 
 module _ (s : List ℕ) (r : Psl) where
-  pub accepts_of : psl_check s ≡ Accepted r → Accepts s r
+  pub accepts_of : psl_check s ≡ Ok r → Accepts s r
   unfolding psl_stages after_line
   accepts_of e =
       let vs = line_values s in
       let a = next_went (line_read psl_columns s) (after_line s vs) r (checked_of s r e) in
       let i = read_record s vs r a.on in
-      let b = went Faulty (span_check (psl_record vs) vs) (then_check Faulty (row_check s (psl_record vs)) (Read (psl_record vs))) (Read r) (read_apart r) a.on in
-      let c = went Faulty (row_check s (psl_record vs)) (Read (psl_record vs)) (Read r) (read_apart r) b.1 in
+      let b = went Err (span_check (psl_record vs) vs) (then_check Err (row_check s (psl_record vs)) (Ok (psl_record vs))) (Ok r) (read_apart r) a.on in
+      let c = went Err (row_check s (psl_record vs)) (Ok (psl_record vs)) (Ok r) (read_apart r) b.1 in
       record { end = a.end; read = a.read; is = sym i; spans = rw i at b.0; rows = rw i at c.0 }
 
-  stages_are : Accepts s r → psl_stages s ≡ Read r
+  stages_are : Accepts s r → psl_stages s ≡ Ok r
   unfolding psl_stages after_line
   stages_are a = rw (a.read, ← a.is, a.spans, a.rows)
 
-  accepts_is : Accepts s r → psl_check s ≡ Accepted r
+  accepts_is : Accepts s r → psl_check s ≡ Ok r
   accepts_is a = checked_is s r (stages_are a)
 
 -- the checks one by one
 module _ (r : Psl) (vs : List ℕ) where
-  spans_of : span_check r vs ≡ Passes → SpanIn r.query × SpanIn r.target
+  spans_of : span_check r vs ≡ (Ok tt) → SpanIn r.query × SpanIn r.target
   unfolding span_check
   spans_of e =
       let a = require_passes (span_fits r.query.start r.query.end r.query.size) _ _ e in
       let b = require_passes (span_fits r.target.start r.target.end r.target.size) _ _ a.1 in
       (span_of r.query a.0, span_of r.target b.0)
 
-  spans_is : SpanIn r.query → SpanIn r.target → span_check r vs ≡ Passes
+  spans_is : SpanIn r.query → SpanIn r.target → span_check r vs ≡ (Ok tt)
   unfolding span_check
   spans_is a b = rw (span_is r.query a, span_is r.target b)
 
@@ -113,7 +107,7 @@ record RowsHold (s : List ℕ) (r : Psl) : Type 0 where
   counts : CountRules r.counts (psl_targets s) (psl_queries s) (psl_sizes s)
 
 module _ (s : List ℕ) (r : Psl) (lt : length (psl_targets s) ≡ r.blockCount) (lq : length (psl_queries s) ≡ r.blockCount) (lz : length (psl_sizes s) ≡ r.blockCount) where
-  rows_of : row_check s r ≡ Passes → RowsHold s r
+  rows_of : row_check s r ≡ (Ok tt) → RowsHold s r
   unfolding row_check rows_fit
   rows_of e =
       let a = require_passes (rows_fit r (psl_targets s) (psl_queries s) (psl_sizes s)) _ _ e in
@@ -129,15 +123,15 @@ module _ (s : List ℕ) (r : Psl) (lt : length (psl_targets s) ≡ r.blockCount)
   unfolding rows_fit
   rows_fit_lem h = and_i _ _ (fills_is _ _ r.blockCount (psl_targets s) (psl_sizes s) lt lz h.targets) (fills_is _ _ r.blockCount (psl_queries s) (psl_sizes s) lq lz h.queries)
 
-  rows_is : RowsHold s r → row_check s r ≡ Passes
+  rows_is : RowsHold s r → row_check s r ≡ (Ok tt)
   unfolding row_check
   rows_is h = rw (rows_fit_lem h, counts_is r.counts (psl_targets s) (psl_queries s) (psl_sizes s) h.counts)
 
 -- the columns of a line that is read, by their numbers
-module _ (s : List ℕ) (e : ℕ) (found : line_read psl_columns s ≡ Next e) where
+module _ (s : List ℕ) (e : ℕ) (found : line_read psl_columns s ≡ Ok e) where
   module _ (k : ℕ) (h : k < column.count) where
     -- word k spells value k
-    pub value_spelt : spelt (kind_at psl_columns k) (count_before psl_columns 0 (firsts (line_values s)) 0 k) (bytes_of s (word_at s 0 k)) ≡ Means (value_of (line_values s) k)
+    pub value_spelt : spelt (kind_at psl_columns k) (count_before psl_columns 0 (firsts (line_values s)) 0 k) (bytes_of s (word_at s 0 k)) ≡ Ok (value_of (line_values s) k)
     unfolding psl_columns
     value_spelt =
         let f = line_found psl_columns s e found in
@@ -228,7 +222,7 @@ module _ (s : List ℕ) (count : word_count s 0 ≡ length psl_columns) where
   listed_targets = sym (list_word column.t_starts (omega arith))
 
 -- an accepted line is a PSL line that says its record
-module _ (s : List ℕ) (r : Psl) (ok : psl_check s ≡ Accepted r) where
+module _ (s : List ℕ) (r : Psl) (ok : psl_check s ≡ Ok r) where
   abbrev a : Accepts s r
   a = accepts_of s r ok
 
@@ -352,5 +346,5 @@ module _ (s : List ℕ) (r : Psl) (vs : List ℕ) (ls : List (List ℕ)) (ts qs 
         rows = rows_is s r lt lq lz rows_said;
       }
 
-pub line_is : (s : List ℕ) (r : Psl) (vs : List ℕ) (ls : List (List ℕ)) (ts qs zs : List ℕ) → PslLine s vs ls r ts qs zs → psl_check s ≡ Accepted r
+pub line_is : (s : List ℕ) (r : Psl) (vs : List ℕ) (ls : List (List ℕ)) (ts qs zs : List ℕ) → PslLine s vs ls r ts qs zs → psl_check s ≡ Ok r
 line_is s r vs ls ts qs zs line = accepts_is s r (line_accepts s r vs ls ts qs zs line)

@@ -12,7 +12,6 @@ use Rattle.ledger.specs.Limits.{name_limit, block_limit, largest_position}
 use Rattle.ledger.specs.Strands.{strand_letter}
 use Rattle.text.specs.Words.{word_at, bytes_of}
 use Rattle.text.specs.Pieces.{line_of, words_of}
-use Rattle.numbers.specs.declared.Spelt.TheVariants.{Means}
 use Rattle.kinds.specs.declared.Range.{Range}
 use Rattle.kinds.specs.declared.Range.TheVariants.{Coordinate, Size}
 use Rattle.kinds.specs.declared.Kind.TheVariants.{Name, Number}
@@ -25,7 +24,6 @@ use Rattle.columns.proofs.PlaceLaws.{value_first}
 use Rattle.columns.proofs.Meant.{lists_in}
 use Rattle.blocks.proofs.RuleLaws.{between_is, ranged_of}
 use Rattle.psl.specs.declared.Psl.{Psl}
-use Rattle.psl.specs.declared.PslAnswer.TheVariants.{Accepted}
 use Rattle.psl.specs.Columns as column
 use Rattle.psl.specs.Table.{psl_columns}
 use Rattle.psl.specs.Records.{psl_sizes, psl_queries, psl_targets}
@@ -36,8 +34,9 @@ use Rattle.psl_laws.proofs.RuleLaws.{rules_is}
 use Rattle.psl_laws.proofs.LineLaws.{line_values, Accepts, accepts_of, value_spelt, letter_told, sizes_are, queries_are, targets_are, accepted_targets, accepted_queries, accepted_sizes, line_of_lem}
 use Rattle.columns.specs.Names.{part_of}
 use Rattle.columns.proofs.WordLaws.{word_length}
+use Rattle.std.specs.Prelude.{Ok}
 
-module _ (s : List ℕ) (r : Psl) (ok : psl_check s ≡ Accepted r) where
+module _ (s : List ℕ) (r : Psl) (ok : psl_check s ≡ Ok r) where
   abbrev a : Accepts s r
   a = accepts_of s r ok
 
@@ -51,7 +50,7 @@ module _ (s : List ℕ) (r : Psl) (ok : psl_check s ≡ Accepted r) where
   before k = count_before psl_columns 0 vs 0 k
 
   -- the words' values in their ranges
-  value_says : (k : ℕ) → k < column.count → spelt (kind_at psl_columns k) (before k) (bytes_of s (word_at s 0 k)) ≡ Means (get_or vs k 0)
+  value_says : (k : ℕ) → k < column.count → spelt (kind_at psl_columns k) (before k) (bytes_of s (word_at s 0 k)) ≡ Ok (get_or vs k 0)
   value_says k h = rw (value_first (line_values s) k) (value_spelt s a.end a.read k h)
 
   number_at : (k : ℕ) (c : Range) → k < column.count → kind_at psl_columns k ≡ Number c → (least_of c ≤ get_or vs k 0) × (get_or vs k 0 ≤ most_of c)

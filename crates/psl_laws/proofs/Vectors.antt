@@ -7,14 +7,12 @@ use lib.ListN.{length}
 use Rattle.ledger.specs.declared.Strand.TheVariants.{Minus}
 use Rattle.ledger.specs.Limits.{text_limit}
 use Rattle.ledger.specs.Parts.{part_at}
-use Rattle.text.specs.declared.Check.TheVariants.{Holds}
 use Rattle.text.specs.Scan.{run, end_of}
 use Rattle.text.specs.Parts.{part_bytes}
 use Rattle.text.specs.Pieces.{joined}
 use Rattle.writing.specs.Digits.{digits_in, digits, list_text}
 use Rattle.blocks.specs.Blocks.{order_from, blocks_fill, sum_of, all_between, gaps_from, bases_from, gap_count, gap_bases, row_numbers_fit}
 use Rattle.psl.specs.declared.Psl.{Psl}
-use Rattle.psl.specs.declared.PslAnswer.TheVariants.{Accepted}
 use Rattle.psl.specs.Records.{psl_sizes, psl_queries, psl_targets}
 use Rattle.psl.specs.Read.{psl_read}
 use Rattle.psl.specs.Rows.{rows_fit, counts_fit}
@@ -22,6 +20,7 @@ use Rattle.psl.specs.Rules.{placed}
 use Rattle.psl.specs.Tests.{count_numbers_fit, fields_fit, spans_fit}
 use Rattle.psl.specs.Write.{words_show, write_check, psl_words, psl_text}
 use Rattle.psl_laws.proofs.BackLaws.{back_read, back_query, back_target, back_sizes, back_queries, back_targets}
+use Rattle.std.specs.Prelude.{Ok}
 
 -- the accepted PSL sample of 01
 abbrev sample : Psl
@@ -62,7 +61,7 @@ line =
     ∷ 49 ∷ 48 ∷ 44 ∷ 50 ∷ 51 ∷ 44 ∷ 51 ∷ 49 ∷ 44 ∷ 10 ∷ []
 
 -- it may be written
-pub sample_written : write_check sample q_b t_a targets queries sizes_lem ≡ Holds
+pub sample_written : write_check sample q_b t_a targets queries sizes_lem ≡ (Ok tt)
 unfolding write_check words_show count_numbers_fit fields_fit row_numbers_fit spans_fit rows_fit counts_fit end_of run order_from blocks_fill sum_of all_between gaps_from bases_from gap_count gap_bases
 sample_written = refl
 
@@ -75,7 +74,7 @@ sample_short : length (psl_text sample q_b t_a targets queries sizes_lem) ≤ te
 sample_short = rw sample_text (omega arith)
 
 -- which reads back
-pub sample_back : psl_read line 3 ≡ Accepted (placed line sample)
+pub sample_back : psl_read line 3 ≡ Ok (placed line sample)
 sample_back = rw sample_text at (back_read sample q_b t_a targets queries sizes_lem sample_written sample_short 3 (omega arith))
 
 pub sample_query : part_bytes line (placed line sample).query.name ≡ q_b

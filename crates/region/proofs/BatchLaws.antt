@@ -13,14 +13,11 @@ use Rattle.ledger.specs.declared.Row.{Row}
 use Rattle.ledger.specs.declared.Refusal.{Refusal}
 use Rattle.ledger.specs.declared.Reason.TheVariants.{BlockRules}
 use Rattle.ledger.specs.Reasons.{reason_number}
-use Rattle.text.specs.declared.Check.TheVariants.{Holds}
 use Rattle.blocks.specs.Rows.{table_of}
 use Rattle.chain.specs.declared.Chain.{Chain}
 use Rattle.lift.specs.Accepted.{accepted, Ready}
 use Rattle.region.specs.declared.Reach.{Reach}
 use Rattle.region.specs.declared.Region.{Region}
-use Rattle.region.specs.declared.RegionAnswer.{RegionAnswer}
-use Rattle.region.specs.declared.RegionAnswer.TheVariants.{Lifted, Refused}
 use Rattle.region.specs.declared.Tally.{Tally}
 use Rattle.region.specs.declared.Tallied.{Tallied}
 use Rattle.region.specs.declared.Batched.{Batched}
@@ -30,12 +27,13 @@ use Rattle.region.specs.Tallies.{tally_step, Sent, sent_through}
 use Rattle.region.specs.Steps.{step_ready, no_room, refused_rows, AnsweredAll}
 use Rattle.region.specs.Batches.{answer_row, step_of, answer_rows, sent_as, sent_if, sent_batch, batch_check, BatchDone}
 use Rattle.region.proofs.TallyLaws.{ready_step}
+use Rattle.std.specs.Prelude.{Ok, Err, Result}
 
 -- ---- the ways out of `answer_row`
-pub row_lifted : (x : RegionAnswer) (r : Region) → x ≡ Lifted r → 0 ∷ r.kept ∷ r.dropped ∷ r.start ∷ r.end ∷ [] ≡ answer_row x
+pub row_lifted : (x : Result Region Refusal) (r : Region) → x ≡ Ok r → 0 ∷ r.kept ∷ r.dropped ∷ r.start ∷ r.end ∷ [] ≡ answer_row x
 row_lifted x r e = rw e
 
-pub row_refused : (x : RegionAnswer) (r : Refusal) (n : ℕ) → x ≡ Refused r → n ≡ reason_number r.reason → n ∷ 0 ∷ 0 ∷ 0 ∷ 0 ∷ [] ≡ answer_row x
+pub row_refused : (x : Result Region Refusal) (r : Refusal) (n : ℕ) → x ≡ Err r → n ≡ reason_number r.reason → n ∷ 0 ∷ 0 ∷ 0 ∷ 0 ∷ [] ≡ answer_row x
 row_refused x r n e k = rw (e, k)
 
 -- ---- rows stored one after the other
@@ -89,7 +87,7 @@ all_answered c rows regions before after t u i h k f g =
 pub refused_first : (out : List (List ℕ)) (n : ℕ) → take 0 out ++ (refused_rows (n - 0) ++ drop n out) ≡ refused_rows n ++ drop n out
 refused_first out n = let m : n - 0 ≡ n = omega arith in rw m
 
-pub refused_row : (x : RegionAnswer) (row : List ℕ) → x ≡ not_lifted BlockRules → row ≡ answer_row x → row ≡ answer_row (not_lifted BlockRules)
+pub refused_row : (x : Result Region Refusal) (row : List ℕ) → x ≡ not_lifted BlockRules → row ≡ answer_row x → row ≡ answer_row (not_lifted BlockRules)
 refused_row x row e k = k ∙ ap answer_row e
 
 pub refused_next : (out goal : List (List ℕ)) (n i : ℕ) (row : List ℕ) → i < n → n ≤ length out → row ≡ answer_row (not_lifted BlockRules)
@@ -111,7 +109,7 @@ module _ (t : Tally) (c : Chain) (rows : List Row) (regions before : List (List 
       let e = lt-leb (length regions) (length before) h in
       record { check = rw e (ap (λ (x : Batched). x.check) k); tally = rw e (ap (λ (x : Batched). x.tally) k); answers = rw e }
 
-  module _ (h : length regions ≤ length before) (after : List (List ℕ)) (r : Batched) (k : r.check ≡ Holds) where
+  module _ (h : length regions ≤ length before) (after : List (List ℕ)) (r : Batched) (k : r.check ≡ (Ok tt)) where
     pub batch_answered : (u : Tally) → AnsweredAll t c rows regions before after u → r.tally ≡ u → BatchDone t c rows regions before after r
     unfolding batch_check sent_batch
     batch_answered u a l =

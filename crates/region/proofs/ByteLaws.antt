@@ -13,7 +13,6 @@ use Rattle.ledger.specs.Limits.{largest_place, block_limit}
 use Rattle.ledger.specs.declared.Row.{Row}
 use Rattle.ledger.specs.declared.Refusal.{Refusal}
 use Rattle.ledger.specs.declared.Reason.TheVariants.{NoRoom}
-use Rattle.text.specs.declared.Check.TheVariants as check
 use Rattle.ledger.specs.Refusals.{require}
 use Rattle.text.specs.Checks.{refused}
 use Rattle.blocks.proofs.RuleLaws.{both}
@@ -23,16 +22,12 @@ use Rattle.binary.specs.Bytes.{word_size, words_bytes, low_at}
 use Rattle.binary.proofs.BackLaws.{words_length}
 use Rattle.blocks.specs.Rows.{table_of}
 use Rattle.chain.specs.declared.Chain.{Chain}
-use Rattle.chain.specs.declared.ChainAnswer.{ChainAnswer}
-use Rattle.chain.specs.declared.ChainAnswer.TheVariants as chain
 use Rattle.chain.specs.Records.{chain_rows}
 use Rattle.chain.specs.Read.{chain_check, InRoom}
 use Rattle.lift.specs.Accepted.{Ready}
 use Rattle.lift.specs.Texts.{of_checked, ChainHeld}
 use Rattle.lift.proofs.TextLaws.{rows_are}
 use Rattle.region.specs.declared.Reach.{Reach}
-use Rattle.region.specs.declared.RegionAnswer.{RegionAnswer}
-use Rattle.region.specs.declared.RegionAnswer.TheVariants.{Lifted, Refused}
 use Rattle.region.specs.declared.Tally.{Tally}
 use Rattle.region.specs.declared.Tallied.{Tallied}
 use Rattle.region.specs.declared.Batched.{Batched}
@@ -41,6 +36,8 @@ use Rattle.region.specs.Reaches.{Found}
 use Rattle.region.specs.Steps.{step_ready, no_room, RowsPut}
 use Rattle.region.specs.Batches.{answer_row, step_of, answer_rows, sent_as, sent_if, region_size, row_size, regions_from, regions_in, rows_bytes, room_in_bytes, sent_bytes, sent_text, text_batch_check, TextBatch}
 use Rattle.region.proofs.TallyLaws.{ready_step}
+use Rattle.std.specs.Prelude.{Ok, Err, Result}
+use Rattle.region.specs.declared.Region.{Region}
 
 minus_none : (m : ℕ) → m - 0 ≡ m
 minus_none m = omega arith
@@ -52,9 +49,9 @@ module _ (c : Chain) (rows : List Row) (s : List ℕ) (m : ℕ) (t : Tally) wher
   pub put_first : (b : List ℕ) → Completes (rows_bytes (answer_rows t (map (sent_as c rows) (regions_from (m - 0) s 0)))) 0 b (rows_bytes (answer_rows t (map (sent_as c rows) (regions_from m s 0)))) 0 b
   put_first b = rw (minus_none m) (completes_all (rows_bytes (answer_rows t (map (sent_as c rows) (regions_from m s 0)))) 0 b)
 
-row_length : (x : RegionAnswer) → length (words_bytes (answer_row x)) ≡ row_size
-row_length (Lifted x) = words_length (answer_row (Lifted x))
-row_length (Refused x) = words_length (answer_row (Refused x))
+row_length : (x : Result Region Refusal) → length (words_bytes (answer_row x)) ≡ row_size
+row_length (Ok x) = words_length (answer_row (Ok x))
+row_length (Err x) = words_length (answer_row (Err x))
 
 -- ---- a region and a row, each a part of the bytes
 low_part : (k n a j : ℕ) (s : List ℕ) → j + k ≤ n → low_at k (take n (drop a s)) j ≡ low_at k s (a + j)
@@ -98,7 +95,7 @@ region_there i n h = omega arith
 pub row_there : (i m : ℕ) (b b₀ : List ℕ) → i < m → row_size * m ≤ length b₀ → length b ≡ length b₀ → row_size * i + row_size ≤ length b
 row_there i m b b₀ h k e = omega arith
 
-pub row_put : (b b₁ row : List ℕ) (x : RegionAnswer) (i : ℕ) → row ≡ answer_row x → row_size * i + row_size ≤ length b → length b ≤ largest_place → b₁ ≡ sets b (row_size * i) (words_bytes row)
+pub row_put : (b b₁ row : List ℕ) (x : Result Region Refusal) (i : ℕ) → row ≡ answer_row x → row_size * i + row_size ≤ length b → length b ≤ largest_place → b₁ ≡ sets b (row_size * i) (words_bytes row)
     → Put (words_bytes row) (row_size * i) b b₁ (row_size * (i + 1))
 row_put b b₁ row x i e h l k =
     let n : length (words_bytes row) ≡ row_size = ap (λ (r : List ℕ). length (words_bytes r)) e ∙ row_length x in
@@ -180,19 +177,19 @@ module _ (s : List ℕ) (t : Tally) (regions before : List ℕ) (fits : Bool) (i
       let z : sent_text s regions (length before) ≡ [] = none (chain_check s) e in
       record { check = rw e (ap (λ (x : Batched). x.check) k); tally = rw z (ap (λ (x : Batched). x.tally) k); answers = rw z }
     where
-      none : (x : ChainAnswer) → room_in_bytes regions (length before) ≡ false → of_checked {A = List Sent} (λ _. []) (λ c. sent_bytes c (chain_rows s c) regions (length before)) x ≡ []
-      none (chain.Accepted c) e = rw e
-      none (chain.Refused y) e = refl
+      none : (x : Result Chain Refusal) → room_in_bytes regions (length before) ≡ false → of_checked {A = List Sent} (λ _. []) (λ c. sent_bytes c (chain_rows s c) regions (length before)) x ≡ []
+      none (Ok c) e = rw e
+      none (Err y) e = refl
 
-  module _ (h : not fits ≡ false) (room room' : List ℕ) (x : ChainAnswer) (read : InRoom s room room' x) where
+  module _ (h : not fits ≡ false) (room room' : List ℕ) (x : Result Chain Refusal) (read : InRoom s room room' x) where
     has_room : room_in_bytes regions (length before) ≡ true
     has_room = sym is ∙ not-false fits h
 
-    pub text_refused : (y : Refusal) → x ≡ chain.Refused y → TextBatch s t regions before before (record { tally = t; check = check.Refused y })
+    pub text_refused : (y : Refusal) → x ≡ Err y → TextBatch s t regions before before (record { tally = t; check = Err y })
     unfolding sent_text text_batch_check sent_through answer_rows rows_bytes
     text_refused y q = let e = sym read.is ∙ q in record { check = rw (has_room, e); tally = rw e; answers = rw e }
 
-    module _ (c : Chain) (q : x ≡ chain.Accepted c) where
+    module _ (c : Chain) (q : x ≡ Ok c) where
       sent_all : sent_text s regions (length before) ≡ map (sent_as c (chain_rows s c)) (regions_in regions)
       unfolding sent_text sent_bytes
       sent_all = rw (sym read.is ∙ q, has_room)
@@ -206,7 +203,7 @@ module _ (s : List ℕ) (t : Tally) (regions before : List ℕ) (fits : Bool) (i
           let v = regions_length (length regions / region_size) regions 0 in
           omega arith
 
-      pub text_answered : (after : List ℕ) (u : Tally) (r : Batched) → RowsPut t c (chain_rows s c) regions before after u → r.tally ≡ u → r.check ≡ check.Holds → TextBatch s t regions before after r
+      pub text_answered : (after : List ℕ) (u : Tally) (r : Batched) → RowsPut t c (chain_rows s c) regions before after u → r.tally ≡ u → r.check ≡ (Ok tt) → TextBatch s t regions before after r
       unfolding text_batch_check
       text_answered after u r a l k =
           let z : 0 + length (rows_bytes (answer_rows t (map (sent_as c (chain_rows s c)) (regions_in regions)))) ≡ length (rows_bytes (answer_rows t (map (sent_as c (chain_rows s c)) (regions_in regions)))) = omega arith in
@@ -214,13 +211,13 @@ module _ (s : List ℕ) (t : Tally) (regions before : List ℕ) (fits : Bool) (i
           record { check = rw (has_room, sym read.is ∙ q) k; tally = rw sent_all (l ∙ a.tally); answers = rw sent_all (a.stored ∙ (rw z at w)) }
 
 -- a batch that is refused sends nothing
-pub refused_none : (s regions : List ℕ) (room : ℕ) (x : Refusal) → text_batch_check s regions room ≡ check.Refused x → sent_text s regions room ≡ []
+pub refused_none : (s regions : List ℕ) (room : ℕ) (x : Refusal) → text_batch_check s regions room ≡ Err x → sent_text s regions room ≡ []
 unfolding text_batch_check sent_text sent_bytes
 refused_none s regions room x = go (room_in_bytes regions room) (chain_check s)
   where
-    go : (v : Bool) (y : ChainAnswer) → require v (refused NoRoom) (of_checked check.Refused (λ _. check.Holds) y) ≡ check.Refused x
+    go : (v : Bool) (y : Result Chain Refusal) → require v (refused NoRoom) (of_checked Err (λ _. (Ok tt)) y) ≡ Err x
         → of_checked {A = List Sent} (λ _. []) (λ c. sent_if v (map (sent_as c (chain_rows s c)) (regions_in regions))) y ≡ []
-    go true (chain.Accepted c) e = absurd (let z : ◌≡◌ {A = ℕ} 0 1 = cc in omega arith)
-    go true (chain.Refused y) e = refl
-    go false (chain.Accepted c) e = refl
-    go false (chain.Refused y) e = refl
+    go true (Ok c) e = absurd (let z : ◌≡◌ {A = ℕ} 0 1 = cc in omega arith)
+    go true (Err y) e = refl
+    go false (Ok c) e = refl
+    go false (Err y) e = refl

@@ -8,26 +8,25 @@ use lib.Dec.{leb, ltb}
 use borrow.Author.Tests.{lt-leb, le-leb, lt-ltb, le-ltb}
 use Rattle.ledger.specs.declared.Refusal.{Refusal}
 use Rattle.ledger.specs.Refusals.{without_text}
-use Rattle.text.specs.declared.Check.TheVariants as check
 use Rattle.region.specs.declared.Tally.{Tally}
 use Rattle.region.specs.Steps.{no_room}
 use Rattle.ledger.specs.declared.Reason.TheVariants.{NoRoom, NoPair}
 use Rattle.lift.specs.Pairs.{Pair, block_pairs}
 use Rattle.lift.proofs.RunLaws.{either}
 use Rattle.region.specs.declared.Reach.{Reach}
-use Rattle.region.specs.declared.RegionAnswer.{RegionAnswer}
-use Rattle.region.specs.declared.RegionAnswer.TheVariants.{Lifted}
 use Rattle.region.specs.Regions.{cons_if, partners_in, not_lifted}
 use Rattle.region.specs.Reaches.{lap, answer_of}
+use Rattle.std.specs.Prelude.{Ok, Err, Result}
+use Rattle.region.specs.declared.Region.{Region}
 
 -- ---- the answer
-pub room_none : (t : Tally) (x : Refusal) → x ≡ without_text NoRoom → record { tally = t; check = check.Refused x } ≡ no_room t
+pub room_none : (t : Tally) (x : Refusal) → x ≡ without_text NoRoom → record { tally = t; check = Err x } ≡ no_room t
 room_none t x e = rw e
 
-pub answer_none : (r : Reach) (len : ℕ) (g : RegionAnswer) → r.kept ≡ 0 → g ≡ not_lifted NoPair → g ≡ answer_of r len
+pub answer_none : (r : Reach) (len : ℕ) (g : Result Region Refusal) → r.kept ≡ 0 → g ≡ not_lifted NoPair → g ≡ answer_of r len
 answer_none r len g h e = rw (lt-leb 1 r.kept (omega arith)) e
 
-pub answer_some : (r : Reach) (len : ℕ) → (r.kept ≡ 0 → ⊥) → Lifted (record { kept = r.kept; dropped = len - r.kept; start = r.low; end = r.high }) ≡ answer_of r len
+pub answer_some : (r : Reach) (len : ℕ) → (r.kept ≡ 0 → ⊥) → Ok (record { kept = r.kept; dropped = len - r.kept; start = r.low; end = r.high }) ≡ answer_of r len
 answer_some r len h = let l : 1 ≤ r.kept = omega arith in rw (le-leb 1 r.kept l)
 
 -- ---- a block's partners in a region

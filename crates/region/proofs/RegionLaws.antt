@@ -21,12 +21,12 @@ use Rattle.lift.proofs.AcceptLaws.{accepted_rules}
 use Rattle.lift.proofs.PositionLaws.{pair_inside}
 use Rattle.region.specs.declared.Reach.{Reach}
 use Rattle.region.specs.declared.Region.{Region}
-use Rattle.region.specs.declared.RegionAnswer.{RegionAnswer}
-use Rattle.region.specs.declared.RegionAnswer.TheVariants.{Lifted}
 use Rattle.region.specs.Regions.{kept, dropped, cons_if, partners_in, least, bound, not_lifted, inside, carried, lift_region}
 use Rattle.region.specs.Reaches.{lap, covered, Found, answer_of}
 use Rattle.region.proofs.CountLaws.{kept_covered, kept_dropped}
 use Rattle.region.proofs.ReachLaws.{bases_from, clip, partners_append}
+use Rattle.std.specs.Prelude.{Ok, Result}
+use Rattle.ledger.specs.declared.Refusal.{Refusal}
 
 -- the partners in a region are those of its bases, and all of them
 pub partner_in : (a e : ℕ) (ps : List Pair) (p q : ℕ) → Memᴰ (pair p q) ps → a ≤ p → p < e → Memᴰ q (partners_in a e ps)
@@ -146,12 +146,12 @@ pub record RegionLift (c : Chain) (rows : List Row) (a e : ℕ) (r : Region) : T
   pub is_end : r.end ≡ bound 0 (partners_in a e (pairs c rows))
 
 -- a region that lifts: the chain is accepted, the region lies inside its target, and some base of it is kept
-pub region_lifted_lem : (c : Chain) (rows : List Row) (a e : ℕ) (r : Region) → lift_region c rows a e ≡ Lifted r → RegionLift c rows a e r
+pub region_lifted_lem : (c : Chain) (rows : List Row) (a e : ℕ) (r : Region) → lift_region c rows a e ≡ Ok r → RegionLift c rows a e r
 unfolding lift_region inside carried
 region_lifted_lem c rows a e r h = go (accepted c rows) (ltb a e) (leb e c.tSize) (leb 1 (kept (pairs c rows) a e)) refl refl refl refl h
   where
     go : (x y z w : Bool) → accepted c rows ≡ x → ltb a e ≡ y → leb e c.tSize ≡ z → leb 1 (kept (pairs c rows) a e) ≡ w
-        → require x (not_lifted BlockRules) (require (y && z) (not_lifted OutsideTarget) (require w (not_lifted NoPair) (Lifted (region_of c.qSize (pairs c rows) a e)))) ≡ Lifted r → RegionLift c rows a e r
+        → require x (not_lifted BlockRules) (require (y && z) (not_lifted OutsideTarget) (require w (not_lifted NoPair) (Ok (region_of c.qSize (pairs c rows) a e)))) ≡ Ok r → RegionLift c rows a e r
     go false y z w ex ey ez ew k = absurd (let d : ◌≡◌ {A = ℕ} 0 1 = cc in omega arith)
     go true false z w ex ey ez ew k = absurd (let d : ◌≡◌ {A = ℕ} 0 1 = cc in omega arith)
     go true true false w ex ey ez ew k = absurd (let d : ◌≡◌ {A = ℕ} 0 1 = cc in omega arith)
@@ -171,7 +171,7 @@ region_lifted_lem c rows a e r h = go (accepted c rows) (ltb a e) (leb e c.tSize
           is_end = sym (ap (λ (x : Region). x.end) d);
         }
 
-module _ (c : Chain) (rows : List Row) (a e : ℕ) (r : Region) (h : lift_region c rows a e ≡ Lifted r) where
+module _ (c : Chain) (rows : List Row) (a e : ℕ) (r : Region) (h : lift_region c rows a e ≡ Ok r) where
   told : RegionLift c rows a e r
   told = region_lifted_lem c rows a e r h
 
@@ -218,25 +218,25 @@ refused_exactly c rows ok a e h k = (λ r. none (rw (ok, lt-ltb a e h, le-leb e 
     l : a ≤ e
     l = omega arith
 
-    none : require (leb 1 (kept (pairs c rows) a e)) (not_lifted NoPair) (Lifted (region_of c.qSize (pairs c rows) a e)) ≡ not_lifted NoPair → (p q : ℕ) → a ≤ p → p < e → Memᴰ (pair p q) (pairs c rows) → ⊥
+    none : require (leb 1 (kept (pairs c rows) a e)) (not_lifted NoPair) (Ok (region_of c.qSize (pairs c rows) a e)) ≡ not_lifted NoPair → (p q : ℕ) → a ≤ p → p < e → Memᴰ (pair p q) (pairs c rows) → ⊥
     none r p q i j m =
         let n = has_member _ q (partner_in a e (pairs c rows) p q m i j) in
         let some : 1 ≤ kept (pairs c rows) a e = omega (arith, kept_partners c rows ok a e l) in
-        let d : Lifted (region_of c.qSize (pairs c rows) a e) ≡ not_lifted NoPair = rw (le-leb 1 (kept (pairs c rows) a e) some) at r in
+        let d : Ok (region_of c.qSize (pairs c rows) a e) ≡ not_lifted NoPair = rw (le-leb 1 (kept (pairs c rows) a e) some) at r in
         let z : ◌≡◌ {A = ℕ} 0 1 = cc in omega arith
 
-    refused : ((p q : ℕ) → a ≤ p → p < e → Memᴰ (pair p q) (pairs c rows) → ⊥) → require (leb 1 (kept (pairs c rows) a e)) (not_lifted NoPair) (Lifted (region_of c.qSize (pairs c rows) a e)) ≡ not_lifted NoPair
+    refused : ((p q : ℕ) → a ≤ p → p < e → Memᴰ (pair p q) (pairs c rows) → ⊥) → require (leb 1 (kept (pairs c rows) a e)) (not_lifted NoPair) (Ok (region_of c.qSize (pairs c rows) a e)) ≡ not_lifted NoPair
     refused f =
         let n = no_member (partners_in a e (pairs c rows)) (λ q m. let v = in_partner a e (pairs c rows) q m in f v.base q v.first v.below v.in_pairs) in
         let z : kept (pairs c rows) a e < 1 = omega (arith, kept_partners c rows ok a e l) in
         rw (lt-leb 1 (kept (pairs c rows) a e) z)
 
 -- ---- the ways out of `lift_region`: the test fails, or the rows are ready
-pub region_not_accepted : (c : Chain) (rows : List Row) (a e : ℕ) (u : Bool) (r : RegionAnswer) → u ≡ accepted c rows → not u ≡ true → r ≡ not_lifted BlockRules → r ≡ lift_region c rows a e
+pub region_not_accepted : (c : Chain) (rows : List Row) (a e : ℕ) (u : Bool) (r : Result Region Refusal) → u ≡ accepted c rows → not u ≡ true → r ≡ not_lifted BlockRules → r ≡ lift_region c rows a e
 unfolding lift_region
 region_not_accepted c rows a e u r ok h k = rw (← ok, not-true u h) k
 
-module _ (c : Chain) (ts qs zs : List ℕ) (is : Ready c ts qs zs) (a e : ℕ) (u : Bool) (out : u ≡ not (ltb a e && leb e c.tSize)) (r : RegionAnswer) where
+module _ (c : Chain) (ts qs zs : List ℕ) (is : Ready c ts qs zs) (a e : ℕ) (u : Bool) (out : u ≡ not (ltb a e && leb e c.tSize)) (r : Result Region Refusal) where
   pub region_outside : u ≡ true → r ≡ not_lifted OutsideTarget → r ≡ lift_region c (table_of ts qs zs) a e
   unfolding lift_region inside
   region_outside h k = rw (is.ok, not-true (ltb a e && leb e c.tSize) (sym out ∙ h)) k

@@ -17,7 +17,6 @@ use Rattle.ledger.specs.declared.Row.{Row}
 use Rattle.blocks.specs.Rows.{table_of, target_end, query_end, no_row, row_at}
 use Rattle.blocks.proofs.TableLaws.{taken, taken_length, taken_at}
 use Rattle.chain.specs.declared.Chain.{Chain}
-use Rattle.lift.specs.declared.Partner.TheVariants.{Base}
 use Rattle.lift.specs.Accepted.{Ready}
 use Rattle.lift.specs.Pairs.{Pair, pair, forward_on, forward, block_pairs, pairs_of, pairs, partner_of}
 use Rattle.lift.proofs.RunLaws.{either, Run}
@@ -29,6 +28,7 @@ use Rattle.region.specs.Reaches.{lap, covered, Reached, no_reach, Found}
 use Rattle.region.specs.Searches.{Rising, LastBelow, BlockPast, Meets, sizes_before, SizesFrom, Summable, Summed, Layable, Laid, Indexed}
 use Rattle.region.proofs.CountLaws.{kept_covered, kept_dropped}
 use Rattle.region.proofs.RegionLaws.{partner_in, in_partner, least_holds, least_greatest, bound_holds, bound_least, no_member, kept_partners}
+use Rattle.std.specs.Prelude.{Some}
 
 -- ---- a run of blocks, by their numbers
 run_above : (te qe u v : ℕ) (bs : List Row) → Run te qe u v bs → (l : ℕ) → l < length bs → (u ≤ (get_or bs l no_row).target) × (v ≤ (get_or bs l no_row).query)
@@ -68,7 +68,7 @@ mem_row f (b ∷ bs) x m = ⊎_elim
 
 -- a base of a block stands in a pair
 row_pair : (f : ℕ → ℕ) (te qe u v : ℕ) (bs : List Row) → Run te qe u v bs → (k p : ℕ) → k < length bs → (get_or bs k no_row).target ≤ p → p < target_end (get_or bs k no_row)
-    → partner_of p (pairs_of f bs) ≡ Base (f ((get_or bs k no_row).query + (p - (get_or bs k no_row).target)))
+    → partner_of p (pairs_of f bs) ≡ Some (f ((get_or bs k no_row).query + (p - (get_or bs k no_row).target)))
 unfolding pairs_of
 row_pair f te qe u v [] r k p h l m = absurd (omega arith)
 row_pair f te qe u v (x ∷ xs) r zero p h l m = block_in f p x.target x.query x.size (pairs_of f xs) l m
@@ -427,7 +427,7 @@ module _ (c : Chain) (t q z : List ℕ) (ok : Ready c t q z) where
           let lo : (get_or (taken c.blockCount t q z) j no_row).target ≤ get_or t j 0 + (to - 1) = rw (at j n) (omega arith) in
           let hi : get_or t j 0 + (to - 1) < target_end (get_or (taken c.blockCount t q z) j no_row) = rw (at j n) (omega (arith, to_in)) in
           let w = row_pair (forward c) c.tEnd c.qEnd c.tStart c.qStart (taken c.blockCount t q z) run j (get_or t j 0 + (to - 1)) last_in lo hi in
-          let y : partner_of (get_or t j 0 + (to - 1)) (pairs_of (forward c) (taken c.blockCount t q z)) ≡ Base (forward c (get_or q j 0 + (get_or t j 0 + (to - 1) - get_or t j 0))) = rw (at j n) at w in
+          let y : partner_of (get_or t j 0 + (to - 1)) (pairs_of (forward c) (taken c.blockCount t q z)) ≡ Some (forward c (get_or q j 0 + (get_or t j 0 + (to - 1) - get_or t j 0))) = rw (at j n) at w in
           let v = partner_in a e (pairs_of (forward c) (taken c.blockCount t q z)) (get_or t j 0 + (to - 1)) _ (found_mem (get_or t j 0 + (to - 1)) _ _ y) (omega (arith, from_end, from_in, to_in)) (omega (arith, to_in, m.last)) in
           rw d at v
 

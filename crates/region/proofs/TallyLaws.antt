@@ -19,11 +19,7 @@ use Rattle.chain.specs.declared.Chain.{Chain}
 use Rattle.lift.specs.Accepted.{accepted}
 use Rattle.lift.specs.Pairs.{Pair, pairs}
 use Rattle.lift.proofs.RunLaws.{and_i}
-use Rattle.region.specs.declared.Admission.{Admission}
-use Rattle.region.specs.declared.Admission.TheVariants as adm
 use Rattle.region.specs.declared.Reach.{Reach}
-use Rattle.region.specs.declared.RegionAnswer.{RegionAnswer}
-use Rattle.region.specs.declared.RegionAnswer.TheVariants.{Lifted, Refused}
 use Rattle.region.specs.declared.Tally.{Tally}
 use Rattle.region.specs.declared.Tallied.{Tallied}
 use Rattle.region.specs.Regions.{kept, dropped, not_lifted, inside, carried, lift_region}
@@ -32,6 +28,8 @@ use Rattle.region.specs.Tallies.{good_tally, grown, not_tallied, tally_step, Sen
 use Rattle.region.specs.Steps.{if_admitted, admission, Growable, grown_by, of_admission, step_ready}
 use Rattle.region.proofs.CountLaws.{kept_dropped}
 use Rattle.region.proofs.RegionLaws.{region_of}
+use Rattle.std.specs.Prelude.{Ok, Err, Result, ⊤}
+use Rattle.region.specs.declared.Region.{Region}
 
 -- a good tally, as facts
 pub record Good (t : Tally) : Type 0 where
@@ -127,11 +125,11 @@ batch rs = sent_added rs zero_tally zero_good
     })
 
 -- ---- what a refusal does to a tally, good or bad
-carried_refused : (size : ℕ) (ps : List Pair) (a e : ℕ) (x : Refusal) → carried size ps a e ≡ Refused x → (x.reason ≡ NoPair) × (kept ps a e ≡ 0)
+carried_refused : (size : ℕ) (ps : List Pair) (a e : ℕ) (x : Refusal) → carried size ps a e ≡ Err x → (x.reason ≡ NoPair) × (kept ps a e ≡ 0)
 unfolding carried
 carried_refused size ps a e x h = go (leb 1 (kept ps a e)) refl h
   where
-    go : (b : Bool) → leb 1 (kept ps a e) ≡ b → require b (not_lifted NoPair) (Lifted (region_of size ps a e)) ≡ Refused x → (x.reason ≡ NoPair) × (kept ps a e ≡ 0)
+    go : (b : Bool) → leb 1 (kept ps a e) ≡ b → require b (not_lifted NoPair) (Ok (region_of size ps a e)) ≡ Err x → (x.reason ≡ NoPair) × (kept ps a e ≡ 0)
     go true k l = absurd (let z : ◌≡◌ {A = ℕ} 0 1 = cc in omega arith)
     go false k l =
         let d : ◌≡◌ {A = Refusal} (record { reason = NoPair; place = 0 }) x = cc in
@@ -139,17 +137,17 @@ carried_refused size ps a e x h = go (leb 1 (kept ps a e)) refl h
 
 -- one test of the step
 module _ (x : Refusal) (t : Tally) where
-  left_if : (b : Bool) (why : Reason) (rest : Tallied) → (rest.answer ≡ Refused x → rest.tally ≡ t) → (require b (not_tallied t why) rest).answer ≡ Refused x → (require b (not_tallied t why) rest).tally ≡ t
+  left_if : (b : Bool) (why : Reason) (rest : Tallied) → (rest.answer ≡ Err x → rest.tally ≡ t) → (require b (not_tallied t why) rest).answer ≡ Err x → (require b (not_tallied t why) rest).tally ≡ t
   left_if true why rest f = f
   left_if false why rest f = λ h. refl
 
-  grown_if : (u : Tally) (b : Bool) (why : Reason) (rest : Tallied) → x.reason ≡ NoPair → (reason_number why ≡ 12 → ⊥) → (rest.answer ≡ Refused x → rest.tally ≡ u)
-      → (require b (not_tallied t why) rest).answer ≡ Refused x → (require b (not_tallied t why) rest).tally ≡ u
+  grown_if : (u : Tally) (b : Bool) (why : Reason) (rest : Tallied) → x.reason ≡ NoPair → (reason_number why ≡ 12 → ⊥) → (rest.answer ≡ Err x → rest.tally ≡ u)
+      → (require b (not_tallied t why) rest).answer ≡ Err x → (require b (not_tallied t why) rest).tally ≡ u
   grown_if u true why rest k n f = f
   grown_if u false why rest k n f = λ h. absurd (n (let d : ◌≡◌ {A = Refusal} (record { reason = why; place = 0 }) x = cc in ap reason_number (ap (λ (z : Refusal). z.reason) d ∙ k)))
 
 -- a refusal other than 12 leaves the tally
-pub refused_leaves : (t : Tally) (c : Chain) (rows : List Row) (a e : ℕ) (x : Refusal) → (tally_step t c rows a e).answer ≡ Refused x → (x.reason ≡ NoPair → ⊥)
+pub refused_leaves : (t : Tally) (c : Chain) (rows : List Row) (a e : ℕ) (x : Refusal) → (tally_step t c rows a e).answer ≡ Err x → (x.reason ≡ NoPair → ⊥)
     → (tally_step t c rows a e).tally ≡ t
 unfolding tally_step
 refused_leaves t c rows a e x h n =
@@ -159,7 +157,7 @@ refused_leaves t c rows a e x h n =
     (left_if x t (leb (t.asked + (e - a)) tally_limit) NumberOutOfRange _ (λ k. absurd (n (carried_refused c.qSize (pairs c rows) a e x k).0))))) h
 
 -- a region refused by 12 adds its length to asked and dropped
-pub refused_adds : (t : Tally) (c : Chain) (rows : List Row) (a e : ℕ) (x : Refusal) → (tally_step t c rows a e).answer ≡ Refused x → x.reason ≡ NoPair
+pub refused_adds : (t : Tally) (c : Chain) (rows : List Row) (a e : ℕ) (x : Refusal) → (tally_step t c rows a e).answer ≡ Err x → x.reason ≡ NoPair
     → (tally_step t c rows a e).tally ≡ grown t (e - a) 0 (e - a)
 unfolding tally_step
 refused_adds t c rows a e x h n =
@@ -168,7 +166,7 @@ refused_adds t c rows a e x h n =
     (grown_if x t _ (good_tally t) CountsDisagree _ n (λ d. omega arith)
     (grown_if x t _ (leb (t.asked + (e - a)) tally_limit) NumberOutOfRange _ n (λ d. omega arith) last))) h
   where
-    last : carried c.qSize (pairs c rows) a e ≡ Refused x → grown t (e - a) (kept (pairs c rows) a e) (dropped (pairs c rows) a e) ≡ grown t (e - a) 0 (e - a)
+    last : carried c.qSize (pairs c rows) a e ≡ Err x → grown t (e - a) (kept (pairs c rows) a e) (dropped (pairs c rows) a e) ≡ grown t (e - a) 0 (e - a)
     last k =
         let z = (carried_refused c.qSize (pairs c rows) a e x k).1 in
         let d : dropped (pairs c rows) a e ≡ e - a = omega (arith, kept_dropped (pairs c rows) a e) in
@@ -213,46 +211,46 @@ module _ (t : Tally) where
 
 -- ---- the ways out of `admit`
 module _ (t : Tally) (size a e : ℕ) (u : Bool) (out : u ≡ not (ltb a e && leb e size)) where
-  pub admit_outside : u ≡ true → adm.Refused OutsideTarget ≡ admission t size a e
+  pub admit_outside : u ≡ true → Err OutsideTarget ≡ admission t size a e
   unfolding admission
   admit_outside h = rw (not-true (ltb a e && leb e size) (sym out ∙ h))
 
   module _ (h : u ≡ false) (v : Bool) (good : v ≡ good_tally t) where
-    pub admit_bad : not v ≡ true → adm.Refused CountsDisagree ≡ admission t size a e
+    pub admit_bad : not v ≡ true → Err CountsDisagree ≡ admission t size a e
     unfolding admission
     admit_bad n = rw (not-false (ltb a e && leb e size) (sym out ∙ h), ← good, not-true v n)
 
-    pub admit_full : not v ≡ false → tally_limit - t.asked < e - a → adm.Refused NumberOutOfRange ≡ admission t size a e
+    pub admit_full : not v ≡ false → tally_limit - t.asked < e - a → Err NumberOutOfRange ≡ admission t size a e
     unfolding admission
     admit_full n o =
         let f = good_if t v good n in
         let w : tally_limit < t.asked + (e - a) = omega arith in
         rw (not-false (ltb a e && leb e size) (sym out ∙ h), ← good, not-false v n, lt-leb _ _ w)
 
-    pub admit_good : not v ≡ false → e - a ≤ tally_limit - t.asked → adm.Admitted ≡ admission t size a e
+    pub admit_good : not v ≡ false → e - a ≤ tally_limit - t.asked → (Ok tt) ≡ admission t size a e
     unfolding admission
     admit_good n o =
         let f = good_if t v good n in
         let w : t.asked + (e - a) ≤ tally_limit = omega arith in
         rw (not-false (ltb a e && leb e size) (sym out ∙ h), ← good, not-false v n, le-leb _ _ w)
 
-pub grow_is : (t : Tally) (r : Reach) (len : ℕ) (x : RegionAnswer) → x ≡ answer_of r len → ◌≡◌ {A = Tallied} (record { tally = grown t len r.kept (len - r.kept); answer = x }) (grown_by t r len)
+pub grow_is : (t : Tally) (r : Reach) (len : ℕ) (x : Result Region Refusal) → x ≡ answer_of r len → ◌≡◌ {A = Tallied} (record { tally = grown t len r.kept (len - r.kept); answer = x }) (grown_by t r len)
 grow_is t r len x e = rw e
 
 -- ---- the ways out of `step_ready`
-module _ (t : Tally) (size a e : ℕ) (g : Reach) (x : Admission) (is : x ≡ admission t size a e) where
-  pub step_stays : (r : Tallied) (why : Reason) → x ≡ adm.Refused why → r.tally ≡ t → r.answer ≡ not_lifted why → r ≡ step_ready t size g a e
+module _ (t : Tally) (size a e : ℕ) (g : Reach) (x : Result ⊤ Reason) (is : x ≡ admission t size a e) where
+  pub step_stays : (r : Tallied) (why : Reason) → x ≡ Err why → r.tally ≡ t → r.answer ≡ not_lifted why → r ≡ step_ready t size g a e
   unfolding step_ready
   step_stays r why k et ea = rw (← is, k) (λ i. record { tally = et i; answer = ea i })
 
-  module _ (k : x ≡ adm.Admitted) where
+  module _ (k : x ≡ (Ok tt)) where
     -- what an admitted region is
     admitted : (a < e) × (good_tally t ≡ true) × (t.asked + (e - a) ≤ tally_limit)
     unfolding admission
     admitted = go (ltb a e) (leb e size) (good_tally t) (leb (t.asked + (e - a)) tally_limit) refl refl refl (sym k ∙ is)
       where
         go : (b c d f : Bool) → ltb a e ≡ b → good_tally t ≡ d → leb (t.asked + (e - a)) tally_limit ≡ f
-            → adm.Admitted ≡ if_admitted (b && c) OutsideTarget (if_admitted d CountsDisagree (if_admitted f NumberOutOfRange adm.Admitted)) → (a < e) × (good_tally t ≡ true) × (t.asked + (e - a) ≤ tally_limit)
+            → (Ok tt) ≡ if_admitted (b && c) OutsideTarget (if_admitted d CountsDisagree (if_admitted f NumberOutOfRange (Ok tt))) → (a < e) × (good_tally t ≡ true) × (t.asked + (e - a) ≤ tally_limit)
         go false c d f eb ed ef w = absurd (let z : ◌≡◌ {A = ℕ} 0 1 = cc in omega arith)
         go true false d f eb ed ef w = absurd (let z : ◌≡◌ {A = ℕ} 0 1 = cc in omega arith)
         go true true false f eb ed ef w = absurd (let z : ◌≡◌ {A = ℕ} 0 1 = cc in omega arith)
@@ -278,7 +276,7 @@ ready_step t c rows a e g ok f = rw ok (go (inside c a e) (good_tally t) (leb (t
     grows reach = unfold carried in rw (← reach.is_kept, ← reach.is_low, ← reach.is_high, ← reach.is_dropped)
 
     go : (b d h : Bool) → inside c a e ≡ b
-        → of_admission (if_admitted b OutsideTarget (if_admitted d CountsDisagree (if_admitted h NumberOutOfRange adm.Admitted))) t (grown_by t g (e - a))
+        → of_admission (if_admitted b OutsideTarget (if_admitted d CountsDisagree (if_admitted h NumberOutOfRange (Ok tt)))) t (grown_by t g (e - a))
         ≡ require b (not_tallied t OutsideTarget) (require d (not_tallied t CountsDisagree) (require h (not_tallied t NumberOutOfRange)
         (record { tally = grown t (e - a) (kept (pairs c rows) a e) (dropped (pairs c rows) a e); answer = carried c.qSize (pairs c rows) a e })))
     go false d h k = refl

@@ -9,20 +9,21 @@ use Rattle.chain_laws.proofs.Vectors.{chain_a, rows_a}
 use Rattle.chain.specs.Tests.{names_fit, fields_fit, spans_fit, rows_fit, chain_valid}
 use Rattle.lift.specs.Accepted.{accepted}
 use Rattle.lift.specs.Pairs.{block_pairs, pairs_of, pairs, partner_of}
-use Rattle.region.specs.declared.RegionAnswer.{RegionAnswer}
-use Rattle.region.specs.declared.RegionAnswer.TheVariants.{Lifted}
 use Rattle.region.specs.declared.Tally.{Tally}
 use Rattle.region.specs.Regions.{count_of, kept, dropped, partners_in, least, bound, not_lifted, inside, carried, lift_region}
 use Rattle.region.specs.Tallies.{good_tally, tally_step, Sent, counts, counted, total, sums, zero_tally, sent_through}
 use Rattle.region.specs.Batches.{sent_as, answer_rows}
+use Rattle.std.specs.Prelude.{Ok, Result}
+use Rattle.ledger.specs.declared.Refusal.{Refusal}
+use Rattle.region.specs.declared.Region.{Region}
 
 -- a region of chain A and its answer
 pub record Sample : Type 0 where
   pub start : ℕ
   pub end : ℕ
-  pub answer : RegionAnswer
+  pub answer : Result Region Refusal
 
-abbrev sample : ℕ → ℕ → RegionAnswer → Sample
+abbrev sample : ℕ → ℕ → Result Region Refusal → Sample
 sample a e x = record { start = a; end = e; answer = x }
 
 abbrev Right : List Sample → Type 0
@@ -31,10 +32,10 @@ Right (s ∷ ss) = (lift_region chain_a rows_a s.start s.end ≡ s.answer) × Ri
 
 abbrev pub samples_lem : List Sample
 samples_lem =
-    sample 18 25 (Lifted (record { kept = 4; dropped = 3; start = 63; end = 67 }))
+    sample 18 25 (Ok (record { kept = 4; dropped = 3; start = 63; end = 67 }))
     ∷ sample 20 23 (not_lifted NoPair)
     ∷ sample 20 20 (not_lifted OutsideTarget)
-    ∷ sample 0 100 (Lifted (record { kept = 27; dropped = 73; start = 47; end = 75 }))
+    ∷ sample 0 100 (Ok (record { kept = 27; dropped = 73; start = 47; end = 75 }))
     ∷ sample 0 101 (not_lifted OutsideTarget)
     ∷ []
 
@@ -61,7 +62,7 @@ unfolding sums counted counts total inside accepted chain_valid names_fit fields
 batch_summed = refl
 
 -- asked may reach its limit, and may not pass it
-pub limit_reached : tally_step (tally (tally_limit - 7) 0 (tally_limit - 7)) chain_a rows_a 18 25 ≡ record { tally = tally tally_limit 4 (tally_limit - 4); answer = Lifted (record { kept = 4; dropped = 3; start = 63; end = 67 }) }
+pub limit_reached : tally_step (tally (tally_limit - 7) 0 (tally_limit - 7)) chain_a rows_a 18 25 ≡ record { tally = tally tally_limit 4 (tally_limit - 4); answer = Ok (record { kept = 4; dropped = 3; start = 63; end = 67 }) }
 unfolding tally_step good_tally carried inside accepted chain_valid names_fit fields_fit row_numbers_fit spans_fit rows_fit order_from blocks_fill all_between pairs pairs_of block_pairs partner_of count_of kept dropped partners_in least bound
 limit_reached = refl
 

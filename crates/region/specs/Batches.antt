@@ -1,10 +1,8 @@
 -- A batch (request 9): many regions through one chain, in order. Each is a region sent as in Tallies.antt, with the tally as the one before left it.
-use Rattle.std.specs.Prelude.{ℕ, zero, suc, ◌+◌, ◌/◌, ◌%◌, ◌≡◌, Bool, true, false, ◌&&◌, List, [], ◌∷◌, ◌++◌, map, length, drop, get_or, leb, eqb}
+use Rattle.std.specs.Prelude.{ℕ, zero, suc, ◌+◌, ◌/◌, ◌%◌, ◌≡◌, Bool, true, false, ◌&&◌, List, [], ◌∷◌, ◌++◌, map, length, drop, get_or, leb, eqb, Ok, Err, Result, ⊤}
 use Rattle.ledger.specs.declared.Row.{Row}
 use Rattle.ledger.specs.declared.Reason.TheVariants.{NoRoom}
 use Rattle.ledger.specs.Reasons.{reason_number}
-use Rattle.text.specs.declared.Check.{Check}
-use Rattle.text.specs.declared.Check.TheVariants as check
 use Rattle.ledger.specs.Refusals.{require}
 use Rattle.text.specs.Checks.{refused}
 use Rattle.binary.specs.Bytes.{word_size, words_bytes, low_at}
@@ -12,17 +10,17 @@ use Rattle.chain.specs.declared.Chain.{Chain}
 use Rattle.chain.specs.Records.{chain_rows}
 use Rattle.chain.specs.Read.{chain_check}
 use Rattle.lift.specs.Texts.{of_checked}
-use Rattle.region.specs.declared.RegionAnswer.{RegionAnswer}
-use Rattle.region.specs.declared.RegionAnswer.TheVariants.{Lifted, Refused}
 use Rattle.region.specs.declared.Tally.{Tally}
 use Rattle.region.specs.declared.Tallied.{Tallied}
 use Rattle.region.specs.declared.Batched.{Batched}
 use Rattle.region.specs.Tallies.{tally_step, Sent, sent_through}
+use Rattle.ledger.specs.declared.Refusal.{Refusal}
+use Rattle.region.specs.declared.Region.{Region}
 
 -- A ROW of answers, five numbers: 0, kept, dropped, start and end of the query region; or the refusal's number and four zeros
-abbrev pub answer_row : RegionAnswer → List ℕ
-answer_row (Lifted x) = 0 ∷ x.kept ∷ x.dropped ∷ x.start ∷ x.end ∷ []
-answer_row (Refused x) = reason_number x.reason ∷ 0 ∷ 0 ∷ 0 ∷ 0 ∷ []
+abbrev pub answer_row : Result Region Refusal → List ℕ
+answer_row (Ok x) = 0 ∷ x.kept ∷ x.dropped ∷ x.start ∷ x.end ∷ []
+answer_row (Err x) = reason_number x.reason ∷ 0 ∷ 0 ∷ 0 ∷ 0 ∷ []
 
 abbrev pub step_of : Tally → Sent → Tallied
 step_of t r = tally_step t r.chain r.rows r.start r.end
@@ -44,8 +42,8 @@ sent_if false rs = []
 unfoldable pub sent_batch : Chain → List Row → List (List ℕ) → ℕ → List Sent
 sent_batch c rows regions room = sent_if (leb (length regions) room) (map (sent_as c rows) regions)
 
-unfoldable pub batch_check : List (List ℕ) → ℕ → Check
-batch_check regions room = require (leb (length regions) room) (refused NoRoom) check.Holds
+unfoldable pub batch_check : List (List ℕ) → ℕ → Result ⊤ Refusal
+batch_check regions room = require (leb (length regions) room) (refused NoRoom) (Ok tt)
 
 -- WHAT A BATCH PROMISES: refused by 11 alone, once and before all else; the tally after the regions sent; a row for each of them, and the rows past those as before
 pub record BatchDone (t : Tally) (c : Chain) (rows : List Row) (regions before after : List (List ℕ)) (r : Batched) : Type 0 where
@@ -98,8 +96,8 @@ unfoldable pub sent_text : List ℕ → List ℕ → ℕ → List Sent
 sent_text s regions room = of_checked (λ _. []) (λ c. sent_bytes c (chain_rows s c) regions room) (chain_check s)
 
 -- too few rows, or a region cut short, is 11 before the text is read; then the text's own refusals
-unfoldable pub text_batch_check : List ℕ → List ℕ → ℕ → Check
-text_batch_check s regions room = require (room_in_bytes regions room) (refused NoRoom) (of_checked check.Refused (λ _. check.Holds) (chain_check s))
+unfoldable pub text_batch_check : List ℕ → List ℕ → ℕ → Result ⊤ Refusal
+text_batch_check s regions room = require (room_in_bytes regions room) (refused NoRoom) (of_checked Err (λ _. (Ok tt)) (chain_check s))
 
 -- WHAT A BATCH THROUGH A TEXT PROMISES
 pub record TextBatch (s : List ℕ) (t : Tally) (regions before after : List ℕ) (r : Batched) : Type 0 where

@@ -1,14 +1,14 @@
 -- The reach of a region: what the code finds of it in the blocks, and the answer that it gives.
-use Rattle.std.specs.Prelude.{ℕ, ◌+◌, ◌-◌, ◌≤◌, min, max, ◌≡◌, true, List, [], ◌∷◌, leb}
+use Rattle.std.specs.Prelude.{ℕ, ◌+◌, ◌-◌, ◌≤◌, min, max, ◌≡◌, true, List, [], ◌∷◌, leb, Ok, Result}
 use Rattle.ledger.specs.Refusals.{require}
 use Rattle.ledger.specs.declared.Row.{Row}
 use Rattle.ledger.specs.declared.Reason.TheVariants.{NoPair}
 use Rattle.chain.specs.declared.Chain.{Chain}
 use Rattle.lift.specs.Pairs.{Pair, pairs}
 use Rattle.region.specs.declared.Reach.{Reach}
-use Rattle.region.specs.declared.RegionAnswer.{RegionAnswer}
-use Rattle.region.specs.declared.RegionAnswer.TheVariants.{Lifted}
 use Rattle.region.specs.Regions.{kept, dropped, partners_in, least, bound, inside, not_lifted}
+use Rattle.ledger.specs.declared.Refusal.{Refusal}
+use Rattle.region.specs.declared.Region.{Region}
 
 -- how many of the bases a to e − 1 a block of n from t on covers
 abbrev pub lap : ℕ → ℕ → ℕ → ℕ → ℕ
@@ -37,5 +37,5 @@ pub record Found (c : Chain) (rows : List Row) (a e : ℕ) (r : Reach) : Type 0 
   pub fits : r.kept ≤ e - a
 
 -- the answer that a reach gives, for a region of len bases
-abbrev pub answer_of : Reach → ℕ → RegionAnswer
-answer_of r len = require (leb 1 r.kept) (not_lifted NoPair) (Lifted (record { kept = r.kept; dropped = len - r.kept; start = r.low; end = r.high }))
+abbrev pub answer_of : Reach → ℕ → Result Region Refusal
+answer_of r len = require (leb 1 r.kept) (not_lifted NoPair) (Ok (record { kept = r.kept; dropped = len - r.kept; start = r.low; end = r.high }))

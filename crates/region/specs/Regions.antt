@@ -1,5 +1,5 @@
 -- Lifting a region (01, "Pairs, lifting, turning"): its bases are start to end − 1; kept counts those in a pair, dropped those in none.
-use Rattle.std.specs.Prelude.{ℕ, zero, suc, ◌+◌, ◌-◌, min, max, Bool, true, false, not, ◌&&◌, List, [], ◌∷◌, leb, ltb}
+use Rattle.std.specs.Prelude.{ℕ, zero, suc, ◌+◌, ◌-◌, min, max, Bool, true, false, not, ◌&&◌, List, [], ◌∷◌, leb, ltb, Ok, Err, Result}
 use Rattle.ledger.specs.Refusals.{without_text, require}
 use Rattle.ledger.specs.declared.Reason.{Reason}
 use Rattle.ledger.specs.declared.Reason.TheVariants.{BlockRules, NoPair, OutsideTarget}
@@ -10,8 +10,8 @@ use Rattle.chain.specs.Read.{chain_check}
 use Rattle.lift.specs.Accepted.{accepted}
 use Rattle.lift.specs.Pairs.{Pair, pairs, stands}
 use Rattle.lift.specs.Texts.{of_checked}
-use Rattle.region.specs.declared.RegionAnswer.{RegionAnswer}
-use Rattle.region.specs.declared.RegionAnswer.TheVariants.{Lifted, Refused}
+use Rattle.ledger.specs.declared.Refusal.{Refusal}
+use Rattle.region.specs.declared.Region.{Region}
 
 -- how many of the n bases from a on pass a test, one by one
 abbrev pub one : Bool → ℕ
@@ -48,26 +48,26 @@ unfoldable pub bound : ℕ → List ℕ → ℕ
 bound d [] = d
 bound d (x ∷ xs) = bound (max d (suc x)) xs
 
-abbrev pub not_lifted : Reason → RegionAnswer
-not_lifted why = Refused (without_text why)
+abbrev pub not_lifted : Reason → Result Region Refusal
+not_lifted why = Err (without_text why)
 
 -- inside the target: start < end ≤ tSize
 unfoldable pub inside : Chain → ℕ → ℕ → Bool
 inside c a e = ltb a e && leb e c.tSize
 
 -- kept, dropped, and the smallest query region that holds all partners, on the forward strand; where no base is kept there is no pair (12)
-unfoldable pub carried : ℕ → List Pair → ℕ → ℕ → RegionAnswer
+unfoldable pub carried : ℕ → List Pair → ℕ → ℕ → Result Region Refusal
 carried size ps a e =
     require (leb 1 (kept ps a e)) (not_lifted NoPair)
-    (Lifted (record { kept = kept ps a e; dropped = dropped ps a e; start = least size (partners_in a e ps); end = bound 0 (partners_in a e ps) }))
+    (Ok (record { kept = kept ps a e; dropped = dropped ps a e; start = least size (partners_in a e ps); end = bound 0 (partners_in a e ps) }))
 
 -- THE LIFT OF A REGION: no accepted chain (9), not inside the target (13), no pair (12), each at place 0
-unfoldable pub lift_region : Chain → List Row → ℕ → ℕ → RegionAnswer
+unfoldable pub lift_region : Chain → List Row → ℕ → ℕ → Result Region Refusal
 lift_region c rows a e =
     require (accepted c rows) (not_lifted BlockRules)
     (require (inside c a e) (not_lifted OutsideTarget)
     (carried c.qSize (pairs c rows) a e))
 
 -- through a chain's text: refused as the text is, or lifted through the chain that it says
-unfoldable pub text_lifted : List ℕ → ℕ → ℕ → RegionAnswer
-text_lifted s a e = of_checked Refused (λ c. lift_region c (chain_rows s c) a e) (chain_check s)
+unfoldable pub text_lifted : List ℕ → ℕ → ℕ → Result Region Refusal
+text_lifted s a e = of_checked Err (λ c. lift_region c (chain_rows s c) a e) (chain_check s)

@@ -1,10 +1,9 @@
 // Lifting a region through a chain, and the tally of a batch of regions.
 #![tactic(auto)]
 
-ghost use Rattle.std.specs.Prelude.{◌≡◌, not, ◌&&◌, [], ◌∷◌, ◌++◌, ◌+◌, ◌-◌, ◌*◌, ◌/◌, ◌≤◌, ◌<◌, min, max, length, drop, leb, ltb};
+ghost use Rattle.std.specs.Prelude.{◌≡◌, not, ◌&&◌, [], ◌∷◌, ◌++◌, ◌+◌, ◌-◌, ◌*◌, ◌/◌, ◌≤◌, ◌<◌, min, max, length, drop, leb, ltb, Ok};
 ghost use Rattle.std.proofs.lemmas.List.Edits.{sets};
 ghost use Rattle.ledger.specs.Limits.{largest_position, block_limit};
-ghost use Rattle.text.specs.declared.Check.TheVariants.{Holds};
 ghost use Rattle.blocks.specs.Rows.{table_of};
 ghost use Rattle.chain.specs.Records.{chain_rows};
 ghost use Rattle.lift.specs.Accepted.{Ready};
@@ -18,9 +17,8 @@ ghost use Rattle.region.specs.Tallies.{good_tally, tally_step};
 ghost use Rattle.region.specs.Steps.{admission, Growable, grown_by, step_ready, refused_rows, AnsweredAll, no_room, RowsPut};
 ghost use Rattle.region.specs.Batches.{answer_row, BatchDone, region_size, row_size, room_in_bytes, TextBatch};
 
-use chain::{Chain, ChainAnswer};
+use chain::Chain;
 use ledger::{Reason, Refusal, Strand};
-use text::Check;
 
 // What a region lifts to: its bases in a pair and in none, and the smallest query region that holds all partners.
 #[derive(Clone, Copy)]
@@ -29,12 +27,6 @@ pub struct Region {
     pub dropped: u64,
     pub start: u64,
     pub end: u64,
-}
-
-#[derive(Clone, Copy)]
-pub enum RegionAnswer {
-    Lifted(Region),
-    Refused(Refusal),
 }
 
 // How far a region reaches in the blocks passed so far: kept bases, and the query region.
@@ -57,21 +49,14 @@ pub struct Tally {
 #[derive(Clone, Copy)]
 pub struct Tallied {
     pub tally: Tally,
-    pub answer: RegionAnswer,
-}
-
-// Whether a region goes on to the search, or is refused before it.
-#[derive(Clone, Copy)]
-pub enum Admission {
-    Admitted,
-    Refused(Reason),
+    pub answer: Result<Region, Refusal>,
 }
 
 // The tally after a batch, and whether there was room for its answers.
 #[derive(Clone, Copy)]
 pub struct Batched {
     pub tally: Tally,
-    pub check: Check,
+    pub check: Result<(), Refusal>,
 }
 
 // A column has room for one number of each of a record's blocks.
@@ -211,21 +196,21 @@ fn region_reach(
     reach_across(c, targets, queries, sizes, first, last, inner, start, end)
 }
 
-fn not_lifted(reason: Reason) -> RegionAnswer
+fn not_lifted(reason: Reason) -> Result<Region, Refusal>
     ensures { result ≡ not_lifted reason }
 {
-    RegionAnswer::Refused(Refusal::without_text(reason))
+    Err(Refusal::without_text(reason))
 }
 
 // The answer that a reach gives, for a region of so many bases.
-fn answer_of(r: Reach, len: u64) -> RegionAnswer
+fn answer_of(r: Reach, len: u64) -> Result<Region, Refusal>
     requires { r.kept ≤ len }
     ensures { result ≡ answer_of r len }
 {
     if r.kept == 0 {
         return not_lifted(Reason::NoPair);
     }
-    RegionAnswer::Lifted(Region {
+    Ok(Region {
         kept: r.kept,
         dropped: len - r.kept,
         start: r.low,
@@ -241,7 +226,7 @@ fn lift_ready(
     sizes: &[u64],
     start: u64,
     end: u64,
-) -> RegionAnswer
+) -> Result<Region, Refusal>
     requires { Ready c targets.now queries.now sizes.now }
     ensures { result ≡ lift_region c (table_of targets.now queries.now sizes.now) start end }
 {
@@ -260,7 +245,7 @@ pub fn lift_region(
     sizes: &[u64],
     start: u64,
     end: u64,
-) -> RegionAnswer
+) -> Result<Region, Refusal>
     ensures { result ≡ lift_region c (table_of targets.now queries.now sizes.now) start end }
 {
     if !lift::is_accepted(c, targets, queries, sizes) {
@@ -270,7 +255,7 @@ pub fn lift_region(
 }
 
 // The same through the rows that reading a chain's text left in its working room.
-fn lift_rows(text: &[u8], c: Chain, rows: &[u64], start: u64, end: u64) -> RegionAnswer
+fn lift_rows(text: &[u8], c: Chain, rows: &[u64], start: u64, end: u64) -> Result<Region, Refusal>
     requires { ChainHeld text.now c rows.now }
     ensures { result ≡ lift_region c (chain_rows text.now c) start end }
 {
@@ -284,14 +269,12 @@ fn lift_rows(text: &[u8], c: Chain, rows: &[u64], start: u64, end: u64) -> Regio
 
 // THE LIFT OF A REGION through a chain's text: what a text that is read says is an accepted chain, so it is not tested
 // again.
-pub fn lift_text(text: &[u8], start: u64, end: u64) -> RegionAnswer
+pub fn lift_text(text: &[u8], start: u64, end: u64) -> Result<Region, Refusal>
     ensures { result ≡ text_lifted text.now start end }
 {
     let mut rows = blocks::working_room();
-    match chain::read_rows(text, &mut rows) {
-        ChainAnswer::Refused(x) => RegionAnswer::Refused(x),
-        ChainAnswer::Accepted(c) => lift_rows(text, c, &rows, start, end),
-    }
+    let c = chain::read_rows(text, &mut rows)?;
+    lift_rows(text, c, &rows, start, end)
 }
 
 // Whether a tally is one: each field to its limit, and kept and dropped make up asked, with no wrapping.
@@ -310,20 +293,20 @@ fn is_good(t: Tally) -> bool
 
 // Why a region is not added to a tally: it isn't inside the target (13), the tally is bad (10), or asked would pass its
 // limit (5).
-fn admit(tally: Tally, size: u64, start: u64, end: u64) -> Admission
+fn admit(tally: Tally, size: u64, start: u64, end: u64) -> Result<(), Reason>
     ensures { result ≡ admission tally size start end }
 {
     if outside(size, start, end) {
-        return Admission::Refused(Reason::OutsideTarget);
+        return Err(Reason::OutsideTarget);
     }
     if !is_good(tally) {
-        return Admission::Refused(Reason::CountsDisagree);
+        return Err(Reason::CountsDisagree);
     }
     let len = end - start;
     if ledger::TALLY_LIMIT - tally.asked < len {
-        return Admission::Refused(Reason::NumberOutOfRange);
+        return Err(Reason::NumberOutOfRange);
     }
-    Admission::Admitted
+    Ok(())
 }
 
 // A refusal that leaves the tally.
@@ -357,8 +340,8 @@ fn step_ready(tally: Tally, size: u64, r: Reach, start: u64, end: u64) -> Tallie
     ensures { result ≡ step_ready tally size r start end }
 {
     match admit(tally, size, start, end) {
-        Admission::Refused(reason) => stay(tally, reason),
-        Admission::Admitted => grow(tally, r, end - start),
+        Err(reason) => stay(tally, reason),
+        Ok(()) => grow(tally, r, end - start),
     }
 }
 
@@ -449,12 +432,12 @@ fn quick_reach(
 }
 
 // An answer as five numbers: 0 and the region, or the refusal's number and four zeros.
-fn answer_row(answer: RegionAnswer) -> [u64; 5]
+fn answer_row(answer: Result<Region, Refusal>) -> [u64; 5]
     ensures { result ≡ answer_row answer }
 {
     match answer {
-        RegionAnswer::Lifted(x) => [0, x.kept, x.dropped, x.start, x.end],
-        RegionAnswer::Refused(x) => {
+        Ok(x) => [0, x.kept, x.dropped, x.start, x.end],
+        Err(x) => {
             let reason = x.reason;
             [reason.number(), 0, 0, 0, 0]
         }
@@ -535,14 +518,14 @@ fn refuse_all(count: usize, answers: &mut [[u64; 5]])
 fn no_room(tally: Tally) -> Batched
     ensures { result ≡ no_room tally }
 {
-    let check = Check::Refused(Refusal::without_text(Reason::NoRoom));
+    let check = Err(Refusal::without_text(Reason::NoRoom));
     Batched { tally, check }
 }
 
 fn answered(tally: Tally) -> Batched
-    ensures { (result.tally ≡ tally) × (result.check ≡ Holds) }
+    ensures { (result.tally ≡ tally) × (result.check ≡ (Ok tt)) }
 {
-    let check = Check::Holds;
+    let check = Ok(());
     Batched { tally, check }
 }
 
@@ -695,14 +678,14 @@ pub fn batch_text(text: &[u8], before: Tally, regions: &[u8], out: &mut [u8]) ->
     }
     let mut rows = blocks::working_room();
     match chain::read_rows(text, &mut rows) {
-        ChainAnswer::Refused(x) => {
-            let check = Check::Refused(x);
+        Err(x) => {
+            let check = Err(x);
             Batched {
                 tally: before,
                 check,
             }
         }
-        ChainAnswer::Accepted(c) => {
+        Ok(c) => {
             let after = put_text(text, before, c, &rows, regions, out);
             answered(after)
         }

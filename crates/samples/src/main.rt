@@ -6,14 +6,9 @@
 ghost use Rattle.std.specs.Prelude.{◌≡◌, length, ◌*◌};
 ghost use Rattle.ledger.specs.Limits.{block_limit};
 
-use columns::Columns;
 use ledger::{Fault, Position, Reason, Refusal};
-use number_line::NumbersAnswer;
-use numbers::Spelt;
 use std::io;
 use std::io::Write;
-use text::Stage;
-use writing::Writing;
 
 // The columns of a BED line, a PSL line and a chain's header, by the codes of their kinds.
 const BED: [u8; 12] = [
@@ -90,10 +85,10 @@ fn list_table() -> [u64; blocks::ROOM]
 }
 
 // What was written to the front of a buffer.
-fn put_written(out: &mut [u8], at: usize, buf: &[u8], written: Writing) -> usize {
+fn put_written(out: &mut [u8], at: usize, buf: &[u8], written: Result<usize, Refusal>) -> usize {
     match written {
-        Writing::Refused(x) => cases::put_refusal(out, at, x),
-        Writing::Written(n) => {
+        Err(x) => cases::put_refusal(out, at, x),
+        Ok(n) => {
             let m = ledger::least(n, buf.len());
             writing::put_bytes(out, at, &buf[0..m])
         }
@@ -108,8 +103,8 @@ fn put_fault(out: &mut [u8], at: usize, reason: Reason, place: usize) -> usize {
 // Case `t`: the checks of a text.
 fn text_case(s: &[u8], out: &mut [u8], at: usize) -> usize {
     match text::check_text(s) {
-        Stage::Passes => writing::put_bytes(out, at, b"fine"),
-        Stage::Faulty(x) => cases::put_refusal(out, at, Refusal::at(x)),
+        Ok(()) => writing::put_bytes(out, at, b"fine"),
+        Err(x) => cases::put_refusal(out, at, Refusal::at(x)),
     }
 }
 
@@ -215,8 +210,8 @@ fn word_case(letter: u8, word: &[u8], out: &mut [u8], at: usize) -> usize {
     }
     let mut none = [0u64; 0];
     match kinds::spell(kinds::kind_of(code), 0, word, 0, &mut none) {
-        Spelt::Means(v) => put_meaning(out, at, letter, v),
-        Spelt::Faulty(reason, place) => put_fault(out, at, reason, place),
+        Ok(v) => put_meaning(out, at, letter, v),
+        Err(Fault { reason: reason, place: place }) => put_fault(out, at, reason, place),
     }
 }
 
@@ -227,8 +222,8 @@ fn items_wanted(letter: u8, word: &[u8], low: u64) -> u64 {
     }
     let mut none = [0u64; 0];
     match numbers::store_items(word, low, Position::LARGEST, &mut none) {
-        Spelt::Means(n) => n,
-        Spelt::Faulty(_, _) => 0,
+        Ok(n) => n,
+        Err(_) => 0,
     }
 }
 
@@ -245,8 +240,8 @@ fn list_case(letter: u8, word: &[u8], out: &mut [u8], at: usize) -> usize {
     let wanted = items_wanted(letter, word, low);
     let mut items = list_table();
     match numbers::read_list(word, low, Position::LARGEST, true, wanted, &mut items) {
-        Spelt::Means(n) => put_items(out, at, &items, n),
-        Spelt::Faulty(reason, place) => put_fault(out, at, reason, place),
+        Ok(n) => put_items(out, at, &items, n),
+        Err(Fault { reason: reason, place: place }) => put_fault(out, at, reason, place),
     }
 }
 
@@ -267,8 +262,8 @@ fn put_one_item(out: &mut [u8], at: usize, v: u64) -> usize {
 // Case `d`: a number of the machine, written alone and as a list of one item.
 fn digits_case(word: &[u8], out: &mut [u8], at: usize) -> usize {
     match numbers::read_number(word, 0, ledger::LARGEST_NUMBER) {
-        Spelt::Faulty(_, _) => writing::put_bytes(out, at, b"no number"),
-        Spelt::Means(v) => {
+        Err(_) => writing::put_bytes(out, at, b"no number"),
+        Ok(v) => {
             let a = put_digits(out, at, v);
             put_one_item(out, a, v)
         }
@@ -278,8 +273,8 @@ fn digits_case(word: &[u8], out: &mut [u8], at: usize) -> usize {
 // Case `U`: a number of the machine.
 fn number_case(word: &[u8], out: &mut [u8], at: usize) -> usize {
     match numbers::read_number(word, 0, ledger::LARGEST_NUMBER) {
-        Spelt::Means(v) => cases::put_labelled(out, at, b"value ", v),
-        Spelt::Faulty(reason, place) => put_fault(out, at, reason, place),
+        Ok(v) => cases::put_labelled(out, at, b"value ", v),
+        Err(Fault { reason: reason, place: place }) => put_fault(out, at, reason, place),
     }
 }
 
@@ -309,8 +304,8 @@ fn put_listed(out: &mut [u8], at: usize, bytes: &[u8], n: usize) -> usize {
 fn numbers_case(s: &[u8], out: &mut [u8], at: usize) -> usize {
     let mut bytes = listed_room();
     match number_line::read_numbers(s, &mut bytes) {
-        NumbersAnswer::Refused(x) => cases::put_refusal(out, at, x),
-        NumbersAnswer::Accepted(n) => put_listed(out, at, &bytes, n),
+        Err(x) => cases::put_refusal(out, at, x),
+        Ok(n) => put_listed(out, at, &bytes, n),
     }
 }
 
@@ -340,8 +335,8 @@ fn put_standard(
 ) -> usize {
     let mut space = line_room();
     match columns::write_line(&mut space, table, sep, line, values, lists) {
-        Writing::Refused(x) => cases::put_refusal(out, at, x),
-        Writing::Written(n) => put_first_line(out, at, &space, n),
+        Err(x) => cases::put_refusal(out, at, x),
+        Ok(n) => put_first_line(out, at, &space, n),
     }
 }
 
@@ -350,8 +345,8 @@ fn columns_case(line: &[u8], table: &[u8], sep: u8, out: &mut [u8], at: usize) -
     let mut values = value_table();
     let mut lists = list_table();
     match columns::read_columns(line, 0, table, &mut values, &mut lists) {
-        Columns::Faulty(x) => cases::put_refusal(out, at, Refusal::at(x)),
-        Columns::Next(_) => put_standard(out, at, table, sep, line, &values, &lists),
+        Err(x) => cases::put_refusal(out, at, Refusal::at(x)),
+        Ok(_) => put_standard(out, at, table, sep, line, &values, &lists),
     }
 }
 

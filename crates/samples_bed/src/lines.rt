@@ -1,5 +1,6 @@
 // A text read as a BED line.
-use bed::{Bed, BedAnswer};
+use ledger::Refusal;
+use bed::Bed;
 
 // A record's columns up to the name; a name by its place and length.
 fn put_place(out: &mut [u8], at: usize, r: Bed) -> usize {
@@ -22,8 +23,8 @@ fn put_bed(out: &mut [u8], at: usize, r: Bed) -> usize {
 fn put_text_check(out: &mut [u8], at: usize, s: &[u8]) -> usize {
     let a = writing::put_bytes(out, at, b" checker ");
     match bed::check_bed_text(s) {
-        BedAnswer::Accepted(r) => put_bed(out, a, r),
-        BedAnswer::Refused(x) => cases::put_refusal(out, a, x),
+        Ok(r) => put_bed(out, a, r),
+        Err(x) => cases::put_refusal(out, a, x),
     }
 }
 
@@ -94,14 +95,14 @@ fn put_read(
     out: &mut [u8],
     at: usize,
     s: &[u8],
-    answer: BedAnswer,
+    answer: Result<Bed, Refusal>,
     targets: &[u64],
     queries: &[u64],
     sizes: &[u64],
 ) -> usize {
     match answer {
-        BedAnswer::Accepted(r) => put_accepted(out, at, s, r, targets, queries, sizes),
-        BedAnswer::Refused(x) => {
+        Ok(r) => put_accepted(out, at, s, r, targets, queries, sizes),
+        Err(x) => {
             let a = cases::put_refusal(out, at, x);
             cases::put_kept(out, a, cases::rows_kept(targets, queries, sizes, 0))
         }
@@ -118,7 +119,7 @@ fn read_with(
     targets: &mut [u64],
     queries: &mut [u64],
     sizes: &mut [u64],
-) -> BedAnswer {
+) -> Result<Bed, Refusal> {
     let t = ledger::least(room, targets.len());
     let q = ledger::least(room, queries.len());
     let z = ledger::least(room, sizes.len());

@@ -2,8 +2,7 @@
 // thickStart, thickEnd, itemRgb as one number, blockCount, the room of the buffer, `=` and a name twice (chrom, name), and the rows of
 // the table, three numbers each. Only the names are escaped.
 use bed::Bed;
-use ledger::Part;
-use writing::Writing;
+use ledger::{Part, Refusal};
 
 // The record of a line's words, with names of two lengths.
 fn record_at(line: &[u8], chrom: usize, name: usize) -> Bed {
@@ -38,7 +37,7 @@ fn write_within(
     sizes: &[u64],
     buf: &mut [u8],
     room: usize,
-) -> Writing {
+) -> Result<usize, Refusal> {
     let m = ledger::least(room, buf.len());
     bed::write_bed(r, chrom, name, targets, queries, sizes, &mut buf[0..m])
 }

@@ -1,5 +1,6 @@
 // A text read as a chain.
-use chain::{Chain, ChainAnswer};
+use ledger::Refusal;
+use chain::Chain;
 
 fn put_target(out: &mut [u8], at: usize, r: Chain) -> usize {
     let a = cases::put_part(out, at, r.tName);
@@ -25,8 +26,8 @@ fn put_chain(out: &mut [u8], at: usize, r: Chain) -> usize {
 fn put_text_check(out: &mut [u8], at: usize, s: &[u8]) -> usize {
     let a = writing::put_bytes(out, at, b" checker ");
     match chain::check_chain_text(s) {
-        ChainAnswer::Accepted(r) => put_chain(out, a, r),
-        ChainAnswer::Refused(x) => cases::put_refusal(out, a, x),
+        Ok(r) => put_chain(out, a, r),
+        Err(x) => cases::put_refusal(out, a, x),
     }
 }
 
@@ -97,14 +98,14 @@ fn put_read(
     out: &mut [u8],
     at: usize,
     s: &[u8],
-    answer: ChainAnswer,
+    answer: Result<Chain, Refusal>,
     targets: &[u64],
     queries: &[u64],
     sizes: &[u64],
 ) -> usize {
     match answer {
-        ChainAnswer::Accepted(r) => put_accepted(out, at, s, r, targets, queries, sizes),
-        ChainAnswer::Refused(x) => {
+        Ok(r) => put_accepted(out, at, s, r, targets, queries, sizes),
+        Err(x) => {
             let a = cases::put_refusal(out, at, x);
             cases::put_kept(out, a, cases::rows_kept(targets, queries, sizes, 0))
         }

@@ -2,8 +2,7 @@
 // blockCount, the room of the buffer, `=` and a name twice (the target's, the query's), and the rows of the table, three numbers each.
 // Only the names are escaped.
 use chain::Chain;
-use ledger::Part;
-use writing::Writing;
+use ledger::{Part, Refusal};
 
 // The record of a line's words, with names of two lengths.
 fn record_at(line: &[u8], target: usize, query: usize) -> Chain {
@@ -39,7 +38,7 @@ fn write_within(
     sizes: &[u64],
     buf: &mut [u8],
     room: usize,
-) -> Writing {
+) -> Result<usize, Refusal> {
     let m = ledger::least(room, buf.len());
     cases_chain::write_chain(r, target, query, targets, queries, sizes, &mut buf[0..m])
 }

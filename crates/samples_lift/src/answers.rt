@@ -1,30 +1,28 @@
 // The questions about a chain handed in, and their answers as bytes.
+use region::Region;
 use crate::{batches, drifts, tallies};
 use chain::Chain;
-use ledger::Part;
-use lift::{PositionAnswer, SpanAnswer};
-use region::RegionAnswer;
-use turn::TurnAnswer;
+use ledger::{Part, Refusal};
 
-fn put_position(out: &mut [u8], at: usize, answer: PositionAnswer) -> usize {
+fn put_position(out: &mut [u8], at: usize, answer: Result<(u64, i64), Refusal>) -> usize {
     match answer {
-        PositionAnswer::Lifted(partner, drift) => {
+        Ok((partner, drift)) => {
             let a = cases::put_labelled(out, at, b"lifted ", partner);
             drifts::put_drift(out, a, drift)
         }
-        PositionAnswer::Refused(x) => cases::put_refusal(out, at, x),
+        Err(x) => cases::put_refusal(out, at, x),
     }
 }
 
-fn put_region(out: &mut [u8], at: usize, answer: RegionAnswer) -> usize {
+fn put_region(out: &mut [u8], at: usize, answer: Result<Region, Refusal>) -> usize {
     match answer {
-        RegionAnswer::Lifted(r) => {
+        Ok(r) => {
             let a = cases::put_labelled(out, at, b"kept ", r.kept);
             let b = cases::put_labelled(out, a, b" dropped ", r.dropped);
             let c = writing::put_bytes(out, b, b" query");
             cases::put_spaced(out, c, &[r.start, r.end])
         }
-        RegionAnswer::Refused(x) => cases::put_refusal(out, at, x),
+        Err(x) => cases::put_refusal(out, at, x),
     }
 }
 
@@ -109,14 +107,14 @@ fn put_standard(
 fn put_turn(
     out: &mut [u8],
     at: usize,
-    answer: TurnAnswer,
+    answer: Result<Chain, Refusal>,
     page: &[u8],
     targets: &[u64],
     queries: &[u64],
     sizes: &[u64],
 ) -> usize {
     match answer {
-        TurnAnswer::Turned(d) => {
+        Ok(d) => {
             let count = d.blockCount as usize;
             let a = put_record(out, at, d);
             let b = writing::put_bytes(out, a, b" rows");
@@ -124,7 +122,7 @@ fn put_turn(
             let e = cases::put_kept(out, c, cases::rows_kept(targets, queries, sizes, count));
             put_standard(out, e, d, page, targets, queries, sizes)
         }
-        TurnAnswer::Refused(x) => {
+        Err(x) => {
             let a = cases::put_refusal(out, at, x);
             cases::put_kept(out, a, cases::rows_kept(targets, queries, sizes, 0))
         }
@@ -188,10 +186,10 @@ pub(crate) fn convert_case(line: &[u8], out: &mut [u8], at: usize) -> usize {
     let start = cases::number_at(line, 0);
     let end = cases::number_at(line, 1);
     match lift::convert(start, end, cases::number_at(line, 2)) {
-        SpanAnswer::Converted(span) => {
+        Ok(span) => {
             let a = writing::put_bytes(out, at, b"span");
             cases::put_spaced(out, a, &[span.start, span.end])
         }
-        SpanAnswer::Refused(x) => cases::put_refusal(out, at, x),
+        Err(x) => cases::put_refusal(out, at, x),
     }
 }

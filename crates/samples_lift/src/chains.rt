@@ -1,7 +1,7 @@
 // The chain that a case hands in, after the words of its question: an escaped text, which begins with `c`; or a record's words. These
 // are score, tSize, tStart, tEnd, qSize, qStrand, qStart, qEnd, id, blockCount, `=` and a name twice (the target's, the query's), and the
 // rows of the table, three numbers each; only the names are escaped.
-use chain::{Chain, ChainAnswer};
+use chain::Chain;
 use ledger::{Part, Refusal};
 
 // A chain handed in: its record, and how many rows its table has; or why its text is refused.
@@ -70,8 +70,8 @@ fn from_text(
 ) -> Given {
     let n = cases::unescape(escaped, page);
     match cases_chain::read_chain(&page[0..n], rows::ROOM, targets, queries, sizes) {
-        ChainAnswer::Accepted(c) => Given::Chain(c, rows::ROOM),
-        ChainAnswer::Refused(x) => Given::Refused(x),
+        Ok(c) => Given::Chain(c, rows::ROOM),
+        Err(x) => Given::Refused(x),
     }
 }
 

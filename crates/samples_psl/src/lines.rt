@@ -1,5 +1,6 @@
 // A text read as a PSL line.
-use psl::{Counts, Psl, PslAnswer, Side};
+use ledger::Refusal;
+use psl::{Counts, Psl, Side};
 
 fn put_counts(out: &mut [u8], at: usize, c: Counts) -> usize {
     cases::put_spaced(
@@ -45,8 +46,8 @@ fn put_psl(out: &mut [u8], at: usize, r: Psl) -> usize {
 fn put_text_check(out: &mut [u8], at: usize, s: &[u8]) -> usize {
     let a = writing::put_bytes(out, at, b" checker ");
     match psl::check_psl_text(s) {
-        PslAnswer::Accepted(r) => put_psl(out, a, r),
-        PslAnswer::Refused(x) => cases::put_refusal(out, a, x),
+        Ok(r) => put_psl(out, a, r),
+        Err(x) => cases::put_refusal(out, a, x),
     }
 }
 
@@ -119,14 +120,14 @@ fn put_read(
     out: &mut [u8],
     at: usize,
     s: &[u8],
-    answer: PslAnswer,
+    answer: Result<Psl, Refusal>,
     targets: &[u64],
     queries: &[u64],
     sizes: &[u64],
 ) -> usize {
     match answer {
-        PslAnswer::Accepted(r) => put_accepted(out, at, s, r, targets, queries, sizes),
-        PslAnswer::Refused(x) => {
+        Ok(r) => put_accepted(out, at, s, r, targets, queries, sizes),
+        Err(x) => {
             let a = cases::put_refusal(out, at, x);
             cases::put_kept(out, a, cases::rows_kept(targets, queries, sizes, 0))
         }
@@ -143,7 +144,7 @@ fn read_with(
     targets: &mut [u64],
     queries: &mut [u64],
     sizes: &mut [u64],
-) -> PslAnswer {
+) -> Result<Psl, Refusal> {
     let t = ledger::least(room, targets.len());
     let q = ledger::least(room, queries.len());
     let z = ledger::least(room, sizes.len());

@@ -1,9 +1,8 @@
 // A record handed to the record checker and the writer. The line's words are the eight counts, the strand, qSize, qStart, qEnd, tSize,
 // tStart, tEnd, blockCount, the room of the buffer, `=` and a name twice (the query's, the target's), and the rows of the table, three
 // numbers each. Only the names are escaped.
-use ledger::Part;
+use ledger::{Part, Refusal};
 use psl::{Counts, Psl, Side};
-use writing::Writing;
 
 fn counts_at(line: &[u8]) -> Counts {
     Counts {
@@ -53,7 +52,7 @@ fn write_within(
     sizes: &[u64],
     buf: &mut [u8],
     room: usize,
-) -> Writing {
+) -> Result<usize, Refusal> {
     let m = ledger::least(room, buf.len());
     psl::write_psl(r, query, target, targets, queries, sizes, &mut buf[0..m])
 }

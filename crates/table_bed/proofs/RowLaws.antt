@@ -13,11 +13,8 @@ use Rattle.ledger.specs.Limits.{block_limit}
 use Rattle.ledger.specs.declared.Row.{Row}
 use Rattle.ledger.specs.declared.Refusal.{Refusal}
 use Rattle.ledger.specs.declared.Reason.TheVariants.{NumberOutOfRange, BadWord, SpanDisagrees, BlockRules, NoRoom}
-use Rattle.text.specs.declared.Check.{Check}
-use Rattle.text.specs.declared.Check.TheVariants.{Holds}
 use Rattle.ledger.specs.Refusals.{require, fault_at, refusal_at}
 use Rattle.text.specs.Checks.{refused}
-use Rattle.writing.specs.declared.Writing.{Writing}
 use Rattle.blocks.specs.Blocks.{row_numbers_fit}
 use Rattle.blocks.specs.Rows.{targets_of, queries_of, sizes_of}
 use Rattle.rows.specs.Staging.{all_reach, Loaded, Columns, stored_rows}
@@ -25,8 +22,6 @@ use Rattle.rows.proofs.StagingLaws.{loaded_targets, loaded_queries, loaded_sizes
 use Rattle.rows.proofs.ReaderLaws.{Reads, columns_is, columns_held, rows_accepted, rows_refused}
 use Rattle.rows.proofs.WriterLaws.{written_cut, kept_cut}
 use Rattle.bed.specs.declared.Bed.{Bed}
-use Rattle.bed.specs.declared.BedAnswer.{BedAnswer}
-use Rattle.bed.specs.declared.BedAnswer.TheVariants.{Accepted, Refused}
 use Rattle.bed.specs.Records.{bed_targets, bed_queries, bed_sizes}
 use Rattle.bed.specs.Read.{on_answer, bed_check, bed_read, BedRead}
 use Rattle.bed.specs.Tests.{names_fit, strand_fits, fields_fit, spans_fit, rows_fit, bed_valid}
@@ -34,13 +29,14 @@ use Rattle.bed.specs.Write.{names_show, write_check, bed_words, bed_text, bed_wr
 use Rattle.bed.proofs.RowLaws.{accepted_rows}
 use Rattle.table_bed.specs.Rows.{table_after, RowsRead, rows_filled, ColumnsRead}
 use Rattle.columns.specs.Lines.{then_write}
+use Rattle.std.specs.Prelude.{Ok, Err, Result, ⊤}
 
 -- the reader as one of any format
-pub by_answer : (a : BedAnswer) (P : Type 0) → ((r : Bed) → a ≡ Accepted r → P) → ((x : Refusal) → a ≡ Refused x → P) → P
-by_answer (Accepted r) P f g = f r refl
-by_answer (Refused x) P f g = g x refl
+pub by_answer : (a : Result Bed Refusal) (P : Type 0) → ((r : Bed) → a ≡ Ok r → P) → ((x : Refusal) → a ≡ Err x → P) → P
+by_answer (Ok r) P f g = f r refl
+by_answer (Err x) P f g = g x refl
 
-pub bed_reads : (s : List ℕ) → Reads Accepted Refused (λ (r : Bed). r.blockCount) rows_filled (bed_check s) (bed_read s) (refusal_at (fault_at NoRoom (length s))) (bed_targets s) (bed_queries s) (bed_sizes s)
+pub bed_reads : (s : List ℕ) → Reads Ok Err (λ (r : Bed). r.blockCount) rows_filled (bed_check s) (bed_read s) (refusal_at (fault_at NoRoom (length s))) (bed_targets s) (bed_queries s) (bed_sizes s)
 bed_reads s = record {
   cases = by_answer;
   apart = λ r x e. absurd (let z : ◌≡◌ {A = ℕ} 0 1 = cc in omega arith);
@@ -56,39 +52,39 @@ bed_reads s = record {
 }
 
 -- reading into three columns
-pub columns_read : (s ts qs zs t q z : List ℕ) (rows n : ℕ) (x : BedAnswer) → Columns ts qs zs → n ≡ min rows block_limit
+pub columns_read : (s ts qs zs t q z : List ℕ) (rows n : ℕ) (x : Result Bed Refusal) → Columns ts qs zs → n ≡ min rows block_limit
     → BedRead s (take n ts) t (take n qs) q (take n zs) z x → ColumnsRead s rows (put_mid 0 n ts t) (put_mid 0 n qs q) (put_mid 0 n zs z) x
 columns_read s ts qs zs t q z rows n x room e h = record {
   is = columns_is (bed_reads s) ts qs zs t q z rows n x room e h.is;
   held = λ r k. columns_held (bed_reads s) ts qs zs t q z rows n x room e h.is r k
-      (h.targets ∙ ap (λ (y : BedAnswer). rows_after on_answer y (bed_targets s) (take n ts)) k)
-      (h.queries ∙ ap (λ (y : BedAnswer). rows_after on_answer y (bed_queries s) (take n qs)) k)
-      (h.sizes ∙ ap (λ (y : BedAnswer). rows_after on_answer y (bed_sizes s) (take n zs)) k);
+      (h.targets ∙ ap (λ (y : Result Bed Refusal). rows_after on_answer y (bed_targets s) (take n ts)) k)
+      (h.queries ∙ ap (λ (y : Result Bed Refusal). rows_after on_answer y (bed_queries s) (take n qs)) k)
+      (h.sizes ∙ ap (λ (y : Result Bed Refusal). rows_after on_answer y (bed_sizes s) (take n zs)) k);
 }
 
 -- the table after the rows of an answer were stored
-pub rows_read : (s ts qs zs : List ℕ) (before after : List Row) (n : ℕ) (x : BedAnswer) → ColumnsRead s (length before) ts qs zs x → n ≡ rows_filled x
+pub rows_read : (s ts qs zs : List ℕ) (before after : List Row) (n : ℕ) (x : Result Bed Refusal) → ColumnsRead s (length before) ts qs zs x → n ≡ rows_filled x
     → after ≡ stored_rows n ts qs zs before → RowsRead s before after x
 rows_read s ts qs zs before after n x h e k = record {
   is = h.is;
   rows = by_answer x _
-      (λ r l. rows_accepted (bed_reads s) ts qs zs before after n x h.held e k r l ∙ ap (λ (y : BedAnswer). table_after y s before) (sym l))
-      (λ w l. rows_refused (bed_reads s) ts qs zs before after n x h.held e k w l ∙ ap (λ (y : BedAnswer). table_after y s before) (sym l));
+      (λ r l. rows_accepted (bed_reads s) ts qs zs before after n x h.held e k r l ∙ ap (λ (y : Result Bed Refusal). table_after y s before) (sym l))
+      (λ w l. rows_refused (bed_reads s) ts qs zs before after n x h.held e k w l ∙ ap (λ (y : Result Bed Refusal). table_after y s before) (sym l));
 }
 
-pub filled_accepted : (a : BedAnswer) (r : Bed) → a ≡ Accepted r → r.blockCount ≡ rows_filled a
+pub filled_accepted : (a : Result Bed Refusal) (r : Bed) → a ≡ Ok r → r.blockCount ≡ rows_filled a
 filled_accepted a r e = rw e
 
 -- THE RECORD CHECKER, as it looks at the rows in use
-abbrev pub check_seen : Bed → Bool → List ℕ → List ℕ → List ℕ → Check
+abbrev pub check_seen : Bed → Bool → List ℕ → List ℕ → List ℕ → Result ⊤ Refusal
 check_seen r t ts qs zs =
-    require (t && (names_fit r.words r.chrom.length r.name.length && (strand_fits r && (fields_fit r && (row_numbers_fit ts qs zs && (spans_fit r && rows_fit r ts qs zs)))))) (refused BlockRules) Holds
+    require (t && (names_fit r.words r.chrom.length r.name.length && (strand_fits r && (fields_fit r && (row_numbers_fit ts qs zs && (spans_fit r && rows_fit r ts qs zs)))))) (refused BlockRules) (Ok tt)
 
 check_cut : (r : Bed) (rows : List Row) → record_check r (targets_of (cut_rows rows)) (queries_of (cut_rows rows)) (sizes_of (cut_rows rows)) ≡ record_check r (targets_of rows) (queries_of rows) (sizes_of rows)
 unfolding record_check bed_valid
 check_cut r rows = rows_cut (check_seen r) (λ a b c d e f. refl) r.blockCount rows
 
-pub columns_checked : (r : Bed) (ts qs zs : List ℕ) (rows n : ℕ) (x : Check) → n ≡ min rows block_limit → x ≡ record_check r (take n ts) (take n qs) (take n zs)
+pub columns_checked : (r : Bed) (ts qs zs : List ℕ) (rows n : ℕ) (x : Result ⊤ Refusal) → n ≡ min rows block_limit → x ≡ record_check r (take n ts) (take n qs) (take n zs)
     → x ≡ record_check r (take (min rows block_limit) ts) (take (min rows block_limit) qs) (take (min rows block_limit) zs)
 columns_checked r ts qs zs rows n x e h = h ∙ ap (λ (m : ℕ). record_check r (take m ts) (take m qs) (take m zs)) e
 
@@ -99,12 +95,12 @@ text_front r chrom name ts qs zs h = rw (take-take r.blockCount r.blockCount ts 
 
 module _ (r : Bed) (chrom name : List ℕ) where
   -- the checks after the count of rows
-  abbrev rest : List ℕ → List ℕ → List ℕ → Check
+  abbrev rest : List ℕ → List ℕ → List ℕ → Result ⊤ Refusal
   rest ts qs zs =
       require (names_show r chrom name && strand_fits r) (refused BadWord)
-      (require (fields_fit r && row_numbers_fit ts qs zs) (refused NumberOutOfRange) (require (spans_fit r) (refused SpanDisagrees) (require (rows_fit r ts qs zs) (refused BlockRules) Holds)))
+      (require (fields_fit r && row_numbers_fit ts qs zs) (refused NumberOutOfRange) (require (spans_fit r) (refused SpanDisagrees) (require (rows_fit r ts qs zs) (refused BlockRules) (Ok tt))))
 
-  wrote_cut : (rows : List Row) (before after : List ℕ) (x : Writing) → BedWrote r chrom name (targets_of (cut_rows rows)) (queries_of (cut_rows rows)) (sizes_of (cut_rows rows)) before after x
+  wrote_cut : (rows : List Row) (before after : List ℕ) (x : Result ℕ Refusal) → BedWrote r chrom name (targets_of (cut_rows rows)) (queries_of (cut_rows rows)) (sizes_of (cut_rows rows)) before after x
       → BedWrote r chrom name (targets_of rows) (queries_of rows) (sizes_of rows) before after x
   unfolding bed_write write_check
   wrote_cut rows before after x h = record {
@@ -112,7 +108,7 @@ module _ (r : Bed) (chrom name : List ℕ) where
     left = kept_cut r.blockCount rest (λ ts qs zs. bed_text r chrom name ts zs) then_write (λ y w. refl) (text_front r chrom name) rows before after x h.is h.left;
   }
 
-pub columns_wrote : (r : Bed) (chrom name ts qs zs before after : List ℕ) (rows n : ℕ) (x : Writing) → n ≡ min rows block_limit → BedWrote r chrom name (take n ts) (take n qs) (take n zs) before after x
+pub columns_wrote : (r : Bed) (chrom name ts qs zs before after : List ℕ) (rows n : ℕ) (x : Result ℕ Refusal) → n ≡ min rows block_limit → BedWrote r chrom name (take n ts) (take n qs) (take n zs) before after x
     → BedWrote r chrom name (take (min rows block_limit) ts) (take (min rows block_limit) qs) (take (min rows block_limit) zs) before after x
 columns_wrote r chrom name ts qs zs before after rows n x e h = subst (λ (m : ℕ). BedWrote r chrom name (take m ts) (take m qs) (take m zs) before after x) e h
 
@@ -121,10 +117,10 @@ module _ (rows : List Row) (ts ts' qs qs' zs zs' : List ℕ) (room : Columns ts 
   abbrev part : ℕ
   part = min (length rows) block_limit
 
-  pub rows_checked : (r : Bed) (x : Check) → x ≡ record_check r (take part ts') (take part qs') (take part zs') → x ≡ record_check r (targets_of rows) (queries_of rows) (sizes_of rows)
+  pub rows_checked : (r : Bed) (x : Result ⊤ Refusal) → x ≡ record_check r (take part ts') (take part qs') (take part zs') → x ≡ record_check r (targets_of rows) (queries_of rows) (sizes_of rows)
   rows_checked r x e = (rw (loaded_targets rows ts ts' qs qs' zs zs' room h, loaded_queries rows ts ts' qs qs' zs zs' room h, loaded_sizes rows ts ts' qs qs' zs zs' room h) at e) ∙ check_cut r rows
 
-  pub rows_wrote : (r : Bed) (chrom name before after : List ℕ) (x : Writing) → BedWrote r chrom name (take part ts') (take part qs') (take part zs') before after x
+  pub rows_wrote : (r : Bed) (chrom name before after : List ℕ) (x : Result ℕ Refusal) → BedWrote r chrom name (take part ts') (take part qs') (take part zs') before after x
       → BedWrote r chrom name (targets_of rows) (queries_of rows) (sizes_of rows) before after x
   rows_wrote r chrom name before after x e =
       wrote_cut r chrom name rows before after x

@@ -6,13 +6,10 @@ use lib.ListN.{length, take, drop}
 use Rattle.ledger.specs.Limits.{text_limit}
 use Rattle.ledger.specs.declared.Row.{Row}
 use Rattle.ledger.specs.declared.Refusal.{Refusal}
-use Rattle.text.specs.declared.Check.TheVariants.{Holds}
 use Rattle.blocks.specs.Rows.{targets_of, queries_of, sizes_of}
 use Rattle.rows.proofs.StagingLaws.{table_front, put_same}
 use Rattle.rows.proofs.ReaderLaws.{read_of}
 use Rattle.bed.specs.declared.Bed.{Bed}
-use Rattle.bed.specs.declared.BedAnswer.{BedAnswer}
-use Rattle.bed.specs.declared.BedAnswer.TheVariants.{Accepted, Refused}
 use Rattle.bed.specs.Records.{bed_targets, bed_queries, bed_sizes, bed_rows}
 use Rattle.bed.specs.Tests.{bed_valid}
 use Rattle.bed.specs.Write.{write_check, bed_text, record_check}
@@ -21,13 +18,14 @@ use Rattle.bed_laws.proofs.ValidLaws.{accepted_valid}
 use Rattle.bed_laws.proofs.BackLaws.{back_read, back_targets, back_queries, back_sizes}
 use Rattle.table_bed.specs.Rows.{table_after, RowsRead}
 use Rattle.table_bed.proofs.RowLaws.{bed_reads, check_seen}
+use Rattle.std.specs.Prelude.{Ok, Err, Result}
 
 -- A REFUSAL leaves the table
-pub refused_rows_lem : (s : List ℕ) (y : Refusal) (before after : List Row) → RowsRead s before after (Refused y) → after ≡ before
+pub refused_rows_lem : (s : List ℕ) (y : Refusal) (before after : List Row) → RowsRead s before after (Err y) → after ≡ before
 refused_rows_lem s y before after h = h.rows
 
 -- WHAT A READER LEFT IS VALID: the record checker accepts the record with the table
-pub left_valid : (s : List ℕ) (r : Bed) (before after : List Row) → RowsRead s before after (Accepted r) → record_check r (targets_of after) (queries_of after) (sizes_of after) ≡ Holds
+pub left_valid : (s : List ℕ) (r : Bed) (before after : List Row) → RowsRead s before after (Ok r) → record_check r (targets_of after) (queries_of after) (sizes_of after) ≡ (Ok tt)
 unfolding record_check bed_valid
 left_valid s r before after h =
     let l = bed_reads s in
@@ -38,7 +36,7 @@ left_valid s r before after h =
 
 -- THE ROUND TRIP: the standard text of a record with the rows of a table is read as the same record, and those rows go to the front of any table that has rows
 -- enough
-module _ (r : Bed) (chrom name : List ℕ) (rows : List Row) (ok : write_check r chrom name (targets_of rows) (queries_of rows) (sizes_of rows) ≡ Holds)
+module _ (r : Bed) (chrom name : List ℕ) (rows : List Row) (ok : write_check r chrom name (targets_of rows) (queries_of rows) (sizes_of rows) ≡ (Ok tt))
     (short : length (bed_text r chrom name (targets_of rows) (sizes_of rows)) ≤ text_limit) where
   abbrev text : List ℕ
   text = bed_text r chrom name (targets_of rows) (sizes_of rows)
@@ -48,9 +46,9 @@ module _ (r : Bed) (chrom name : List ℕ) (rows : List Row) (ok : write_check r
       rw (back_targets r chrom name (targets_of rows) (queries_of rows) (sizes_of rows) ok short, back_queries r chrom name (targets_of rows) (queries_of rows) (sizes_of rows) ok short, back_sizes r chrom name (targets_of rows) (queries_of rows) (sizes_of rows) ok short)
       (table_front r.blockCount rows)
 
-  pub back_rows : (before after : List Row) (x : BedAnswer) → r.blockCount ≤ length before → RowsRead text before after x
-      → (x ≡ Accepted (placed text r)) × (after ≡ take r.blockCount rows ++ drop r.blockCount before)
+  pub back_rows : (before after : List Row) (x : Result Bed Refusal) → r.blockCount ≤ length before → RowsRead text before after x
+      → (x ≡ Ok (placed text r)) × (after ≡ take r.blockCount rows ++ drop r.blockCount before)
   unfolding placed
   back_rows before after x room h =
-      let e : x ≡ Accepted (placed text r) = h.is ∙ back_read r chrom name (targets_of rows) (queries_of rows) (sizes_of rows) ok short (length before) room in
-      (e, h.rows ∙ ap (λ (y : BedAnswer). table_after y text before) e ∙ ap (λ (l : List Row). l ++ drop r.blockCount before) spelt_rows)
+      let e : x ≡ Ok (placed text r) = h.is ∙ back_read r chrom name (targets_of rows) (queries_of rows) (sizes_of rows) ok short (length before) room in
+      (e, h.rows ∙ ap (λ (y : Result Bed Refusal). table_after y text before) e ∙ ap (λ (l : List Row). l ++ drop r.blockCount before) spelt_rows)

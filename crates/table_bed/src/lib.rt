@@ -9,10 +9,8 @@ ghost use Rattle.rows.specs.Staging.{Columns};
 ghost use Rattle.bed.specs.Write.{record_check, BedWrote};
 ghost use Rattle.table_bed.specs.Rows.{RowsRead, rows_filled, ColumnsRead};
 
-use bed::{Bed, BedAnswer};
-use ledger::Row;
-use text::Check;
-use writing::Writing;
+use bed::Bed;
+use ledger::{Refusal, Row};
 
 // Reads into three columns, for a table of so many rows.
 fn read_columns(
@@ -21,7 +19,7 @@ fn read_columns(
     targets: &mut [u64],
     queries: &mut [u64],
     sizes: &mut [u64],
-) -> BedAnswer
+) -> Result<Bed, Refusal>
     requires { Columns targets.old queries.old sizes.old }
     ensures { ColumnsRead text.now rows targets.new queries.new sizes.new result }
 {
@@ -30,18 +28,18 @@ fn read_columns(
 }
 
 // How many rows an answer fills.
-fn rows_filled(answer: BedAnswer) -> usize
+fn rows_filled(answer: Result<Bed, Refusal>) -> usize
     ensures { result ≡ rows_filled answer }
 {
     match answer {
-        BedAnswer::Accepted(r) => r.blockCount as usize,
-        BedAnswer::Refused(_) => 0,
+        Ok(r) => r.blockCount as usize,
+        Err(_) => 0,
     }
 }
 
 // THE READER: a BED line, its blocks to the first rows of a lent table. A refusal leaves the table as it was, and rows past the
 // blocks stay.
-pub fn read_bed(text: &[u8], table: &mut [Row]) -> BedAnswer
+pub fn read_bed(text: &[u8], table: &mut [Row]) -> Result<Bed, Refusal>
     ensures { RowsRead text.now table.old table.new result }
 {
     let mut targets: [u64; rows::ROOM] = [0; rows::ROOM];
@@ -54,7 +52,7 @@ pub fn read_bed(text: &[u8], table: &mut [Row]) -> BedAnswer
 }
 
 // Checks a record with the blocks that stand in three columns, for a table of so many rows.
-fn check_columns(r: Bed, rows: usize, targets: &[u64], queries: &[u64], sizes: &[u64]) -> Check
+fn check_columns(r: Bed, rows: usize, targets: &[u64], queries: &[u64], sizes: &[u64]) -> Result<(), Refusal>
     requires { Columns targets.now queries.now sizes.now }
     ensures { result ≡ record_check r (take (min rows block_limit) targets.now) (take (min rows block_limit) queries.now) (take (min rows block_limit) sizes.now) }
 {
@@ -63,7 +61,7 @@ fn check_columns(r: Bed, rows: usize, targets: &[u64], queries: &[u64], sizes: &
 }
 
 // THE RECORD CHECKER: a record with the first blockCount rows of a table; any breach is 9.
-pub fn check_bed(r: Bed, table: &[Row]) -> Check
+pub fn check_bed(r: Bed, table: &[Row]) -> Result<(), Refusal>
     ensures { result ≡ record_check r (targets_of table.now) (queries_of table.now) (sizes_of table.now) }
 {
     let mut targets: [u64; rows::ROOM] = [0; rows::ROOM];
@@ -83,7 +81,7 @@ fn write_columns(
     queries: &[u64],
     sizes: &[u64],
     buf: &mut [u8],
-) -> Writing
+) -> Result<usize, Refusal>
     requires { Columns targets.now queries.now sizes.now }
     ensures { BedWrote r chrom.now name.now (take (min rows block_limit) targets.now)
         (take (min rows block_limit) queries.now) (take (min rows block_limit) sizes.now) buf.old
@@ -103,7 +101,7 @@ fn write_columns(
 
 // THE WRITER: a record with its names and its rows to the front of a buffer, or the first refusal in the writers' order, which
 // leaves the buffer.
-pub fn write_bed(r: Bed, chrom: &[u8], name: &[u8], table: &[Row], buf: &mut [u8]) -> Writing
+pub fn write_bed(r: Bed, chrom: &[u8], name: &[u8], table: &[Row], buf: &mut [u8]) -> Result<usize, Refusal>
     ensures { BedWrote r chrom.now name.now (targets_of table.now) (queries_of table.now) (sizes_of table.now) buf.old buf.new result }
 {
     let mut targets: [u64; rows::ROOM] = [0; rows::ROOM];

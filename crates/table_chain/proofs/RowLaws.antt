@@ -14,12 +14,9 @@ use Rattle.ledger.specs.Limits.{block_limit}
 use Rattle.ledger.specs.declared.Row.{Row}
 use Rattle.ledger.specs.declared.Refusal.{Refusal}
 use Rattle.ledger.specs.declared.Reason.TheVariants.{NumberOutOfRange, BadWord, SpanDisagrees, BlockRules, NoRoom}
-use Rattle.text.specs.declared.Check.{Check}
-use Rattle.text.specs.declared.Check.TheVariants.{Holds}
 use Rattle.ledger.specs.Refusals.{require, fault_at, refusal_at}
 use Rattle.text.specs.Checks.{refused}
 use Rattle.writing.specs.Digits.{digits}
-use Rattle.writing.specs.declared.Writing.{Writing}
 use Rattle.blocks.specs.Blocks.{row_numbers_fit}
 use Rattle.blocks.specs.Rows.{targets_of, queries_of, sizes_of}
 use Rattle.rows.specs.Staging.{all_reach, Loaded, Columns, stored_rows}
@@ -27,8 +24,6 @@ use Rattle.rows.proofs.StagingLaws.{loaded_targets, loaded_queries, loaded_sizes
 use Rattle.rows.proofs.ReaderLaws.{Reads, columns_is, columns_held, rows_accepted, rows_refused}
 use Rattle.rows.proofs.WriterLaws.{written_cut, kept_cut}
 use Rattle.chain.specs.declared.Chain.{Chain}
-use Rattle.chain.specs.declared.ChainAnswer.{ChainAnswer}
-use Rattle.chain.specs.declared.ChainAnswer.TheVariants.{Accepted, Refused}
 use Rattle.chain.specs.Records.{chain_targets, chain_queries, chain_sizes}
 use Rattle.chain.specs.Read.{on_answer, chain_check, chain_read, ChainRead}
 use Rattle.ledger.specs.Strands.{is_told}
@@ -38,13 +33,14 @@ use Rattle.chain_laws.proofs.TextLaws.{text_of_lem}
 use Rattle.chain_laws.proofs.ValidLaws.{lines_target_count, lines_query_count}
 use Rattle.table_chain.specs.Rows.{table_after, RowsRead, rows_filled, ColumnsRead}
 use Rattle.columns.specs.Lines.{then_write}
+use Rattle.std.specs.Prelude.{Ok, Err, Result, ⊤}
 
 -- the reader as one of any format
-pub by_answer : (a : ChainAnswer) (P : Type 0) → ((r : Chain) → a ≡ Accepted r → P) → ((x : Refusal) → a ≡ Refused x → P) → P
-by_answer (Accepted r) P f g = f r refl
-by_answer (Refused x) P f g = g x refl
+pub by_answer : (a : Result Chain Refusal) (P : Type 0) → ((r : Chain) → a ≡ Ok r → P) → ((x : Refusal) → a ≡ Err x → P) → P
+by_answer (Ok r) P f g = f r refl
+by_answer (Err x) P f g = g x refl
 
-pub chain_reads : (s : List ℕ) → Reads Accepted Refused (λ (r : Chain). r.blockCount) rows_filled (chain_check s) (chain_read s) (refusal_at (fault_at NoRoom (length s))) (chain_targets s) (chain_queries s) (chain_sizes s)
+pub chain_reads : (s : List ℕ) → Reads Ok Err (λ (r : Chain). r.blockCount) rows_filled (chain_check s) (chain_read s) (refusal_at (fault_at NoRoom (length s))) (chain_targets s) (chain_queries s) (chain_sizes s)
 chain_reads s = record {
   cases = by_answer;
   apart = λ r x e. absurd (let z : ◌≡◌ {A = ℕ} 0 1 = cc in omega arith);
@@ -60,39 +56,39 @@ chain_reads s = record {
 }
 
 -- reading into three columns
-pub columns_read : (s ts qs zs t q z : List ℕ) (rows n : ℕ) (x : ChainAnswer) → Columns ts qs zs → n ≡ min rows block_limit
+pub columns_read : (s ts qs zs t q z : List ℕ) (rows n : ℕ) (x : Result Chain Refusal) → Columns ts qs zs → n ≡ min rows block_limit
     → ChainRead s (take n ts) t (take n qs) q (take n zs) z x → ColumnsRead s rows (put_mid 0 n ts t) (put_mid 0 n qs q) (put_mid 0 n zs z) x
 columns_read s ts qs zs t q z rows n x room e h = record {
   is = columns_is (chain_reads s) ts qs zs t q z rows n x room e h.is;
   held = λ r k. columns_held (chain_reads s) ts qs zs t q z rows n x room e h.is r k
-      (h.targets ∙ ap (λ (y : ChainAnswer). rows_after on_answer y (chain_targets s) (take n ts)) k)
-      (h.queries ∙ ap (λ (y : ChainAnswer). rows_after on_answer y (chain_queries s) (take n qs)) k)
-      (h.sizes ∙ ap (λ (y : ChainAnswer). rows_after on_answer y (chain_sizes s) (take n zs)) k);
+      (h.targets ∙ ap (λ (y : Result Chain Refusal). rows_after on_answer y (chain_targets s) (take n ts)) k)
+      (h.queries ∙ ap (λ (y : Result Chain Refusal). rows_after on_answer y (chain_queries s) (take n qs)) k)
+      (h.sizes ∙ ap (λ (y : Result Chain Refusal). rows_after on_answer y (chain_sizes s) (take n zs)) k);
 }
 
 -- the table after the rows of an answer were stored
-pub rows_read : (s ts qs zs : List ℕ) (before after : List Row) (n : ℕ) (x : ChainAnswer) → ColumnsRead s (length before) ts qs zs x → n ≡ rows_filled x
+pub rows_read : (s ts qs zs : List ℕ) (before after : List Row) (n : ℕ) (x : Result Chain Refusal) → ColumnsRead s (length before) ts qs zs x → n ≡ rows_filled x
     → after ≡ stored_rows n ts qs zs before → RowsRead s before after x
 rows_read s ts qs zs before after n x h e k = record {
   is = h.is;
   rows = by_answer x _
-      (λ r l. rows_accepted (chain_reads s) ts qs zs before after n x h.held e k r l ∙ ap (λ (y : ChainAnswer). table_after y s before) (sym l))
-      (λ w l. rows_refused (chain_reads s) ts qs zs before after n x h.held e k w l ∙ ap (λ (y : ChainAnswer). table_after y s before) (sym l));
+      (λ r l. rows_accepted (chain_reads s) ts qs zs before after n x h.held e k r l ∙ ap (λ (y : Result Chain Refusal). table_after y s before) (sym l))
+      (λ w l. rows_refused (chain_reads s) ts qs zs before after n x h.held e k w l ∙ ap (λ (y : Result Chain Refusal). table_after y s before) (sym l));
 }
 
-pub filled_accepted : (a : ChainAnswer) (r : Chain) → a ≡ Accepted r → r.blockCount ≡ rows_filled a
+pub filled_accepted : (a : Result Chain Refusal) (r : Chain) → a ≡ Ok r → r.blockCount ≡ rows_filled a
 filled_accepted a r e = rw e
 
 -- THE RECORD CHECKER, as it looks at the rows in use
-abbrev pub check_seen : Chain → Bool → List ℕ → List ℕ → List ℕ → Check
+abbrev pub check_seen : Chain → Bool → List ℕ → List ℕ → List ℕ → Result ⊤ Refusal
 check_seen r t ts qs zs =
-    require (t && (names_fit r.tName.length r.qName.length && (is_told r.qStrand && (fields_fit r && (row_numbers_fit ts qs zs && (spans_fit r && rows_fit r ts qs zs)))))) (refused BlockRules) Holds
+    require (t && (names_fit r.tName.length r.qName.length && (is_told r.qStrand && (fields_fit r && (row_numbers_fit ts qs zs && (spans_fit r && rows_fit r ts qs zs)))))) (refused BlockRules) (Ok tt)
 
 check_cut : (r : Chain) (rows : List Row) → record_check r (targets_of (cut_rows rows)) (queries_of (cut_rows rows)) (sizes_of (cut_rows rows)) ≡ record_check r (targets_of rows) (queries_of rows) (sizes_of rows)
 unfolding record_check chain_valid
 check_cut r rows = rows_cut (check_seen r) (λ a b c d e f. refl) r.blockCount rows
 
-pub columns_checked : (r : Chain) (ts qs zs : List ℕ) (rows n : ℕ) (x : Check) → n ≡ min rows block_limit → x ≡ record_check r (take n ts) (take n qs) (take n zs)
+pub columns_checked : (r : Chain) (ts qs zs : List ℕ) (rows n : ℕ) (x : Result ⊤ Refusal) → n ≡ min rows block_limit → x ≡ record_check r (take n ts) (take n qs) (take n zs)
     → x ≡ record_check r (take (min rows block_limit) ts) (take (min rows block_limit) qs) (take (min rows block_limit) zs)
 columns_checked r ts qs zs rows n x e h = h ∙ ap (λ (m : ℕ). record_check r (take m ts) (take m qs) (take m zs)) e
 
@@ -118,12 +114,12 @@ text_front r tName qName ts qs zs h = ap (λ (l : List ℕ). fed_words (head_wor
 
 module _ (r : Chain) (tName qName : List ℕ) where
   -- the checks after the count of rows
-  abbrev rest : List ℕ → List ℕ → List ℕ → Check
+  abbrev rest : List ℕ → List ℕ → List ℕ → Result ⊤ Refusal
   rest ts qs zs =
       require (names_show tName qName && is_told r.qStrand) (refused BadWord)
-      (require (fields_fit r && row_numbers_fit ts qs zs) (refused NumberOutOfRange) (require (spans_fit r) (refused SpanDisagrees) (require (rows_fit r ts qs zs) (refused BlockRules) Holds)))
+      (require (fields_fit r && row_numbers_fit ts qs zs) (refused NumberOutOfRange) (require (spans_fit r) (refused SpanDisagrees) (require (rows_fit r ts qs zs) (refused BlockRules) (Ok tt))))
 
-  wrote_cut : (rows : List Row) (before after : List ℕ) (x : Writing) → ChainWrote r tName qName (targets_of (cut_rows rows)) (queries_of (cut_rows rows)) (sizes_of (cut_rows rows)) before after x
+  wrote_cut : (rows : List Row) (before after : List ℕ) (x : Result ℕ Refusal) → ChainWrote r tName qName (targets_of (cut_rows rows)) (queries_of (cut_rows rows)) (sizes_of (cut_rows rows)) before after x
       → ChainWrote r tName qName (targets_of rows) (queries_of rows) (sizes_of rows) before after x
   unfolding chain_write write_check
   wrote_cut rows before after x h = record {
@@ -131,7 +127,7 @@ module _ (r : Chain) (tName qName : List ℕ) where
     left = kept_cut r.blockCount rest (chain_text r tName qName) then_write (λ y w. refl) (text_front r tName qName) rows before after x h.is h.left;
   }
 
-pub columns_wrote : (r : Chain) (tName qName ts qs zs before after : List ℕ) (rows n : ℕ) (x : Writing) → n ≡ min rows block_limit → ChainWrote r tName qName (take n ts) (take n qs) (take n zs) before after x
+pub columns_wrote : (r : Chain) (tName qName ts qs zs before after : List ℕ) (rows n : ℕ) (x : Result ℕ Refusal) → n ≡ min rows block_limit → ChainWrote r tName qName (take n ts) (take n qs) (take n zs) before after x
     → ChainWrote r tName qName (take (min rows block_limit) ts) (take (min rows block_limit) qs) (take (min rows block_limit) zs) before after x
 columns_wrote r tName qName ts qs zs before after rows n x e h = subst (λ (m : ℕ). ChainWrote r tName qName (take m ts) (take m qs) (take m zs) before after x) e h
 
@@ -140,10 +136,10 @@ module _ (rows : List Row) (ts ts' qs qs' zs zs' : List ℕ) (room : Columns ts 
   abbrev part : ℕ
   part = min (length rows) block_limit
 
-  pub rows_checked : (r : Chain) (x : Check) → x ≡ record_check r (take part ts') (take part qs') (take part zs') → x ≡ record_check r (targets_of rows) (queries_of rows) (sizes_of rows)
+  pub rows_checked : (r : Chain) (x : Result ⊤ Refusal) → x ≡ record_check r (take part ts') (take part qs') (take part zs') → x ≡ record_check r (targets_of rows) (queries_of rows) (sizes_of rows)
   rows_checked r x e = (rw (loaded_targets rows ts ts' qs qs' zs zs' room h, loaded_queries rows ts ts' qs qs' zs zs' room h, loaded_sizes rows ts ts' qs qs' zs zs' room h) at e) ∙ check_cut r rows
 
-  pub rows_wrote : (r : Chain) (tName qName before after : List ℕ) (x : Writing) → ChainWrote r tName qName (take part ts') (take part qs') (take part zs') before after x
+  pub rows_wrote : (r : Chain) (tName qName before after : List ℕ) (x : Result ℕ Refusal) → ChainWrote r tName qName (take part ts') (take part qs') (take part zs') before after x
       → ChainWrote r tName qName (targets_of rows) (queries_of rows) (sizes_of rows) before after x
   rows_wrote r tName qName before after x e =
       wrote_cut r tName qName rows before after x

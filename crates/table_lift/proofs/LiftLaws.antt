@@ -13,11 +13,9 @@ use Rattle.blocks.specs.Rows.{table_of}
 use Rattle.rows.specs.Staging.{staged_rows, all_reach, Loaded, Columns}
 use Rattle.rows.proofs.StagingLaws.{cut_rows, staged_parts, staged_loaded}
 use Rattle.chain.specs.declared.Chain.{Chain}
-use Rattle.lift.specs.declared.PositionAnswer.{PositionAnswer}
 use Rattle.lift.specs.Pairs.{Pair, forward, pairs_of, pairs, partner_of}
 use Rattle.lift.proofs.CutLaws.{seen_cut}
 use Rattle.lift.specs.Positions.{not_lifted, at_partner, lift_position}
-use Rattle.region.specs.declared.RegionAnswer.{RegionAnswer}
 use Rattle.region.specs.declared.Tally.{Tally}
 use Rattle.region.specs.declared.Tallied.{Tallied}
 use Rattle.region.specs.Regions.{kept, dropped, not_lifted as notRegion, inside, carried, lift_region}
@@ -26,6 +24,9 @@ use Rattle.region.specs.declared.Batched.{Batched}
 use Rattle.region.specs.Batches.{BatchDone}
 use Rattle.region.proofs.BatchLaws.{done_same}
 use Rattle.table_lift.specs.Lifts.{RegionTallied, BatchLifted}
+use Rattle.std.specs.Prelude.{Result, ℤ}
+use Rattle.ledger.specs.declared.Refusal.{Refusal}
+use Rattle.region.specs.declared.Region.{Region}
 
 -- on the rows that are staged, each is what it is on the table
 position_cut : (c : Chain) (rows : List Row) (p : ℕ) → lift_position c (cut_rows rows) p ≡ lift_position c rows p
@@ -53,10 +54,10 @@ step_cut t c rows a e = seen_cut (λ (ok : Bool) (bs : List Row). step_seen t c 
 
 -- the part of the columns that the table fills
 module _ (c : Chain) (rows n : ℕ) (ts qs zs : List ℕ) (h : n ≡ min rows block_limit) where
-  pub position_staged : (p : ℕ) (x : PositionAnswer) → x ≡ lift_position c (table_of (take n ts) (take n qs) (take n zs)) p → x ≡ lift_position c (staged_rows rows ts qs zs) p
+  pub position_staged : (p : ℕ) (x : Result (ℕ × ℤ) Refusal) → x ≡ lift_position c (table_of (take n ts) (take n qs) (take n zs)) p → x ≡ lift_position c (staged_rows rows ts qs zs) p
   position_staged p x k = k ∙ ap (λ (l : List Row). lift_position c l p) (staged_parts rows n ts qs zs h)
 
-  pub region_staged : (a e : ℕ) (x : RegionAnswer) → x ≡ lift_region c (table_of (take n ts) (take n qs) (take n zs)) a e → x ≡ lift_region c (staged_rows rows ts qs zs) a e
+  pub region_staged : (a e : ℕ) (x : Result Region Refusal) → x ≡ lift_region c (table_of (take n ts) (take n qs) (take n zs)) a e → x ≡ lift_region c (staged_rows rows ts qs zs) a e
   region_staged a e x k = k ∙ ap (λ (l : List Row). lift_region c l a e) (staged_parts rows n ts qs zs h)
 
   pub step_staged : (t : Tally) (a e : ℕ) (x : Tallied) → x ≡ tally_step t c (table_of (take n ts) (take n qs) (take n zs)) a e → x ≡ tally_step t c (staged_rows rows ts qs zs) a e
@@ -74,10 +75,10 @@ module _ (rows : List Row) (ts ts' qs qs' zs zs' : List ℕ) (room : Columns ts 
   here : bs ≡ cut_rows rows
   here = staged_loaded rows ts ts' qs qs' zs zs' room h
 
-  pub position_lifted_lem : (c : Chain) (p : ℕ) (x : PositionAnswer) → x ≡ lift_position c bs p → x ≡ lift_position c rows p
+  pub position_lifted_lem : (c : Chain) (p : ℕ) (x : Result (ℕ × ℤ) Refusal) → x ≡ lift_position c bs p → x ≡ lift_position c rows p
   position_lifted_lem c p x k = k ∙ ap (λ (l : List Row). lift_position c l p) here ∙ position_cut c rows p
 
-  pub region_lifted_lem : (c : Chain) (a e : ℕ) (x : RegionAnswer) → x ≡ lift_region c bs a e → x ≡ lift_region c rows a e
+  pub region_lifted_lem : (c : Chain) (a e : ℕ) (x : Result Region Refusal) → x ≡ lift_region c bs a e → x ≡ lift_region c rows a e
   region_lifted_lem c a e x k = k ∙ ap (λ (l : List Row). lift_region c l a e) here ∙ region_cut c rows a e
 
   pub region_tallied : (t : Tally) (c : Chain) (a e : ℕ) (x : Tallied) → x ≡ tally_step t c bs a e → RegionTallied t c rows a e x.tally x.answer

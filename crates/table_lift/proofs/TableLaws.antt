@@ -8,32 +8,31 @@ use borrow.Author.Tests.{lt-leb, le-leb}
 use Rattle.ledger.specs.declared.Row.{Row}
 use Rattle.ledger.specs.declared.Refusal.{Refusal}
 use Rattle.ledger.specs.declared.Reason.TheVariants.{NoRoom, NoPair}
-use Rattle.text.specs.declared.Check.TheVariants as check
 use Rattle.chain.specs.declared.Chain.{Chain}
 use Rattle.region.specs.declared.Tally.{Tally}
-use Rattle.region.specs.declared.RegionAnswer.TheVariants.{Refused}
 use Rattle.region.specs.Tallies.{grown, Sent, sums, zero_tally, sent_through}
 use Rattle.region.specs.Batches.{batch_check, Call, single, many, sent_by, sent_by_all}
 use Rattle.region.proofs.TallyLaws.{refused_leaves, refused_adds, sent_append, batch}
 use Rattle.region.proofs.BatchLaws.{batch_left}
 use Rattle.lift.proofs.RunLaws.{either}
 use Rattle.table_lift.specs.Lifts.{RegionTallied, BatchLifted, Called, called_single, called_many, Calls, calls_none, calls_more}
+use Rattle.std.specs.Prelude.{Ok, Err}
 
 -- A REFUSAL other than 12 leaves the tally
-pub tally_left : (t u : Tally) (c : Chain) (rows : List Row) (a e : ℕ) (x : Refusal) → RegionTallied t c rows a e u (Refused x) → (x.reason ≡ NoPair → ⊥) → u ≡ t
+pub tally_left : (t u : Tally) (c : Chain) (rows : List Row) (a e : ℕ) (x : Refusal) → RegionTallied t c rows a e u (Err x) → (x.reason ≡ NoPair → ⊥) → u ≡ t
 tally_left t u c rows a e x h n = h.tally ∙ refused_leaves t c rows a e x (sym h.is) n
 
 -- a region refused by 12 adds its length to asked and dropped
-pub tally_added : (t u : Tally) (c : Chain) (rows : List Row) (a e : ℕ) (x : Refusal) → RegionTallied t c rows a e u (Refused x) → x.reason ≡ NoPair → u ≡ grown t (e - a) 0 (e - a)
+pub tally_added : (t u : Tally) (c : Chain) (rows : List Row) (a e : ℕ) (x : Refusal) → RegionTallied t c rows a e u (Err x) → x.reason ≡ NoPair → u ≡ grown t (e - a) 0 (e - a)
 tally_added t u c rows a e x h n = h.tally ∙ refused_adds t c rows a e x (sym h.is) n
 
 -- A BATCH is refused by 11 alone, which leaves the tally and every row
-pub batch_refused : (t u : Tally) (c : Chain) (rows : List Row) (regions before after : List (List ℕ)) (x : Refusal) → BatchLifted t c rows regions before u after (check.Refused x)
+pub batch_refused : (t u : Tally) (c : Chain) (rows : List Row) (regions before after : List (List ℕ)) (x : Refusal) → BatchLifted t c rows regions before u after (Err x)
     → (x ≡ record { reason = NoRoom; place = 0 }) × (u ≡ t) × (after ≡ before)
 unfolding batch_check
 batch_refused t u c rows regions before after x h = either (length regions) (length before) _
-    (λ k. absurd (let w : check.Refused x ≡ check.Holds = rw (le-leb (length regions) (length before) k) at h.check in let z : ◌≡◌ {A = ℕ} 0 1 = cc in omega arith))
-    (λ k. let w : check.Refused x ≡ check.Refused (record { reason = NoRoom; place = 0 }) = rw (lt-leb (length regions) (length before) k) at h.check in
+    (λ k. absurd (let w : Err x ≡ (Ok tt) = rw (le-leb (length regions) (length before) k) at h.check in let z : ◌≡◌ {A = ℕ} 0 1 = cc in omega arith))
+    (λ k. let w : Err x ≡ Err (record { reason = NoRoom; place = 0 }) = rw (lt-leb (length regions) (length before) k) at h.check in
     let n = batch_left t c rows regions before after _ h k in (cc, n.1, n.0))
 
 -- a call leaves what its regions leave, sent one by one

@@ -12,10 +12,8 @@ ghost use Rattle.region.specs.Batches.{BatchDone};
 ghost use Rattle.table_lift.specs.Lifts.{RegionTallied, BatchLifted};
 
 use chain::Chain;
-use ledger::Row;
-use lift::PositionAnswer;
-use region::{Batched, RegionAnswer, Tallied, Tally};
-use text::Check;
+use ledger::{Refusal, Row};
+use region::{Batched, Region, Tallied, Tally};
 
 // Lifts a position through a chain whose blocks stand in three columns, for a table of so many rows.
 fn position_columns(
@@ -25,7 +23,7 @@ fn position_columns(
     queries: &[u64],
     sizes: &[u64],
     p: u64,
-) -> PositionAnswer
+) -> Result<(u64, i64), Refusal>
     requires { Columns targets.now queries.now sizes.now }
     ensures { result ≡ lift_position c (staged_rows rows targets.now queries.now sizes.now) p }
 {
@@ -34,7 +32,7 @@ fn position_columns(
 }
 
 // THE LIFT OF A POSITION through a record with the first blockCount rows of a table.
-pub fn lift_position(c: Chain, table: &[Row], p: u64) -> PositionAnswer
+pub fn lift_position(c: Chain, table: &[Row], p: u64) -> Result<(u64, i64), Refusal>
     ensures { result ≡ lift_position c table.now p }
 {
     let mut targets: [u64; rows::ROOM] = [0; rows::ROOM];
@@ -53,7 +51,7 @@ fn region_columns(
     sizes: &[u64],
     start: u64,
     end: u64,
-) -> RegionAnswer
+) -> Result<Region, Refusal>
     requires { Columns targets.now queries.now sizes.now }
     ensures { result ≡ lift_region c (staged_rows rows targets.now queries.now sizes.now) start end }
 {
@@ -62,7 +60,7 @@ fn region_columns(
 }
 
 // THE LIFT OF A REGION, its bases start to end − 1, through a record with the first blockCount rows of a table.
-pub fn lift_region(c: Chain, table: &[Row], start: u64, end: u64) -> RegionAnswer
+pub fn lift_region(c: Chain, table: &[Row], start: u64, end: u64) -> Result<Region, Refusal>
     ensures { result ≡ lift_region c table.now start end }
 {
     let mut targets: [u64; rows::ROOM] = [0; rows::ROOM];
@@ -106,7 +104,7 @@ pub fn tally_region(
     table: &[Row],
     start: u64,
     end: u64,
-) -> RegionAnswer
+) -> Result<Region, Refusal>
     ensures { RegionTallied tally.old c table.now start end tally.new result }
 {
     let mut targets: [u64; rows::ROOM] = [0; rows::ROOM];
@@ -162,7 +160,7 @@ pub fn lift_batch(
     table: &[Row],
     regions: &[[u64; 2]],
     answers: &mut [[u64; 5]],
-) -> Check
+) -> Result<(), Refusal>
     ensures { BatchLifted tally.old c table.now regions.now answers.old
         tally.new answers.new result }
 {

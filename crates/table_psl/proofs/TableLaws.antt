@@ -6,13 +6,10 @@ use lib.ListN.{length, take, drop}
 use Rattle.ledger.specs.Limits.{text_limit}
 use Rattle.ledger.specs.declared.Row.{Row}
 use Rattle.ledger.specs.declared.Refusal.{Refusal}
-use Rattle.text.specs.declared.Check.TheVariants.{Holds}
 use Rattle.blocks.specs.Rows.{targets_of, queries_of, sizes_of}
 use Rattle.rows.proofs.StagingLaws.{table_front, put_same}
 use Rattle.rows.proofs.ReaderLaws.{read_of}
 use Rattle.psl.specs.declared.Psl.{Psl}
-use Rattle.psl.specs.declared.PslAnswer.{PslAnswer}
-use Rattle.psl.specs.declared.PslAnswer.TheVariants.{Accepted, Refused}
 use Rattle.psl.specs.Records.{psl_targets, psl_queries, psl_sizes, psl_rows}
 use Rattle.psl.specs.Tests.{psl_valid}
 use Rattle.psl.specs.Write.{write_check, psl_text, record_check}
@@ -21,13 +18,14 @@ use Rattle.psl_laws.proofs.ValidLaws.{accepted_valid}
 use Rattle.psl_laws.proofs.BackLaws.{back_read, back_targets, back_queries, back_sizes}
 use Rattle.table_psl.specs.Rows.{table_after, RowsRead}
 use Rattle.table_psl.proofs.RowLaws.{psl_reads, check_seen}
+use Rattle.std.specs.Prelude.{Ok, Err, Result}
 
 -- A REFUSAL leaves the table
-pub refused_rows_lem : (s : List ℕ) (y : Refusal) (before after : List Row) → RowsRead s before after (Refused y) → after ≡ before
+pub refused_rows_lem : (s : List ℕ) (y : Refusal) (before after : List Row) → RowsRead s before after (Err y) → after ≡ before
 refused_rows_lem s y before after h = h.rows
 
 -- WHAT A READER LEFT IS VALID: the record checker accepts the record with the table
-pub left_valid : (s : List ℕ) (r : Psl) (before after : List Row) → RowsRead s before after (Accepted r) → record_check r (targets_of after) (queries_of after) (sizes_of after) ≡ Holds
+pub left_valid : (s : List ℕ) (r : Psl) (before after : List Row) → RowsRead s before after (Ok r) → record_check r (targets_of after) (queries_of after) (sizes_of after) ≡ (Ok tt)
 unfolding record_check psl_valid
 left_valid s r before after h =
     let l = psl_reads s in
@@ -38,7 +36,7 @@ left_valid s r before after h =
 
 -- THE ROUND TRIP: the standard text of a record with the rows of a table is read as the same record, and those rows go to the front of any table that has rows
 -- enough
-module _ (r : Psl) (qName tName : List ℕ) (rows : List Row) (ok : write_check r qName tName (targets_of rows) (queries_of rows) (sizes_of rows) ≡ Holds)
+module _ (r : Psl) (qName tName : List ℕ) (rows : List Row) (ok : write_check r qName tName (targets_of rows) (queries_of rows) (sizes_of rows) ≡ (Ok tt))
     (short : length (psl_text r qName tName (targets_of rows) (queries_of rows) (sizes_of rows)) ≤ text_limit) where
   abbrev text : List ℕ
   text = psl_text r qName tName (targets_of rows) (queries_of rows) (sizes_of rows)
@@ -48,9 +46,9 @@ module _ (r : Psl) (qName tName : List ℕ) (rows : List Row) (ok : write_check 
       rw (back_targets r qName tName (targets_of rows) (queries_of rows) (sizes_of rows) ok short, back_queries r qName tName (targets_of rows) (queries_of rows) (sizes_of rows) ok short, back_sizes r qName tName (targets_of rows) (queries_of rows) (sizes_of rows) ok short)
       (table_front r.blockCount rows)
 
-  pub back_rows : (before after : List Row) (x : PslAnswer) → r.blockCount ≤ length before → RowsRead text before after x
-      → (x ≡ Accepted (placed text r)) × (after ≡ take r.blockCount rows ++ drop r.blockCount before)
+  pub back_rows : (before after : List Row) (x : Result Psl Refusal) → r.blockCount ≤ length before → RowsRead text before after x
+      → (x ≡ Ok (placed text r)) × (after ≡ take r.blockCount rows ++ drop r.blockCount before)
   unfolding placed
   back_rows before after x room h =
-      let e : x ≡ Accepted (placed text r) = h.is ∙ back_read r qName tName (targets_of rows) (queries_of rows) (sizes_of rows) ok short (length before) room in
-      (e, h.rows ∙ ap (λ (y : PslAnswer). table_after y text before) e ∙ ap (λ (l : List Row). l ++ drop r.blockCount before) spelt_rows)
+      let e : x ≡ Ok (placed text r) = h.is ∙ back_read r qName tName (targets_of rows) (queries_of rows) (sizes_of rows) ok short (length before) room in
+      (e, h.rows ∙ ap (λ (y : Result Psl Refusal). table_after y text before) e ∙ ap (λ (l : List Row). l ++ drop r.blockCount before) spelt_rows)

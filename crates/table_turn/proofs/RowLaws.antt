@@ -20,16 +20,16 @@ use Rattle.chain.specs.declared.Chain.{Chain}
 use Rattle.lift.specs.Accepted.{accepted}
 use Rattle.lift.proofs.AcceptLaws.{accepted_rules}
 use Rattle.lift.proofs.CutLaws.{used_cut, seen_cut}
-use Rattle.turn.specs.declared.TurnAnswer.{TurnAnswer}
-use Rattle.turn.specs.declared.TurnAnswer.TheVariants.{Turned, Refused}
 use Rattle.turn.specs.Turns.{turned_rows_on, turned_rows, turned, not_turned, turn, column_after, TurnedInto}
 use Rattle.turn.proofs.TurnLaws.{counted_lem, turnable}
 use Rattle.table_turn.specs.Turns.{table_after, RowsTurned, rows_filled, ColumnsTurned}
+use Rattle.std.specs.Prelude.{Ok, Err, Result}
+use Rattle.ledger.specs.declared.Refusal.{Refusal}
 
 -- on the rows that are staged, the answer and the turned rows are those of the table
 turn_cut : (c : Chain) (rows : List Row) (room : ℕ) → turn c (cut_rows rows) room ≡ turn c rows room
 unfolding turn
-turn_cut c rows room = seen_cut (λ (t : Bool) (bs : List Row). require t (not_turned BlockRules) (require (leb c.blockCount room) (not_turned NoRoom) (Turned (turned c)))) (λ a b. refl) c rows
+turn_cut c rows room = seen_cut (λ (t : Bool) (bs : List Row). require t (not_turned BlockRules) (require (leb c.blockCount room) (not_turned NoRoom) (Ok (turned c)))) (λ a b. refl) c rows
 
 turned_cut : (c : Chain) (rows : List Row) → accepted c rows ≡ true → turned_rows c (cut_rows rows) ≡ turned_rows c rows
 unfolding turned_rows
@@ -41,7 +41,7 @@ unfolding turn
 enough_cut c rows room = go (accepted c rows) refl
   where
     go : (t : Bool) → accepted c rows ≡ t
-        → require t (not_turned BlockRules) (require (leb c.blockCount (min room block_limit)) (not_turned NoRoom) (Turned (turned c))) ≡ require t (not_turned BlockRules) (require (leb c.blockCount room) (not_turned NoRoom) (Turned (turned c)))
+        → require t (not_turned BlockRules) (require (leb c.blockCount (min room block_limit)) (not_turned NoRoom) (Ok (turned c))) ≡ require t (not_turned BlockRules) (require (leb c.blockCount room) (not_turned NoRoom) (Ok (turned c)))
     go true e = rw (room_cut c.blockCount room (accepted_rules c rows e).few_blocks)
     go false e = refl
 
@@ -50,7 +50,7 @@ unfolding turned
 turned_count c d e = ap (λ (y : Chain). y.blockCount) e
 
 -- turning into three columns
-module _ (c : Chain) (rows : List Row) (ts qs zs t q z : List ℕ) (room n : ℕ) (x : TurnAnswer) (cols : Columns ts qs zs) (e : n ≡ min room block_limit)
+module _ (c : Chain) (rows : List Row) (ts qs zs t q z : List ℕ) (room n : ℕ) (x : Result Chain Refusal) (cols : Columns ts qs zs) (e : n ≡ min room block_limit)
     (h : TurnedInto c rows (take n ts) (take n qs) (take n zs) t q z x) where
   abbrev new : List Row
   new = turned_rows c rows
@@ -73,24 +73,24 @@ module _ (c : Chain) (rows : List Row) (ts qs zs t q z : List ℕ) (room n : ℕ
         let many : length new ≡ d.blockCount = counted_lem c rows o.ok ∙ sym same in
         fronts_made d.blockCount room n (targets_of new) (queries_of new) (sizes_of new) ts qs zs t q z cols e few
         (length-map new (λ (b : Row). b.target) ∙ many) (length-map new (λ (b : Row). b.query) ∙ many) (length-map new (λ (b : Row). b.size) ∙ many)
-        (h.targets ∙ ap (λ (y : TurnAnswer). column_after y (targets_of new) (take n ts)) k)
-        (h.queries ∙ ap (λ (y : TurnAnswer). column_after y (queries_of new) (take n qs)) k)
-        (h.sizes ∙ ap (λ (y : TurnAnswer). column_after y (sizes_of new) (take n zs)) k);
+        (h.targets ∙ ap (λ (y : Result Chain Refusal). column_after y (targets_of new) (take n ts)) k)
+        (h.queries ∙ ap (λ (y : Result Chain Refusal). column_after y (queries_of new) (take n qs)) k)
+        (h.sizes ∙ ap (λ (y : Result Chain Refusal). column_after y (sizes_of new) (take n zs)) k);
   }
 
-pub columns_turned : (c : Chain) (rows room m n : ℕ) (xs ys ws ts qs zs t q z : List ℕ) (x : TurnAnswer) → Columns xs ys ws × Columns ts qs zs → m ≡ min rows block_limit → n ≡ min room block_limit
+pub columns_turned : (c : Chain) (rows room m n : ℕ) (xs ys ws ts qs zs t q z : List ℕ) (x : Result Chain Refusal) → Columns xs ys ws × Columns ts qs zs → m ≡ min rows block_limit → n ≡ min room block_limit
     → TurnedInto c (table_of (take m xs) (take m ys) (take m ws)) (take n ts) (take n qs) (take n zs) t q z x
     → ColumnsTurned c (staged_rows rows xs ys ws) room (put_mid 0 n ts t) (put_mid 0 n qs q) (put_mid 0 n zs z) x
 columns_turned c rows room m n xs ys ws ts qs zs t q z x cols d e h =
     subst (λ (l : List Row). ColumnsTurned c l room (put_mid 0 n ts t) (put_mid 0 n qs q) (put_mid 0 n zs z) x) (staged_parts rows m xs ys ws d)
     (into_columns c (table_of (take m xs) (take m ys) (take m ws)) ts qs zs t q z room n x cols.1 e h)
 
-pub filled_turned : (a : TurnAnswer) (d : Chain) → a ≡ Turned d → d.blockCount ≡ rows_filled a
+pub filled_turned : (a : Result Chain Refusal) (d : Chain) → a ≡ Ok d → d.blockCount ≡ rows_filled a
 filled_turned a d e = rw e
 
 -- the table after the rows of an answer were stored
 module _ (rows : List Row) (ts ts' qs qs' zs zs' : List ℕ) (room : Columns ts qs zs) (h : Loaded (all_reach (length rows) ts qs zs) rows ts ts' qs qs' zs zs')
-    (c : Chain) (us vs ws : List ℕ) (before after : List Row) (n : ℕ) (x : TurnAnswer) where
+    (c : Chain) (us vs ws : List ℕ) (before after : List Row) (n : ℕ) (x : Result Chain Refusal) where
   abbrev bs : List Row
   bs = staged_rows (length rows) ts' qs' zs'
 
@@ -103,9 +103,9 @@ module _ (rows : List Row) (ts ts' qs qs' zs zs' : List ℕ) (room : Columns ts 
       is : x ≡ turn c rows (length before)
       is = w.is ∙ ap (λ (l : List Row). turn c l (length before)) here ∙ turn_cut c rows (length before)
 
-      same : (d : Chain) → x ≡ Turned d → turned_rows c bs ≡ turned_rows c rows
+      same : (d : Chain) → x ≡ Ok d → turned_rows c bs ≡ turned_rows c rows
       same d l = ap (turned_rows c) here ∙ turned_cut c rows (turnable c rows (length before) d (sym l ∙ is)).ok
 
-      go : (y : TurnAnswer) → x ≡ y → stored_rows (rows_filled y) us vs ws before ≡ table_after y (turned_rows c rows) before
-      go (Turned d) l = fronts_stored d.blockCount _ _ _ us vs ws before (w.held d l) ∙ ap (λ (r : List Row). r ++ drop d.blockCount before) (table_back (turned_rows c bs) ∙ same d l)
-      go (Refused y) l = none_stored us vs ws before
+      go : (y : Result Chain Refusal) → x ≡ y → stored_rows (rows_filled y) us vs ws before ≡ table_after y (turned_rows c rows) before
+      go (Ok d) l = fronts_stored d.blockCount _ _ _ us vs ws before (w.held d l) ∙ ap (λ (r : List Row). r ++ drop d.blockCount before) (table_back (turned_rows c bs) ∙ same d l)
+      go (Err y) l = none_stored us vs ws before

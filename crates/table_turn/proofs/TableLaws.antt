@@ -7,16 +7,16 @@ use lib.Seq.{take-append_seam}
 use Rattle.ledger.specs.declared.Row.{Row}
 use Rattle.ledger.specs.declared.Refusal.{Refusal}
 use Rattle.chain.specs.declared.Chain.{Chain}
-use Rattle.turn.specs.declared.TurnAnswer.TheVariants.{Turned, Refused}
 use Rattle.turn.specs.Turns.{turned_rows}
 use Rattle.turn.proofs.TurnLaws.{counted_lem, Turnable, turnable, Turning, turning_of}
 use Rattle.table_turn.specs.Turns.{RowsTurned}
+use Rattle.std.specs.Prelude.{Ok, Err}
 
 -- A REFUSAL leaves the table
-pub refused_rows_lem : (c : Chain) (rows before after : List Row) (y : Refusal) → RowsTurned c rows before after (Refused y) → after ≡ before
+pub refused_rows_lem : (c : Chain) (rows before after : List Row) (y : Refusal) → RowsTurned c rows before after (Err y) → after ≡ before
 refused_rows_lem c rows before after y h = h.table
 
-module _ (c : Chain) (rows before after : List Row) (d : Chain) (h : RowsTurned c rows before after (Turned d)) where
+module _ (c : Chain) (rows before after : List Row) (d : Chain) (h : RowsTurned c rows before after (Ok d)) where
   made : Turnable c rows (length before) d
   made = turnable c rows (length before) d h.is
 

@@ -7,8 +7,7 @@ ghost use Rattle.rows.specs.Staging.{Columns, staged_rows};
 ghost use Rattle.table_turn.specs.Turns.{RowsTurned, rows_filled, ColumnsTurned};
 
 use chain::Chain;
-use ledger::Row;
-use turn::TurnAnswer;
+use ledger::{Refusal, Row};
 
 // Turns a chain whose blocks stand in three columns, for a table of so many rows, into three other columns, for a table of so much
 // room.
@@ -22,7 +21,7 @@ fn turn_columns(
     newTargets: &mut [u64],
     newQueries: &mut [u64],
     newSizes: &mut [u64],
-) -> TurnAnswer
+) -> Result<Chain, Refusal>
     requires { Columns targets.now queries.now sizes.now × Columns newTargets.old newQueries.old newSizes.old }
     ensures { ColumnsTurned c (staged_rows rows targets.now queries.now sizes.now) room
         newTargets.new newQueries.new newSizes.new result }
@@ -41,18 +40,18 @@ fn turn_columns(
 }
 
 // How many rows an answer fills.
-fn rows_filled(answer: TurnAnswer) -> usize
+fn rows_filled(answer: Result<Chain, Refusal>) -> usize
     ensures { result ≡ rows_filled answer }
 {
     match answer {
-        TurnAnswer::Turned(d) => d.blockCount as usize,
-        TurnAnswer::Refused(_) => 0,
+        Ok(d) => d.blockCount as usize,
+        Err(_) => 0,
     }
 }
 
 // THE TURN of a record with the first blockCount rows of a table; the turned rows go to the first rows of another. A refusal leaves
 // that as it was, and rows past the turned ones stay.
-pub fn turn_chain(c: Chain, table: &[Row], turned: &mut [Row]) -> TurnAnswer
+pub fn turn_chain(c: Chain, table: &[Row], turned: &mut [Row]) -> Result<Chain, Refusal>
     ensures { RowsTurned c table.now turned.old turned.new result }
 {
     let mut targets: [u64; rows::ROOM] = [0; rows::ROOM];

@@ -11,7 +11,6 @@ use Rattle.ledger.specs.Limits.{text_limit}
 use Rattle.ledger.specs.declared.Reason.TheVariants.{WrongCount}
 use Rattle.text.specs.declared.Class.{Class}
 use Rattle.text.specs.declared.Class.TheVariants.{Blank, Line, Allowed}
-use Rattle.text.specs.declared.Stage.TheVariants.{Passes, Faulty}
 use Rattle.text.specs.declared.Extent.{Extent}
 use Rattle.text.specs.Scan.{is_in, one_more, run, end_of}
 use Rattle.text.specs.Checks.{text_check, last_line_check, words_check}
@@ -21,6 +20,7 @@ use Rattle.text.proofs.StageLaws.{require_passes}
 use Rattle.text.proofs.Laws.{either, text_good, line_last}
 use Rattle.text.proofs.TextLaws.{All, all_append, in_allowed}
 use Rattle.text.proofs.PieceLaws.{lines_none, lines_step, pieces_join, Worded, worded_more, joined_in_line, line_joined}
+use Rattle.std.specs.Prelude.{Ok, Err}
 
 -- a scan ends in the text
 pub run_most : (c : Class) (s : List ℕ) → run c s ≤ length s
@@ -38,7 +38,7 @@ empty_none = refl
 
 -- the text's length and bytes
 module _ (s : List ℕ) where
-  pub text_of_lem : text_check s ≡ Passes → (length s ≤ text_limit) × (run Allowed s ≡ length s)
+  pub text_of_lem : text_check s ≡ (Ok tt) → (length s ≤ text_limit) × (run Allowed s ≡ length s)
   unfolding text_check end_of
   text_of_lem e =
       let a = require_passes (leb (length s) text_limit) _ _ e in
@@ -46,7 +46,7 @@ module _ (s : List ℕ) where
       let l : length s ≤ 0 + run Allowed s = leb-true (length s) (end_of Allowed s 0) b.0 in
       (leb-true (length s) text_limit a.0, omega (arith, run_most Allowed s))
 
-  pub text_is : length s ≤ text_limit → run Allowed s ≡ length s → text_check s ≡ Passes
+  pub text_is : length s ≤ text_limit → run Allowed s ≡ length s → text_check s ≡ (Ok tt)
   unfolding end_of
   text_is h e = sym (text_good s (end_of Allowed s 0) h refl (omega arith))
 
@@ -60,13 +60,13 @@ module _ (s : List ℕ) where
   pub lines_split : 0 < length s → lines_of s ≡ line_of s ∷ lines_of (drop (next_line s 0) s)
   lines_split h = lines_step s 0 h ∙ ap (λ (l : List ℕ). l ∷ lines_of (drop (next_line s 0) s)) line_is_first
 
-  pub one_of : 0 < length s → last_line_check s 0 ≡ Passes → lines_of s ≡ line_of s ∷ []
+  pub one_of : 0 < length s → last_line_check s 0 ≡ (Ok tt) → lines_of s ≡ line_of s ∷ []
   unfolding last_line_check
   one_of h e =
       let l = leb-true (length s) (next_line s 0) (require_passes (leb (length s) (next_line s 0)) _ _ e).0 in
       lines_split h ∙ rw (drop_of_length-le s l, lines_none)
 
-  pub one_is : lines_of s ≡ line_of s ∷ [] → last_line_check s 0 ≡ Passes
+  pub one_is : lines_of s ≡ line_of s ∷ [] → last_line_check s 0 ≡ (Ok tt)
   one_is e =
       sym (line_last s 0 (next_line s 0) refl (either (length s) (next_line s 0) _ (λ h. h) (λ h.
       let p = lines_split (omega arith) in
@@ -106,19 +106,19 @@ module _ (sep : ℕ) (blank : is_in Blank sep ≡ true) where
 
 -- the number of words
 module _ (s : List ℕ) (line n most : ℕ) (good : Bool) where
-  pub words_many : (w : Extent) → most < n → w ≡ word_at s line most → Faulty (record { reason = WrongCount; place = w.start }) ≡ words_check s line n most good
+  pub words_many : (w : Extent) → most < n → w ≡ word_at s line most → Err (record { reason = WrongCount; place = w.start }) ≡ words_check s line n most good
   unfolding words_check
   words_many w h e = rw (lt-leb n most h, e)
 
-  pub words_good : n ≤ most → good ≡ true → Passes ≡ words_check s line n most good
+  pub words_good : n ≤ most → good ≡ true → (Ok tt) ≡ words_check s line n most good
   unfolding words_check
   words_good h g = rw (le-leb n most h, g)
 
-  pub words_bad : (e : ℕ) → n ≤ most → good ≡ false → e ≡ line_end s line → Faulty (record { reason = WrongCount; place = e }) ≡ words_check s line n most good
+  pub words_bad : (e : ℕ) → n ≤ most → good ≡ false → e ≡ line_end s line → Err (record { reason = WrongCount; place = e }) ≡ words_check s line n most good
   unfolding words_check
   words_bad e h g q = rw (le-leb n most h, g, q)
 
-  pub words_hold : words_check s line n most good ≡ Passes → (n ≤ most) × (good ≡ true)
+  pub words_hold : words_check s line n most good ≡ (Ok tt) → (n ≤ most) × (good ≡ true)
   unfolding words_check
   words_hold e =
       let a = require_passes (leb n most) _ _ e in

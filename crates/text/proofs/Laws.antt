@@ -17,10 +17,10 @@ use Rattle.text.specs.declared.Class.{Class}
 use Rattle.text.specs.Scan.{is_in, one_more, run, end_of, Scanned}
 use Rattle.text.specs.declared.Class.TheVariants.{Line, Blank, Word, Allowed}
 use Rattle.text.specs.declared.Extent.{Extent}
-use Rattle.text.specs.declared.Stage.TheVariants.{Passes, Faulty}
 use Rattle.text.specs.Checks.{text_check, last_line_check}
 use Rattle.text.specs.Parts.{part_in, part_bytes}
 use Rattle.text.specs.Words.{next_word, word_at, next_line, line_end, bytes_of}
+use Rattle.std.specs.Prelude.{Ok, Err}
 
 module _ (c : Class) (s : List ℕ) (i : ℕ) where
   pub end_of_step : i < length s → is_in c (get_or s i 0) ≡ true → end_of c s i ≡ end_of c s (i + 1)
@@ -215,16 +215,16 @@ cut_bytes s w a e ee ea = rw (ea, ee) (cut_off s w.start w.end)
 
 -- the three answers of the first check
 module _ (s : List ℕ) where
-  pub text_long : text_limit < length s → Faulty (record { reason = TextTooLong; place = 0 }) ≡ text_check s
+  pub text_long : text_limit < length s → Err (record { reason = TextTooLong; place = 0 }) ≡ text_check s
   unfolding text_check
   text_long h = rw (lt-leb (length s) text_limit h)
 
   module _ (bad : ℕ) (h : length s ≤ text_limit) (is : bad ≡ end_of Allowed s 0) where
-    pub text_bad : bad < length s → Faulty (record { reason = ByteNotAllowed; place = bad }) ≡ text_check s
+    pub text_bad : bad < length s → Err (record { reason = ByteNotAllowed; place = bad }) ≡ text_check s
     unfolding text_check
     text_bad k = rw (← is, le-leb (length s) text_limit h, lt-leb (length s) bad k)
 
-    pub text_good : length s ≤ bad → Passes ≡ text_check s
+    pub text_good : length s ≤ bad → (Ok tt) ≡ text_check s
     unfolding text_check
     text_good k = rw (← is, le-leb (length s) text_limit h, le-leb (length s) bad k)
 
@@ -271,10 +271,10 @@ module _ (c : Class) (s : List ℕ) (from i n e : ℕ) (inv : end_of c s i ≡ e
       omega (arith, inv, l, ap (run c) (sym (take-append-drop (e - i) (drop i s))), b, ap (run c) (drop-drop (e - i) i s), ap (λ k. run c (drop k s)) d)
 
 module _ (s : List ℕ) (h : length s ≤ text_limit) (t : Bool) (et : t ≡ leb (length s) (end_of Allowed s 0)) where
-  pub text_allowed : t ≡ true → Passes ≡ text_check s
+  pub text_allowed : t ≡ true → (Ok tt) ≡ text_check s
   text_allowed e = text_good s (end_of Allowed s 0) h refl (leb-true (length s) (end_of Allowed s 0) (sym et ∙ e))
 
-  pub text_refused : t ≡ false → (bad : ℕ) → Scanned Allowed s 0 bad → Faulty (record { reason = ByteNotAllowed; place = bad }) ≡ text_check s
+  pub text_refused : t ≡ false → (bad : ℕ) → Scanned Allowed s 0 bad → Err (record { reason = ByteNotAllowed; place = bad }) ≡ text_check s
   text_refused e bad is = text_bad s bad h is.is (omega (arith, is.is, leb-false (length s) (end_of Allowed s 0) (sym et ∙ e)))
 
 -- the next line, where the line ends by a feed and where it doesn't
@@ -307,10 +307,10 @@ module _ (s : List ℕ) (p : Part) where
 
 -- a line after the last one
 module _ (s : List ℕ) (line n : ℕ) (en : n ≡ next_line s line) where
-  pub line_surplus : n < length s → (w : Extent) → w ≡ next_word s n → Faulty (record { reason = WrongCount; place = w.start }) ≡ last_line_check s line
+  pub line_surplus : n < length s → (w : Extent) → w ≡ next_word s n → Err (record { reason = WrongCount; place = w.start }) ≡ last_line_check s line
   unfolding last_line_check
   line_surplus h w ew = rw (← en, lt-leb (length s) n h, ew)
 
-  pub line_last : length s ≤ n → Passes ≡ last_line_check s line
+  pub line_last : length s ≤ n → (Ok tt) ≡ last_line_check s line
   unfolding last_line_check
   line_last h = rw (← en, le-leb (length s) n h)

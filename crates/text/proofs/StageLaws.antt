@@ -8,36 +8,33 @@ use Rattle.ledger.specs.declared.Reason.{Reason}
 use Rattle.ledger.specs.declared.Fault.{Fault}
 use Rattle.ledger.specs.declared.Refusal.{Refusal}
 use Rattle.ledger.specs.Refusals.{without_text, require}
-use Rattle.text.specs.declared.Stage.{Stage}
-use Rattle.text.specs.declared.Stage.TheVariants.{Passes, Faulty}
-use Rattle.text.specs.declared.Check.{Check}
-use Rattle.text.specs.declared.Check.TheVariants.{Holds, Refused}
 use Rattle.text.specs.Checks.{refused, then_check}
 use Rattle.text.specs.Steps.{Staged}
+use Rattle.std.specs.Prelude.{Ok, Err, Result, ⊤}
 
 -- a test that went on is true
 pub require_goes : {A : Type 0} (t : Bool) (stop rest a : A) → (stop ≡ a → ⊥) → require t stop rest ≡ a → (t ≡ true) × (rest ≡ a)
 require_goes true stop rest a apart e = (refl, e)
 require_goes false stop rest a apart e = absurd (apart e)
 
-pub require_passes : (t : Bool) (rest : Stage) (x : Fault) → require t (Faulty x) rest ≡ Passes → (t ≡ true) × (rest ≡ Passes)
-require_passes t rest x = require_goes t (Faulty x) rest Passes (λ e. let z : ◌≡◌ {A = ℕ} 0 1 = cc in omega arith)
+pub require_passes : (t : Bool) (rest : Result ⊤ Fault) (x : Fault) → require t (Err x) rest ≡ (Ok tt) → (t ≡ true) × (rest ≡ (Ok tt))
+require_passes t rest x = require_goes t (Err x) rest (Ok tt) (λ e. let z : ◌≡◌ {A = ℕ} 0 1 = cc in omega arith)
 
-pub require_holds : (t : Bool) (rest : Check) (x : Refusal) → require t (Refused x) rest ≡ Holds → (t ≡ true) × (rest ≡ Holds)
-require_holds t rest x = require_goes t (Refused x) rest Holds (λ e. let z : ◌≡◌ {A = ℕ} 0 1 = cc in omega arith)
+pub require_holds : (t : Bool) (rest : Result ⊤ Refusal) (x : Refusal) → require t (Err x) rest ≡ (Ok tt) → (t ≡ true) × (rest ≡ (Ok tt))
+require_holds t rest x = require_goes t (Err x) rest (Ok tt) (λ e. let z : ◌≡◌ {A = ℕ} 0 1 = cc in omega arith)
 
 -- a stage decides
-module _ {A : Type 0} (stop : Fault → A) (c : Stage) where
-  pub stops : (rest : A) (x : Fault) → c ≡ Faulty x → stop x ≡ then_check stop c rest
+module _ {A : Type 0} (stop : Fault → A) (c : Result ⊤ Fault) where
+  pub stops : (rest : A) (x : Fault) → c ≡ Err x → stop x ≡ then_check stop c rest
   stops rest x e = rw e
 
-  pub goes : (rest a : A) → c ≡ Passes → a ≡ rest → a ≡ then_check stop c rest
+  pub goes : (rest a : A) → c ≡ (Ok tt) → a ≡ rest → a ≡ then_check stop c rest
   goes rest a p e = rw p e
 
 -- what is no fault's answer is the rest's
-pub went : {A : Type 0} (stop : Fault → A) (c : Stage) (rest a : A) → ((x : Fault) → stop x ≡ a → ⊥) → then_check stop c rest ≡ a → (c ≡ Passes) × (rest ≡ a)
-went stop Passes rest a apart e = (refl, e)
-went stop (Faulty x) rest a apart e = absurd (apart x e)
+pub went : {A : Type 0} (stop : Fault → A) (c : Result ⊤ Fault) (rest a : A) → ((x : Fault) → stop x ≡ a → ⊥) → then_check stop c rest ≡ a → (c ≡ (Ok tt)) × (rest ≡ a)
+went stop (Ok tt) rest a apart e = (refl, e)
+went stop (Err x) rest a apart e = absurd (apart x e)
 
 -- a stage that stops holds nothing of a record, and one that goes on what the rest holds
 module _ {R A : Type 0} {acc : R → A} {Held : R → List ℕ → Type 0} {answer : A} {room : List ℕ} where
@@ -48,5 +45,5 @@ module _ {R A : Type 0} {acc : R → A} {Held : R → List ℕ → Type 0} {answ
   staged_goes a e h = record { is = h.is ∙ e; held = h.held }
 
 -- a test that does not hold stops
-pub demand_stops : (t : Bool) (why : Reason) (rest : Check) (x : Refusal) → t ≡ false → x ≡ without_text why → Refused x ≡ require t (refused why) rest
+pub demand_stops : (t : Bool) (why : Reason) (rest : Result ⊤ Refusal) (x : Refusal) → t ≡ false → x ≡ without_text why → Err x ≡ require t (refused why) rest
 demand_stops t why rest x e q = rw (e, q)

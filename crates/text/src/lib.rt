@@ -119,20 +119,6 @@ fn word_end(text: &[u8], from: usize) -> usize
     scan_far(text, i, Class::Word)
 }
 
-// A stage of reading a text: it passes, or the text has a fault.
-#[derive(Clone, Copy)]
-pub enum Stage {
-    Passes,
-    Faulty(Fault),
-}
-
-// A check's answer to a caller.
-#[derive(Clone, Copy)]
-pub enum Check {
-    Holds,
-    Refused(Refusal),
-}
-
 // Whether a text may hold all its bytes. The loop has no early way out, so that many bytes are tested at once.
 fn all_allowed(text: &[u8]) -> bool
     ensures { result ≡ leb (length text.now) (end_of Allowed text.now 0) }
@@ -147,43 +133,43 @@ fn all_allowed(text: &[u8]) -> bool
 }
 
 // The length of a text (1), then its first byte that is not allowed (3).
-pub fn check_text(text: &[u8]) -> Stage
+pub fn check_text(text: &[u8]) -> Result<(), Fault>
     ensures { result ≡ text_check text.now }
 {
     if ledger::TEXT_LIMIT < text.len() {
-        return Stage::Faulty(Fault {
+        return Err(Fault {
             reason: Reason::TextTooLong,
             place: 0,
         });
     }
     if all_allowed(text) {
-        return Stage::Passes;
+        return Ok(());
     }
     let bad = scan(text, 0, Class::Allowed);
-    Stage::Faulty(Fault {
+    Err(Fault {
         reason: Reason::ByteNotAllowed,
         place: bad,
     })
 }
 
 // Where the test holds, the rest; else a fault.
-pub fn require(test: bool, reason: Reason, place: usize, rest: Stage) -> Stage
+pub fn require(test: bool, reason: Reason, place: usize, rest: Result<(), Fault>) -> Result<(), Fault>
     ensures { result ≡ require test (fault reason place) rest }
 {
     if test {
         return rest;
     }
-    Stage::Faulty(Fault { reason, place })
+    Err(Fault { reason, place })
 }
 
 // The same of a call without a text: where the test holds, the rest; else a refusal.
-pub fn demand(test: bool, reason: Reason, rest: Check) -> Check
+pub fn demand(test: bool, reason: Reason, rest: Result<(), Refusal>) -> Result<(), Refusal>
     ensures { result ≡ require test (refused reason) rest }
 {
     if test {
         return rest;
     }
-    Check::Refused(Refusal::without_text(reason))
+    Err(Refusal::without_text(reason))
 }
 
 // The end of the line that begins at a place: its line feed, or the text's length.
@@ -269,39 +255,39 @@ pub fn is_plain(text: &[u8]) -> bool
 }
 
 // The number of words n of the line that begins at a place (2): at most so many, and a good one.
-pub fn check_words(text: &[u8], line: usize, n: usize, most: usize, good: bool) -> Stage
+pub fn check_words(text: &[u8], line: usize, n: usize, most: usize, good: bool) -> Result<(), Fault>
     ensures { result ≡ words_check text.now line n most good }
 {
     if most < n {
         let w = word_at(text, line, most);
-        return Stage::Faulty(Fault {
+        return Err(Fault {
             reason: Reason::WrongCount,
             place: w.start,
         });
     }
     if good {
-        return Stage::Passes;
+        return Ok(());
     }
     let e = line_end(text, line);
-    Stage::Faulty(Fault {
+    Err(Fault {
         reason: Reason::WrongCount,
         place: e,
     })
 }
 
 // Whether the line that begins at a place is the text's last: else the line after it is surplus (2).
-pub fn check_last_line(text: &[u8], line: usize) -> Stage
+pub fn check_last_line(text: &[u8], line: usize) -> Result<(), Fault>
     ensures { result ≡ last_line_check text.now line }
 {
     let next = next_line(text, line);
     if next < text.len() {
         let w = next_word(text, next);
-        return Stage::Faulty(Fault {
+        return Err(Fault {
             reason: Reason::WrongCount,
             place: w.start,
         });
     }
-    Stage::Passes
+    Ok(())
 }
 
 // The part itself where it lies in the text, else the empty part at the text's end.

@@ -21,11 +21,11 @@ use Rattle.blocks.proofs.TableLaws.{taken, taken_length, taken_at}
 use Rattle.chain.specs.declared.Chain.{Chain}
 use Rattle.lift.specs.Accepted.{accepted, Wide, Ready}
 use Rattle.lift.proofs.AcceptLaws.{accepted_rules, accepted_true}
-use Rattle.turn.specs.declared.TurnAnswer.{TurnAnswer}
-use Rattle.turn.specs.declared.TurnAnswer.TheVariants.{Turned}
 use Rattle.turn.specs.Turns.{turned_rows_on, turned_rows, turned, not_turned, turn, column_after, source_of, list_of, start_at, size_at, Fillable, SpansFit}
 use Rattle.turn.proofs.RowLaws.{turned_length, turn_on, turned_at}
 use Rattle.turn.proofs.TurnLaws.{turns}
+use Rattle.std.specs.Prelude.{Ok, Result}
+use Rattle.ledger.specs.declared.Refusal.{Refusal}
 
 -- ---- the leaves
 pub start_turned : (k : Strand) (size start end : ℕ) → k ≡ Minus → size - end ≡ strand_start k size start end
@@ -105,21 +105,21 @@ column_is g z c ts qs zs w f e =
     ∙ sym (list_at f 0 n i b ∙ ap f (let y : 0 + i ≡ i = omega arith in y)))
 
 -- ---- the ways out of `turn_chain`
-pub as_before : (r : TurnAnswer) (why : Reason) (new before : List ℕ) → r ≡ not_turned why → before ≡ column_after r new before
+pub as_before : (r : Result Chain Refusal) (why : Reason) (new before : List ℕ) → r ≡ not_turned why → before ≡ column_after r new before
 as_before r why new before e = rw e
 
 module _ (c : Chain) (rows : List Row) (room : ℕ) (u : Bool) (ok : u ≡ accepted c rows) where
-  pub turn_bad : (r : TurnAnswer) → not u ≡ true → r ≡ not_turned BlockRules → r ≡ turn c rows room
+  pub turn_bad : (r : Result Chain Refusal) → not u ≡ true → r ≡ not_turned BlockRules → r ≡ turn c rows room
   unfolding turn
   turn_bad r h k = rw (← ok, not-true u h) k
 
   module _ (h : not u ≡ false) (n : ℕ) (e : n ≡ room) where
-    pub turn_full : (r : TurnAnswer) → n < c.blockCount → r ≡ not_turned NoRoom → r ≡ turn c rows room
+    pub turn_full : (r : Result Chain Refusal) → n < c.blockCount → r ≡ not_turned NoRoom → r ≡ turn c rows room
     unfolding turn
     turn_full r l k = rw (← ok, not-false u h, lt-leb c.blockCount room (omega arith)) k
 
-    pub turn_made : c.blockCount ≤ n → (d : Chain) → d ≡ turned c → Turned d ≡ turn c rows room
-    turn_made l d k = ap Turned k ∙ sym (turns c rows room (accepted_true c rows u ok h) (omega arith))
+    pub turn_made : c.blockCount ≤ n → (d : Chain) → d ≡ turned c → Ok d ≡ turn c rows room
+    turn_made l d k = ap Ok k ∙ sym (turns c rows room (accepted_true c rows u ok h) (omega arith))
 
 -- room in each slice
 pub roomy : (n r : ℕ) (ts qs zs : List ℕ) → r ≡ rows_of ts qs zs → n ≤ r → Wide n ts qs zs

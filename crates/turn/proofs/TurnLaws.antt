@@ -20,8 +20,6 @@ use Rattle.blocks.specs.Blocks.{rows_of}
 use Rattle.blocks.specs.Rows.{table_of, targets_of, queries_of, sizes_of}
 use Rattle.blocks.proofs.TableLaws.{stored_rows_lem}
 use Rattle.chain.specs.declared.Chain.{Chain}
-use Rattle.lift.specs.declared.SpanAnswer.TheVariants.{Converted}
-use Rattle.lift.specs.declared.PositionAnswer.TheVariants.{Lifted}
 use Rattle.lift.specs.Accepted.{accepted, used}
 use Rattle.lift.specs.Conversion.{converted}
 use Rattle.lift.specs.Pairs.{Pair, pair, pairs}
@@ -29,9 +27,9 @@ use Rattle.lift.specs.Positions.{lift_position}
 use Rattle.lift.proofs.AcceptLaws.{Rules, accepted_rules, rules_accepted}
 use Rattle.lift.proofs.ConversionLaws.{converts}
 use Rattle.lift.proofs.PositionLaws.{lifts, lifted_lem}
-use Rattle.turn.specs.declared.TurnAnswer.TheVariants.{Turned}
 use Rattle.turn.specs.Turns.{swap_pair, turned_rows_on, turned_rows, turned, not_turned, turn, TurnedInto}
 use Rattle.turn.proofs.RowLaws.{pairs_swapped, pairs_turned, placed_swapped, placed_turned, turned_length, on_twice}
+use Rattle.std.specs.Prelude.{Ok}
 
 -- the same record with another strand: `on_strand c.qStrand c` is c, so that a law can go by cases on the strand
 abbrev on_strand : Strand → Chain → Chain
@@ -138,8 +136,8 @@ module _ (c : Chain) (rows : List Row) (ok : accepted c rows ≡ true) where
 
   -- with `-`, the new spans are the old ones converted
   pub turned_spans : c.qStrand ≡ Minus
-      → (converted c.qStart c.qEnd c.qSize ≡ Converted (record { start = (turned c).tStart; end = (turned c).tEnd }))
-      × (converted c.tStart c.tEnd c.tSize ≡ Converted (record { start = (turned c).qStart; end = (turned c).qEnd }))
+      → (converted c.qStart c.qEnd c.qSize ≡ Ok (record { start = (turned c).tStart; end = (turned c).tEnd }))
+      × (converted c.tStart c.tEnd c.tSize ≡ Ok (record { start = (turned c).qStart; end = (turned c).qEnd }))
   unfolding turned
   turned_spans e = rw e (converts c.qStart c.qEnd c.qSize rules.q_span rules.q_inside rules.q_most, converts c.tStart c.tEnd c.tSize rules.t_span rules.t_inside rules.t_most)
 
@@ -181,7 +179,7 @@ module _ (c : Chain) (rows : List Row) (ok : accepted c rows ≡ true) where
         go Dot e = absurd (rules.stranded e)
 
     -- A PARTNER LIFTS BACK to the position
-    pub lifts_back : (p q : ℕ) (d : ℤ) → lift_position c rows p ≡ Lifted q d → lift_position (turned c) rows' q ≡ Lifted p (pos p -ℤ pos q)
+    pub lifts_back : (p q : ℕ) (d : ℤ) → lift_position c rows p ≡ Ok (q, d) → lift_position (turned c) rows' q ≡ Ok (p, (pos p -ℤ pos q))
     lifts_back p q d e = lifts (turned c) rows' turned_accepted q p (exchanged p q (lifted_lem c rows ok p q d e).0)
 
 -- ---- from the function's promise
@@ -193,7 +191,7 @@ counted_lem c rows ok =
     ∙ (let z : length (used c rows) ≡ c.blockCount = omega (arith, length-take c.blockCount rows, (accepted_rules c rows ok).in_table) in z)
 
 -- an accepted chain turns where there is room
-pub turns : (c : Chain) (rows : List Row) (room : ℕ) → accepted c rows ≡ true → c.blockCount ≤ room → turn c rows room ≡ Turned (turned c)
+pub turns : (c : Chain) (rows : List Row) (room : ℕ) → accepted c rows ≡ true → c.blockCount ≤ room → turn c rows room ≡ Ok (turned c)
 unfolding turn
 turns c rows room ok h = rw (ok, le-leb _ _ h)
 
@@ -203,16 +201,16 @@ pub record Turnable (c : Chain) (rows : List Row) (room : ℕ) (d : Chain) : Typ
   pub fits : c.blockCount ≤ room
   pub is : d ≡ turned c
 
-pub turnable : (c : Chain) (rows : List Row) (room : ℕ) (d : Chain) → Turned d ≡ turn c rows room → Turnable c rows room d
+pub turnable : (c : Chain) (rows : List Row) (room : ℕ) (d : Chain) → Ok d ≡ turn c rows room → Turnable c rows room d
 unfolding turn
 turnable c rows room d e = go (accepted c rows) (leb c.blockCount room) refl refl e
   where
-    go : (t u : Bool) → accepted c rows ≡ t → leb c.blockCount room ≡ u → Turned d ≡ require t (not_turned BlockRules) (require u (not_turned NoRoom) (Turned (turned c))) → Turnable c rows room d
+    go : (t u : Bool) → accepted c rows ≡ t → leb c.blockCount room ≡ u → Ok d ≡ require t (not_turned BlockRules) (require u (not_turned NoRoom) (Ok (turned c))) → Turnable c rows room d
     go false u h k l = absurd (let z : ◌≡◌ {A = ℕ} 0 1 = cc in omega arith)
     go true false h k l = absurd (let z : ◌≡◌ {A = ℕ} 0 1 = cc in omega arith)
     go true true h k l = record { ok = h; fits = leb-true _ _ k; is = cc }
 
-module _ (c : Chain) (rows : List Row) (ts qs zs ts' qs' zs' : List ℕ) (d : Chain) (w : TurnedInto c rows ts qs zs ts' qs' zs' (Turned d)) where
+module _ (c : Chain) (rows : List Row) (ts qs zs ts' qs' zs' : List ℕ) (d : Chain) (w : TurnedInto c rows ts qs zs ts' qs' zs' (Ok d)) where
   made : Turnable c rows (rows_of ts qs zs) d
   made = turnable c rows (rows_of ts qs zs) d w.is
 
@@ -233,9 +231,9 @@ pub record Turning (c : Chain) (rows : List Row) (d : Chain) (rows' : List Row) 
   pub is_accepted : accepted d rows' ≡ true
   pub pairs_plus : c.qStrand ≡ Plus → pairs d rows' ≡ map swap_pair (pairs c rows)
   pub pairs_minus : c.qStrand ≡ Minus → pairs d rows' ≡ reverse (map swap_pair (pairs c rows))
-  pub query_converted : c.qStrand ≡ Minus → converted c.qStart c.qEnd c.qSize ≡ Converted (record { start = d.tStart; end = d.tEnd })
-  pub target_converted : c.qStrand ≡ Minus → converted c.tStart c.tEnd c.tSize ≡ Converted (record { start = d.qStart; end = d.qEnd })
-  pub lifts_back : (p q : ℕ) (z : ℤ) → lift_position c rows p ≡ Lifted q z → lift_position d rows' q ≡ Lifted p (pos p -ℤ pos q)
+  pub query_converted : c.qStrand ≡ Minus → converted c.qStart c.qEnd c.qSize ≡ Ok (record { start = d.tStart; end = d.tEnd })
+  pub target_converted : c.qStrand ≡ Minus → converted c.tStart c.tEnd c.tSize ≡ Ok (record { start = d.qStart; end = d.qEnd })
+  pub lifts_back : (p q : ℕ) (z : ℤ) → lift_position c rows p ≡ Ok (q, z) → lift_position d rows' q ≡ Ok (p, (pos p -ℤ pos q))
   pub restored : turned d ≡ c
   pub restored_rows : turned_rows d rows' ≡ used c rows
 
@@ -259,6 +257,6 @@ module _ (c : Chain) (rows : List Row) (room : ℕ) (d : Chain) (m : Turnable c 
       })
 
 -- ALL OF THEM for every turn that is not refused
-pub turning : (c : Chain) (rows : List Row) (ts qs zs ts' qs' zs' : List ℕ) (d : Chain) → TurnedInto c rows ts qs zs ts' qs' zs' (Turned d) → Turning c rows d (table_of ts' qs' zs')
+pub turning : (c : Chain) (rows : List Row) (ts qs zs ts' qs' zs' : List ℕ) (d : Chain) → TurnedInto c rows ts qs zs ts' qs' zs' (Ok d) → Turning c rows d (table_of ts' qs' zs')
 turning c rows ts qs zs ts' qs' zs' d w =
     turning_of c rows (rows_of ts qs zs) d (turnable c rows (rows_of ts qs zs) d w.is) (table_of ts' qs' zs') (turned_stored c rows ts qs zs ts' qs' zs' d w)

@@ -11,9 +11,9 @@ use Rattle.chain.specs.declared.Chain.{Chain}
 use Rattle.chain_laws.proofs.Vectors.{chain_a, rows_a}
 use Rattle.chain.specs.Tests.{names_fit, fields_fit, spans_fit, rows_fit, chain_valid}
 use Rattle.lift.specs.Accepted.{accepted}
-use Rattle.turn.specs.declared.TurnAnswer.TheVariants.{Turned}
 use Rattle.turn.specs.Turns.{turned_rows, turned, not_turned, turn}
 use Rattle.ledger.specs.Parts.{part_at}
+use Rattle.std.specs.Prelude.{Ok}
 
 -- A with its last size 10 in place of 9
 abbrev long_a : List Row
@@ -52,6 +52,6 @@ unfolding turned turned_rows accepted chain_valid names_fit fields_fit row_numbe
 sample_turns = record { from_accepted = refl; to_accepted = refl; there = refl; rows_there = refl; back = refl; rows_back = refl }
 
 -- into three rows of room and no fewer; and not with a block that passes the span's end
-pub sample_answers : (turn chain_a rows_a 3 ≡ Turned turned_a) × (turn chain_a rows_a 2 ≡ not_turned NoRoom) × (turn chain_a long_a 3 ≡ not_turned BlockRules)
+pub sample_answers : (turn chain_a rows_a 3 ≡ Ok turned_a) × (turn chain_a rows_a 2 ≡ not_turned NoRoom) × (turn chain_a long_a 3 ≡ not_turned BlockRules)
 unfolding turn turned accepted chain_valid names_fit fields_fit row_numbers_fit spans_fit rows_fit order_from blocks_fill all_between
 sample_answers = (refl, refl, refl)

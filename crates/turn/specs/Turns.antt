@@ -1,5 +1,5 @@
 -- Turning a chain (01, "Pairs, lifting, turning"): sides exchanged; with `-`, both spans converted and the blocks reversed, so that the new target is `+`.
-use Rattle.std.specs.Prelude.{ℕ, zero, suc, ◌+◌, ◌-◌, ◌≤◌, ◌<◌, ◌≡◌, List, [], ◌∷◌, map, reverse, length, get_or, leb}
+use Rattle.std.specs.Prelude.{ℕ, zero, suc, ◌+◌, ◌-◌, ◌≤◌, ◌<◌, ◌≡◌, List, [], ◌∷◌, map, reverse, length, get_or, leb, Ok, Err, Result}
 use Rattle.std.proofs.lemmas.List.Edits.{sets}
 use Rattle.blocks.specs.Strands.{strand_start, strand_end}
 use Rattle.ledger.specs.Refusals.{without_text, require}
@@ -14,8 +14,7 @@ use Rattle.blocks.specs.Rows.{targets_of, queries_of, sizes_of, target_end, quer
 use Rattle.chain.specs.declared.Chain.{Chain}
 use Rattle.lift.specs.Accepted.{accepted, used}
 use Rattle.lift.specs.Pairs.{Pair, pair}
-use Rattle.turn.specs.declared.TurnAnswer.{TurnAnswer}
-use Rattle.turn.specs.declared.TurnAnswer.TheVariants.{Turned, Refused}
+use Rattle.ledger.specs.declared.Refusal.{Refusal}
 
 -- a row with its sides exchanged
 abbrev pub swap_row : Row → Row
@@ -55,22 +54,22 @@ turned c = record {
   blockCount = c.blockCount;
 }
 
-abbrev pub not_turned : Reason → TurnAnswer
-not_turned why = Refused (without_text why)
+abbrev pub not_turned : Reason → Result Chain Refusal
+not_turned why = Err (without_text why)
 
 -- THE TURN into a table with so much room: no accepted chain (9), then the room (11), each at place 0
-unfoldable pub turn : Chain → List Row → ℕ → TurnAnswer
+unfoldable pub turn : Chain → List Row → ℕ → Result Chain Refusal
 turn c rows room =
     require (accepted c rows) (not_turned BlockRules)
-    (require (leb c.blockCount room) (not_turned NoRoom) (Turned (turned c)))
+    (require (leb c.blockCount room) (not_turned NoRoom) (Ok (turned c)))
 
 -- what a lent slice holds then: the turned rows' numbers from its front, the rest as before; after a refusal, what it held
-abbrev pub column_after : TurnAnswer → List ℕ → List ℕ → List ℕ
-column_after (Turned c) new before = sets before 0 new
-column_after (Refused x) new before = before
+abbrev pub column_after : Result Chain Refusal → List ℕ → List ℕ → List ℕ
+column_after (Ok c) new before = sets before 0 new
+column_after (Err x) new before = before
 
 -- what the turn promises: the answer, and three lent slices
-pub record TurnedInto (c : Chain) (rows : List Row) (ts qs zs ts' qs' zs' : List ℕ) (r : TurnAnswer) : Type 0 where
+pub record TurnedInto (c : Chain) (rows : List Row) (ts qs zs ts' qs' zs' : List ℕ) (r : Result Chain Refusal) : Type 0 where
   pub is : r ≡ turn c rows (rows_of ts qs zs)
   pub targets : ts' ≡ column_after r (targets_of (turned_rows c rows)) ts
   pub queries : qs' ≡ column_after r (queries_of (turned_rows c rows)) qs

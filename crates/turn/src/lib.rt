@@ -10,12 +10,6 @@ ghost use Rattle.turn.specs.Turns.{source_of, list_of, start_at, size_at, Fillab
 use chain::Chain;
 use ledger::{Reason, Refusal, Strand};
 
-#[derive(Clone, Copy)]
-pub enum TurnAnswer {
-    Turned(Chain),
-    Refused(Refusal),
-}
-
 // The row that a turned row comes from.
 fn source_of(k: Strand, n: usize, i: usize) -> usize
     requires { i < n }
@@ -85,10 +79,10 @@ fn turn_record(c: Chain) -> Chain
     }
 }
 
-fn not_turned(reason: Reason) -> TurnAnswer
+fn not_turned(reason: Reason) -> Result<Chain, Refusal>
     ensures { result ≡ not_turned reason }
 {
-    TurnAnswer::Refused(Refusal::without_text(reason))
+    Err(Refusal::without_text(reason))
 }
 
 // THE TURN of a chain: record and rows are tested again, as they may be anything; the turned blocks go to the front of three lent
@@ -101,7 +95,7 @@ pub fn turn_chain(
     newTargets: &mut [u64],
     newQueries: &mut [u64],
     newSizes: &mut [u64],
-) -> TurnAnswer
+) -> Result<Chain, Refusal>
     ensures { TurnedInto c (table_of targets.now queries.now sizes.now)
         newTargets.old newQueries.old newSizes.old
         newTargets.new newQueries.new newSizes.new result }
@@ -119,5 +113,5 @@ pub fn turn_chain(
     fill_starts(k, c.tSize, n, targets, sizes, newQueries);
     fill_sizes(k, n, sizes, newSizes);
     let d = turn_record(c);
-    TurnAnswer::Turned(d)
+    Ok(d)
 }

@@ -12,11 +12,11 @@ use Rattle.text.specs.declared.Class.TheVariants.{Digit, Item, Graphic}
 use Rattle.text.specs.Scan.{run, end_of}
 use Rattle.text.proofs.Laws.{run_append}
 use Rattle.text.proofs.TextLaws.{All, all_within, digit_graphic, digit_item}
-use Rattle.numbers.specs.declared.Spelt.TheVariants.{Means}
 use Rattle.numbers.specs.Numbers.{well_spelt, value_from, value, number_of}
 use Rattle.writing.specs.Digits.{digits_in, digits}
 use Rattle.writing.specs.Puts.{Put}
 use Rattle.writing.proofs.PutLaws.{put_then}
+use Rattle.std.specs.Prelude.{Ok}
 
 -- one digit more than enough changes nothing
 small : (f n : ℕ) → n < 10 → digits_in (suc f) n ≡ (48 + n) ∷ []
@@ -132,7 +132,7 @@ spelt_digits n m =
     ) (or_yes (eqb (length (digits n)) 1)))
 
 -- the digits of a number in range are read as that number
-pub number_digits : (least most n : ℕ) → least ≤ n → n ≤ most → n < Most → number_of least most (digits n) ≡ Means n
+pub number_digits : (least most n : ℕ) → least ≤ n → n ≤ most → n < Most → number_of least most (digits n) ≡ Ok n
 unfolding number_of
 number_digits least most n l h m = rw (spelt_digits n m, value_digits n m, le-leb least n l, le-leb n most h)
 

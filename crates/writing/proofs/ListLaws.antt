@@ -13,7 +13,6 @@ use Rattle.text.specs.Scan.{run}
 use Rattle.text.specs.Pieces.{pieces_of}
 use Rattle.text.proofs.PieceLaws.{pieces_join}
 use Rattle.text.proofs.TextLaws.{All, all_append}
-use Rattle.numbers.specs.declared.Spelt.TheVariants.{Means}
 use Rattle.numbers.specs.Numbers.{value}
 use Rattle.numbers.specs.Lists.{items_of, test_items, values_of, good_values, open_end, list_end, list_of}
 use Rattle.writing.specs.Digits.{digits, list_text}
@@ -22,6 +21,7 @@ use Rattle.numbers.specs.Ranges.{Between, between_none, between_more}
 use Rattle.ledger.specs.Limits.{largest_place}
 use Rattle.writing.proofs.PutLaws.{put_then, Completes, completes_step, completes_done}
 use Rattle.writing.proofs.DigitLaws.{Most, number_digits, value_digits, digits_graphic, digits_items}
+use Rattle.std.specs.Prelude.{Ok}
 
 -- one number and its comma
 pub put_item_is : (n : ℕ) (b b₁ b₂ : List ℕ) (at p r : ℕ) → Put (digits n) at b b₁ p → Put (44 ∷ []) p b₁ b₂ r → Put (list_text (n ∷ [])) at b b₂ r
@@ -56,12 +56,12 @@ pub list_values : (least most : ℕ) (vs : List ℕ) → most < Most → Between
 unfolding values_of
 list_values least most vs l h = rw (list_items vs) (digit_values least most vs l h)
 
-digit_test : (least most n at : ℕ) (vs : List ℕ) → most < Most → Between least most vs → test_items least most n at (map digits vs) ≡ Means (n + length vs)
+digit_test : (least most n at : ℕ) (vs : List ℕ) → most < Most → Between least most vs → test_items least most n at (map digits vs) ≡ Ok (n + length vs)
 unfolding test_items
-digit_test least most n at [] l between_none = ap Means (omega arith)
+digit_test least most n at [] l between_none = ap Ok (omega arith)
 digit_test least most n at (v ∷ vs) l (between_more low high t) =
     let e : n + 1 + length vs ≡ n + suc (length vs) = omega arith in
-    rw (number_digits least most v low high (omega arith)) (digit_test least most (n + 1) (at + length (digits v) + 1) vs l t ∙ ap Means e)
+    rw (number_digits least most v low high (omega arith)) (digit_test least most (n + 1) (at + length (digits v) + 1) vs l t ∙ ap Ok e)
 
 digit_good : (least most : ℕ) (vs : List ℕ) → most < Most → Between least most vs → good_values least most (map digits vs) ≡ vs
 unfolding good_values
@@ -78,7 +78,7 @@ list_some [] h = absurd (omega arith)
 list_some (v ∷ vs) h = rw length-append (omega arith)
 
 -- a written list is read as a list of its length, where one further comma is allowed
-pub list_back : (least most n : ℕ) (vs : List ℕ) → 0 < length vs → length vs ≡ n → most < Most → Between least most vs → list_of least most true n (list_text vs) ≡ Means n
+pub list_back : (least most n : ℕ) (vs : List ℕ) → 0 < length vs → length vs ≡ n → most < Most → Between least most vs → list_of least most true n (list_text vs) ≡ Ok n
 unfolding list_of list_end open_end
 list_back least most n vs some e l h =
     let z : 0 + length vs ≡ n = omega arith in

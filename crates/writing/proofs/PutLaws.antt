@@ -13,10 +13,9 @@ use Rattle.ledger.specs.Limits.{text_limit, largest_place}
 use Rattle.ledger.specs.declared.Reason.TheVariants.{TextTooLong, NoRoom}
 use Rattle.ledger.specs.declared.Refusal.{Refusal}
 use Rattle.ledger.specs.Refusals.{without_text}
-use Rattle.writing.specs.declared.Writing.{Writing}
-use Rattle.writing.specs.declared.Writing.TheVariants.{Written, Refused}
 use Rattle.writing.specs.Puts.{onward, Put}
 use Rattle.writing.specs.Answers.{room_answer, Wrote}
+use Rattle.std.specs.Prelude.{Ok, Err, Result}
 
 -- stores past a buffer's end change nothing
 pub sets_out : (b : List ℕ) (at : ℕ) (xs : List ℕ) → length b ≤ at → sets b at xs ≡ b
@@ -73,25 +72,25 @@ completes_done rest ys p at b b₀ k e h l = k b p (rw e (put_none b p h l))
 
 -- the answer for a text of n bytes
 module _ (n room : ℕ) where
-  pub room_long : (x : Refusal) → x ≡ without_text TextTooLong → text_limit < n → Refused x ≡ room_answer n room
+  pub room_long : (x : Refusal) → x ≡ without_text TextTooLong → text_limit < n → Err x ≡ room_answer n room
   unfolding room_answer
   room_long x e h = rw (e, lt-leb n text_limit h)
 
-  pub room_short : (x : Refusal) → x ≡ without_text NoRoom → n ≤ text_limit → room < n → Refused x ≡ room_answer n room
+  pub room_short : (x : Refusal) → x ≡ without_text NoRoom → n ≤ text_limit → room < n → Err x ≡ room_answer n room
   unfolding room_answer
   room_short x e h l = rw (e, le-leb n text_limit h, lt-leb n room l)
 
-  pub room_enough : n ≤ text_limit → n ≤ room → Written n ≡ room_answer n room
+  pub room_enough : n ≤ text_limit → n ≤ room → Ok n ≡ room_answer n room
   unfolding room_answer
   room_enough h l = rw (le-leb n text_limit h, le-leb n room l)
 
 -- a text is written exactly where it fits the limit and the room
-granted : (s t : Bool) (n m : ℕ) (x y : Refusal) → cond s (cond t (Written n) (Refused x)) (Refused y) ≡ Written m → (s ≡ true) × (t ≡ true) × (n ≡ m)
+granted : (s t : Bool) (n m : ℕ) (x y : Refusal) → cond s (cond t (Ok n) (Err x)) (Err y) ≡ Ok m → (s ≡ true) × (t ≡ true) × (n ≡ m)
 granted true true n m x y e = (refl, refl, cc)
 granted true false n m x y e = (refl, cc, cc)
 granted false t n m x y e = (cc, cc, cc)
 
-pub room_granted : (n room m : ℕ) → room_answer n room ≡ Written m → (n ≤ text_limit) × (n ≤ room) × (n ≡ m)
+pub room_granted : (n room m : ℕ) → room_answer n room ≡ Ok m → (n ≤ text_limit) × (n ≤ room) × (n ≡ m)
 unfolding room_answer
 room_granted n room m e =
     let g = granted (leb n text_limit) (leb n room) n m _ _ e in
@@ -111,11 +110,11 @@ measured n room = go (leb n largest_place) refl
         sym (room_long (onward 0 n) room _ refl (omega arith)) ∙ room_long n room _ refl (omega arith)
 
 -- from the answer and a put at the front to what writing promises
-module _ (bytes before : List ℕ) (answer : Writing) (is : answer ≡ room_answer (length bytes) (length before)) where
-  pub write_refused : (x : Refusal) → answer ≡ Refused x → Wrote bytes before before (Refused x)
+module _ (bytes before : List ℕ) (answer : Result ℕ Refusal) (is : answer ≡ room_answer (length bytes) (length before)) where
+  pub write_refused : (x : Refusal) → answer ≡ Err x → Wrote bytes before before (Err x)
   write_refused x q = record { is = sym q ∙ is; left = refl }
 
-  pub write_put : (n r : ℕ) (after : List ℕ) → answer ≡ Written n → Put bytes 0 before after r → Wrote bytes before after (Written r)
+  pub write_put : (n r : ℕ) (after : List ℕ) → answer ≡ Ok n → Put bytes 0 before after r → Wrote bytes before after (Ok r)
   write_put n r after q f =
       let g = room_granted (length bytes) (length before) n (sym is ∙ q) in
       let z : 0 + length bytes ≡ length bytes = omega arith in
@@ -124,27 +123,27 @@ module _ (bytes before : List ℕ) (answer : Writing) (is : answer ≡ room_answ
       record { is = rw e (room_enough (length bytes) (length before) g.0 g.1); left = rw (f.stored, e) (rw z at s) }
 
 -- the same where the length was measured
-module _ (bytes before none none' : List ℕ) (m : ℕ) (measure : Put bytes 0 none none' m) (answer : Writing) (is : answer ≡ room_answer m (length before)) where
+module _ (bytes before none none' : List ℕ) (m : ℕ) (measure : Put bytes 0 none none' m) (answer : Result ℕ Refusal) (is : answer ≡ room_answer m (length before)) where
   told : answer ≡ room_answer (length bytes) (length before)
   told = is ∙ rw measure.next (measured (length bytes) (length before))
 
-  pub write_measured_refused : (x : Refusal) → answer ≡ Refused x → Wrote bytes before before (Refused x)
+  pub write_measured_refused : (x : Refusal) → answer ≡ Err x → Wrote bytes before before (Err x)
   write_measured_refused x q = write_refused bytes before answer told x q
 
-  pub write_measured_put : (n r : ℕ) (after : List ℕ) → answer ≡ Written n → Put bytes 0 before after r → Wrote bytes before after (Written r)
+  pub write_measured_put : (n r : ℕ) (after : List ℕ) → answer ≡ Ok n → Put bytes 0 before after r → Wrote bytes before after (Ok r)
   write_measured_put n r after q f = write_put bytes before answer told n r after q f
 
 -- bytes and a line feed
-module _ (bytes before : List ℕ) (m : ℕ) (em : m ≡ onward (length bytes) 1) (answer : Writing) (is : answer ≡ room_answer m (length before)) where
+module _ (bytes before : List ℕ) (m : ℕ) (em : m ≡ onward (length bytes) 1) (answer : Result ℕ Refusal) (is : answer ≡ room_answer m (length before)) where
   fed_told : answer ≡ room_answer (length (bytes ++ (10 ∷ []))) (length before)
   fed_told =
       let q : onward (length bytes) 1 ≡ onward 0 (length (bytes ++ (10 ∷ []))) = omega (arith, length-append bytes (10 ∷ [])) in
       is ∙ rw (em, q) (measured (length (bytes ++ (10 ∷ []))) (length before))
 
-  pub fed_refused : (x : Refusal) → answer ≡ Refused x → Wrote (bytes ++ (10 ∷ [])) before before (Refused x)
+  pub fed_refused : (x : Refusal) → answer ≡ Err x → Wrote (bytes ++ (10 ∷ [])) before before (Err x)
   fed_refused x q = write_refused (bytes ++ (10 ∷ [])) before answer fed_told x q
 
-  pub fed_put : (n p r : ℕ) (b after : List ℕ) → answer ≡ Written n → Put bytes 0 before b p → Put (10 ∷ []) p b after r → Wrote (bytes ++ (10 ∷ [])) before after (Written r)
+  pub fed_put : (n p r : ℕ) (b after : List ℕ) → answer ≡ Ok n → Put bytes 0 before b p → Put (10 ∷ []) p b after r → Wrote (bytes ++ (10 ∷ [])) before after (Ok r)
   fed_put n p r b after q f g = write_put (bytes ++ (10 ∷ [])) before answer fed_told n r after q (put_then f g)
 
 -- bytes one by one

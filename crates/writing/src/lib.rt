@@ -10,13 +10,6 @@ ghost use Rattle.writing.specs.Answers.{room_answer, Wrote};
 
 use ledger::{Reason, Refusal};
 
-// The answer of a call that writes: the number of bytes written, or why none was.
-#[derive(Clone, Copy)]
-pub enum Writing {
-    Written(usize),
-    Refused(Refusal),
-}
-
 // The place so many bytes on, or the largest place.
 fn forward(at: usize, n: usize) -> usize
     ensures { result ≡ onward at n }
@@ -118,59 +111,49 @@ pub fn put_list(buf: &mut [u8], at: usize, vs: &[u64]) -> usize
 }
 
 // Whether a standard text of so many bytes can be written: its length (1), then the room (11).
-pub fn room_for(n: usize, room: usize) -> Writing
+pub fn room_for(n: usize, room: usize) -> Result<usize, Refusal>
     ensures { result ≡ room_answer n room }
 {
     if ledger::TEXT_LIMIT < n {
-        return Writing::Refused(Refusal::without_text(Reason::TextTooLong));
+        return Err(Refusal::without_text(Reason::TextTooLong));
     }
     if room < n {
-        return Writing::Refused(Refusal::without_text(Reason::NoRoom));
+        return Err(Refusal::without_text(Reason::NoRoom));
     }
-    Writing::Written(n)
+    Ok(n)
 }
 
 // Writes bytes to the front of a buffer.
-pub fn write_bytes(buf: &mut [u8], bytes: &[u8]) -> Writing
+pub fn write_bytes(buf: &mut [u8], bytes: &[u8]) -> Result<usize, Refusal>
     ensures { Wrote bytes.now buf.old buf.new result }
 {
-    match room_for(bytes.len(), buf.len()) {
-        Writing::Refused(x) => Writing::Refused(x),
-        Writing::Written(_) => Writing::Written(put_bytes(buf, 0, bytes)),
-    }
+    room_for(bytes.len(), buf.len())?;
+    Ok(put_bytes(buf, 0, bytes))
 }
 
 // Writes bytes and a line feed to the front of a buffer.
-pub fn write_fed(buf: &mut [u8], bytes: &[u8]) -> Writing
+pub fn write_fed(buf: &mut [u8], bytes: &[u8]) -> Result<usize, Refusal>
     ensures { Wrote (bytes.now ++ (10 ∷ [])) buf.old buf.new result }
 {
-    match room_for(forward(bytes.len(), 1), buf.len()) {
-        Writing::Refused(x) => Writing::Refused(x),
-        Writing::Written(_) => {
-            let p = put_bytes(buf, 0, bytes);
-            Writing::Written(put_byte(buf, p, b'\n'))
-        }
-    }
+    room_for(forward(bytes.len(), 1), buf.len())?;
+    let p = put_bytes(buf, 0, bytes);
+    Ok(put_byte(buf, p, b'\n'))
 }
 
 // Writes a number's digits to the front of a buffer. Putting them into no buffer at all measures them first.
-pub fn write_number(buf: &mut [u8], n: u64) -> Writing
+pub fn write_number(buf: &mut [u8], n: u64) -> Result<usize, Refusal>
     ensures { Wrote (digits n) buf.old buf.new result }
 {
     let mut none = [0u8; 0];
-    match room_for(put_number(&mut none, 0, n), buf.len()) {
-        Writing::Refused(x) => Writing::Refused(x),
-        Writing::Written(_) => Writing::Written(put_number(buf, 0, n)),
-    }
+    room_for(put_number(&mut none, 0, n), buf.len())?;
+    Ok(put_number(buf, 0, n))
 }
 
 // Writes a comma list to the front of a buffer.
-pub fn write_list(buf: &mut [u8], vs: &[u64]) -> Writing
+pub fn write_list(buf: &mut [u8], vs: &[u64]) -> Result<usize, Refusal>
     ensures { Wrote (list_text vs.now) buf.old buf.new result }
 {
     let mut none = [0u8; 0];
-    match room_for(put_list(&mut none, 0, vs), buf.len()) {
-        Writing::Refused(x) => Writing::Refused(x),
-        Writing::Written(_) => Writing::Written(put_list(buf, 0, vs)),
-    }
+    room_for(put_list(&mut none, 0, vs), buf.len())?;
+    Ok(put_list(buf, 0, vs))
 }
