@@ -22,7 +22,7 @@ case_letter s = pick_byte (ltb (length s) 2 || eqb (get_or s 1 0) 32) (get_or s 
 
 abbrev pub meant : Result ℕ Fault → ℕ
 meant (Ok v) = v
-meant (Err (fault_at reason place)) = 0
+meant (Err x) = 0
 
 -- the number that a word spells, else 0
 abbrev pub number_at : List ℕ → ℕ → ℕ

@@ -65,7 +65,7 @@ head c cs n s at e q = go (spelt c n (bytes_of s (next_word s at))) refl q
   where
     go : (x : Result ℕ Fault) → spelt c n (bytes_of s (next_word s at)) ≡ x → then_columns (field_of x (next_word s at)) (λ v w. columns_from cs (count_after c v n) s w.end) ≡ Ok e → Head c cs n s at e
     go (Ok v) p q = record { value = v; says = p; rest = q }
-    go (Err (fault_at why off)) p q = absurd (let y : ◌≡◌ {A = ℕ} 0 1 = cc in omega arith)
+    go (Err bad) p q = absurd (let y : ◌≡◌ {A = ℕ} 0 1 = cc in omega arith)
 
 -- two numbers for each column
 pub values_length : (cs : List Kind) (n : ℕ) (s : List ℕ) (at e : ℕ) → columns_from cs n s at ≡ Ok e → length (values_from cs n s at) ≡ 2 * length cs

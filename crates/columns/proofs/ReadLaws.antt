@@ -56,7 +56,7 @@ module _ (k : Kind) (n : ℕ) (s : List ℕ) (at : ℕ) (w : Extent) (ew : w ≡
 -- a good field stands at its word
 good_word : (x : Result ℕ Fault) (y w : Extent) (v : ℕ) → field_of x y ≡ Ok (v, w) → w ≡ y
 good_word (Ok u) y w v e = cc
-good_word (Err (fault_at why off)) y w v e = absurd (let z : ◌≡◌ {A = ℕ} 0 1 = cc in omega arith)
+good_word (Err bad) y w v e = absurd (let z : ◌≡◌ {A = ℕ} 0 1 = cc in omega arith)
 
 pub field_word : (k : Kind) (n : ℕ) (s : List ℕ) (at v : ℕ) (w : Extent) → field_from k n s at ≡ Ok (v, w) → w ≡ next_word s at
 unfolding field_from

@@ -48,8 +48,8 @@ columns_mean (c ∷ cs) n s at e h q =
     go (Ok v) p k q =
         let z : columns_from cs (count_after c v n) s (next_word s at).end ≡ Ok e = rw p at q in
         rw (words_step s at (first_there s at (length cs) (omega arith)), p) (meant_more p (k v z))
-    go (Err (fault_at why off)) p k q =
-        let z : Err (record { reason = why; place = (next_word s at).start + off }) ≡ Ok e = rw p at q in
+    go (Err bad) p k q =
+        let z : Err (record { reason = bad.reason; place = (next_word s at).start + bad.place }) ≡ Ok e = rw p at q in
         absurd (let y : ◌≡◌ {A = ℕ} 0 1 = cc in omega arith)
 
 -- and the other way round: words that the reader takes for values are read, as those values
@@ -100,6 +100,6 @@ place_is (c ∷ cs) n s at e q k h = go (spelt c n (bytes_of s (next_word s at))
     go (Ok v) p r q (suc k) h =
         let z : columns_from cs (count_after c v n) s (next_word s at).end ≡ Ok e = rw p at q in
         rw p (r v z k (omega arith) ∙ ap (λ (w : Extent). w.start) (sym (word_later s at k)))
-    go (Err (fault_at why off)) p r q k h =
-        let z : Err (record { reason = why; place = (next_word s at).start + off }) ≡ Ok e = rw p at q in
+    go (Err bad) p r q k h =
+        let z : Err (record { reason = bad.reason; place = (next_word s at).start + bad.place }) ≡ Ok e = rw p at q in
         absurd (let y : ◌≡◌ {A = ℕ} 0 1 = cc in omega arith)

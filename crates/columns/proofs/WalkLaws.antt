@@ -68,8 +68,8 @@ walk_through (c ∷ cs) n s at e q = go (spelt c n (bytes_of s (next_word s at))
         let z : columns_from cs (count_after c v n) s (next_word s at).end ≡ Ok e = rw p at q in
         let t = k v z in
         record { count = omega (arith, t.count, count_more s at (word_some c n v s at p)); line = t.line ∙ word_line_end s at }
-    go (Err (fault_at why off)) p k q =
-        let z : Err (record { reason = why; place = (next_word s at).start + off }) ≡ Ok e = rw p at q in
+    go (Err bad) p k q =
+        let z : Err (record { reason = bad.reason; place = (next_word s at).start + bad.place }) ≡ Ok e = rw p at q in
         absurd (let y : ◌≡◌ {A = ℕ} 0 1 = cc in omega arith)
 
 -- a field taken alone

@@ -24,7 +24,7 @@ table_of codes = map kind_of (take column_limit codes)
 
 abbrev pub field_of : Result ℕ Fault → Extent → Result (ℕ × Extent) Fault
 field_of (Ok v) w = Ok (v, w)
-field_of (Err (fault_at why at)) w = Err (record { reason = why; place = w.start + at })
+field_of (Err x) w = Err (record { reason = x.reason; place = w.start + x.place })
 
 -- the word at or after a place, read as a column of a kind: its value and where it stands
 unfoldable pub field_from : Kind → ℕ → List ℕ → ℕ → Result (ℕ × Extent) Fault

@@ -113,7 +113,7 @@ items_near least most n at (x ∷ xs) = go (number_of least most x) (items_near 
     go : (y : Result ℕ Fault) → fault_in (test_items least most (n + 1) (at + length x + 1) xs) ≤ at + length x + 1 + spread xs - 1
         → fault_in (or_item y at (test_items least most (n + 1) (at + length x + 1) xs)) ≤ at + (length x + 1 + spread xs) - 1
     go (Ok v) h = omega arith
-    go (Err (fault_at why p)) h = omega arith
+    go (Err bad) h = omega arith
 
 list_near : (least most : ℕ) (comma : Bool) (n : ℕ) (w : List ℕ) → fault_in (list_of least most comma n w) ≤ length w
 unfolding list_of list_end items_of
@@ -122,7 +122,7 @@ list_near least most comma n w = go (test_items least most 0 0 (pieces_of Item w
     go : (x : Result ℕ Fault) → fault_in x ≤ length w
         → fault_in (then_count x (λ m. require (not (open_end comma w)) (Err (fault_at NumberMisspelt (length w))) (require (eqb m n) (Err (fault_at ListLength 0)) (Ok m)))) ≤ length w
     go (Ok m) h = fault_require (length w) (not (open_end comma w)) NumberMisspelt (length w) (require (eqb m n) (Err (fault_at ListLength 0)) (Ok m)) (le_refl (length w)) (fault_require (length w) (eqb m n) ListLength 0 (Ok m) zero-le zero-le)
-    go (Err (fault_at why at)) h = h
+    go (Err bad) h = h
 
 colour_near : (w : List ℕ) → fault_in (colour_of w) ≤ length w
 unfolding colour_of
@@ -131,7 +131,7 @@ colour_near w = go (same_bytes w (48 ∷ [])) (list_of 0 colour_limit false 3 w)
     go : (t : Bool) (x : Result ℕ Fault) (v : ℕ) → fault_in x ≤ length w → fault_in (cond t (Ok 0) (then_count x (λ m. Ok v))) ≤ length w
     go true x v h = zero-le
     go false (Ok m) v h = zero-le
-    go false (Err (fault_at why at)) v h = h
+    go false (Err bad) v h = h
 
 spelt_near : (k : Kind) (n : ℕ) (w : List ℕ) → fault_in (spelt k n w) ≤ length w
 unfolding spelt name_of strand_of fixed_of
@@ -162,7 +162,7 @@ module _ (s : List ℕ) where
       go : (x : Result ℕ Fault) → fault_in x ≤ length (bytes_of s (next_word s at)) → ((v : ℕ) → columns_place (columns_from ks (count_after k v n) s (next_word s at).end) ≤ length s)
           → columns_place (then_columns (field_of x (next_word s at)) (λ v w. columns_from ks (count_after k v n) s w.end)) ≤ length s
       go (Ok v) l f = f v
-      go (Err (fault_at why off)) l f = fault_in_lem (next_word s at) off (next_in s at h).0 l
+      go (Err bad) l f = fault_in_lem (next_word s at) bad.place (next_in s at h).0 l
 
   -- the places that the columns hold
   pub values_place : (cs : List Kind) (n at i : ℕ) → at ≤ length s → get_or (values_from cs n s at) (2 * i + 1) 0 ≤ length s
@@ -174,7 +174,7 @@ module _ (s : List ℕ) where
           → get_or (then_numbers (field_of x (next_word s at)) (λ v w. v ∷ w.start ∷ values_from ks (count_after k v n) s w.end)) (2 * i + 1) 0 ≤ length s
       go (Ok v) zero f = (next_in s at h).0
       go (Ok v) (suc i) f = let e : 2 * suc i + 1 ≡ suc (suc (2 * i + 1)) = omega arith in rw e (f v i)
-      go (Err (fault_at why off)) i f = zero-le
+      go (Err bad) i f = zero-le
 
   -- a text of one line
   pub line_place : (cs : List Kind) → columns_place (line_read cs s) ≤ length s

@@ -178,7 +178,7 @@ module _ (s : List ℕ) where
     where
       go : (x : Result ℕ Fault) → fault_place (numbers.words_from s (next_word s at).end ws) ≤ length s → fault_place (numbers.or_word x (next_word s at).start (numbers.words_from s (next_word s at).end ws)) ≤ length s
       go (Ok v) k = k
-      go (Err (fault_at why off)) k = (next_in s at h).0
+      go (Err bad) k = (next_in s at h).0
 
   numbers_check : (c : Result ⊤ Fault) (rest : Result ℕ Fault) → fault_place c ≤ length s → numbers_fault rest ≤ length s → numbers_fault (then_check Err c rest) ≤ length s
   numbers_check = then_place numbers_fault Err (length s) (λ x. refl)

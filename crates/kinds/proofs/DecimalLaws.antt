@@ -165,7 +165,7 @@ items_as least most n at m (x ∷ xs) l h = go (number_of least most x) refl h (
   where
     go : (y : Result ℕ Fault) → number_of least most x ≡ y → or_item y at (test_items least most (n + 1) (at + length x + 1) xs) ≡ Ok m
         → (test_items least most (n + 1) (at + length x + 1) xs ≡ Ok m → Good least most (n + 1) m xs) → Good least most n m (x ∷ xs)
-    go (Err (fault_at why p)) e k rec = absurd (let o : ◌≡◌ {A = ℕ} 0 1 = cc in omega arith)
+    go (Err bad) e k rec = absurd (let o : ◌≡◌ {A = ℕ} 0 1 = cc in omega arith)
     go (Ok v) e k rec =
         let g = rec k in
         let d = number_as least most v x l e in
@@ -203,7 +203,7 @@ list_read least most comma n m w l h = go (test_items least most 0 0 (items_of w
         record { items = items_as least most 0 0 m (items_of w) l (e ∙ ap Ok z); shut = p; count = sym z ∙ eqb-true y n q }
 
     go : (x : Result ℕ Fault) → test_items least most 0 0 (items_of w) ≡ x → then_count x (λ y. require (not (open_end comma w)) (Err (fault_at NumberMisspelt (length w))) (require (eqb y n) (Err (fault_at ListLength 0)) (Ok y))) ≡ Ok m → Read least most comma n m w
-    go (Err (fault_at why p)) e k = absurd (let o : ◌≡◌ {A = ℕ} 0 1 = cc in omega arith)
+    go (Err bad) e k = absurd (let o : ◌≡◌ {A = ℕ} 0 1 = cc in omega arith)
     go (Ok y) e k = inner y (open_end comma w) (eqb y n) e refl refl k
 
 -- where an end is not open, there is a byte, and the last one is a comma only where one is allowed

@@ -92,4 +92,4 @@ colour_spelt n w v e = go (same_bytes w (48 ∷ [])) (list_of 0 colour_limit fal
         let z : three (values_of w) ≡ v = cc in
         let b = (list_range 0 colour_limit false 3 w m p).0 in
         rw z at (packed_small (get_or (values_of w) 0 0) (get_or (values_of w) 1 0) (get_or (values_of w) 2 0) (between_at b 0) (between_at b 1) (between_at b 2))
-    go false (Err (fault_at why at)) p q = absurd (let z : ◌≡◌ {A = ℕ} 0 1 = cc in omega arith)
+    go false (Err bad) p q = absurd (let z : ◌≡◌ {A = ℕ} 0 1 = cc in omega arith)

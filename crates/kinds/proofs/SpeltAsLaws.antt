@@ -126,7 +126,7 @@ colour_as v w h = go (same_bytes w (48 ∷ [])) (list_of 0 colour_limit false 3 
     go : (t : Bool) (x : Result ℕ Fault) → same_bytes w (48 ∷ []) ≡ t → list_of 0 colour_limit false 3 w ≡ x
         → cond t (Ok 0) (then_count x (λ m. Ok (packed (get_or (values_of w) 0 0) (get_or (values_of w) 1 0) (get_or (values_of w) 2 0)))) ≡ Ok v → ((w ≡ 48 ∷ []) × (v ≡ 0)) ⊎ Mixed w v
     go true x e f k = inl (same_as w (48 ∷ []) e, let z : 0 ≡ v = cc in sym z)
-    go false (Err (fault_at why at)) e f k = absurd (let o : ◌≡◌ {A = ℕ} 0 1 = cc in omega arith)
+    go false (Err bad) e f k = absurd (let o : ◌≡◌ {A = ℕ} 0 1 = cc in omega arith)
     go false (Ok m) e f k = inr (mixed m f (cc))
 
 as_mixed : (v : ℕ) (w : List ℕ) → Mixed w v → colour_of w ≡ Ok v

@@ -40,7 +40,7 @@ words_good s at (w ∷ ws) h = go (number_of 0 largest_listed w) refl h (words_g
   where
     go : (x : Result ℕ Fault) → number_of 0 largest_listed w ≡ x → or_word x (next_word s at).start (words_from s (next_word s at).end ws) ≡ (Ok tt)
         → (words_from s (next_word s at).end ws ≡ (Ok tt) → Good ws) → Good (w ∷ ws)
-    go (Err (fault_at why off)) e k rec = absurd (let o : ◌≡◌ {A = ℕ} 0 1 = cc in omega arith)
+    go (Err bad) e k rec = absurd (let o : ◌≡◌ {A = ℕ} 0 1 = cc in omega arith)
     go (Ok v) e k rec =
         let g = rec k in
         let d = number_as 0 largest_listed v w largest_small e in
@@ -60,7 +60,7 @@ all_good s at (w ∷ ws) h = go (number_of 0 largest_listed w) refl (λ l. all_g
     go : (x : Result ℕ Fault) → number_of 0 largest_listed w ≡ x → (length (good_values 0 largest_listed ws) ≡ length ws → words_from s (next_word s at).end ws ≡ (Ok tt))
         → or_word x (next_word s at).start (words_from s (next_word s at).end ws) ≡ (Ok tt)
     go (Ok v) e f = f (let k = (rw e at h) in omega (arith, k))
-    go (Err (fault_at why off)) e f = absurd (let k = (rw e at h) in omega (arith, k))
+    go (Err bad) e f = absurd (let k = (rw e at h) in omega (arith, k))
 
 digits_good : (s : List ℕ) (at : ℕ) (vs : List ℕ) → Between 0 largest_listed vs → words_from s at (map digits vs) ≡ (Ok tt)
 unfolding words_from

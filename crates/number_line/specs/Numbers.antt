@@ -18,7 +18,7 @@ largest_listed = 999999999999999999
 -- a good word lets the rest be tested; a bad one is refused at its first byte
 abbrev pub or_word : Result ℕ Fault → ℕ → Result ⊤ Fault → Result ⊤ Fault
 or_word (Ok v) at rest = rest
-or_word (Err (fault_at why off)) at rest = Err (fault_at why at)
+or_word (Err x) at rest = Err (fault_at x.reason at)
 
 -- the words from a place on, from the left: misspelt (4), or out of range (5)
 unfoldable pub words_from : List ℕ → ℕ → List (List ℕ) → Result ⊤ Fault

@@ -134,7 +134,7 @@ ended comma n w (Ok k) m e = go (open_end comma w) (eqb k n) refl refl e
     go true u h l q = absurd (let z : ◌≡◌ {A = ℕ} 0 1 = cc in omega arith)
     go false true h l q = let x : k ≡ m = cc in record { items = q; shut = h; count = sym x ∙ eqb-true k n l }
     go false false h l q = absurd (let z : ◌≡◌ {A = ℕ} 0 1 = cc in omega arith)
-ended comma n w (Err (fault_at why at)) m e = absurd (let z : ◌≡◌ {A = ℕ} 0 1 = cc in omega arith)
+ended comma n w (Err bad) m e = absurd (let z : ◌≡◌ {A = ℕ} 0 1 = cc in omega arith)
 
 pub list_ended : (comma : Bool) (n : ℕ) (w : List ℕ) (found : Result ℕ Fault) (m : ℕ) → list_end comma n w found ≡ Ok m → Ended comma n w found m
 list_ended comma n w found m e = ended comma n w found m e
@@ -147,7 +147,7 @@ good_all least most n at m (x ∷ xs) e = go (number_of least most x) refl (λ h
   where
     go : (y : Result ℕ Fault) → number_of least most x ≡ y → (test_items least most (n + 1) (at + length x + 1) xs ≡ Ok m → good_values least most xs ≡ map value xs) → or_item y at (test_items least most (n + 1) (at + length x + 1) xs) ≡ Ok m → or_stop (number_of least most x) (good_values least most xs) ≡ value x ∷ map value xs
     go (Ok v) q k h = rw (q, value_is least most x v q, k h)
-    go (Err (fault_at why p)) q k h = absurd (let z : ◌≡◌ {A = ℕ} 0 1 = cc in omega arith)
+    go (Err bad) q k h = absurd (let z : ◌≡◌ {A = ℕ} 0 1 = cc in omega arith)
 
 pub good_values_lem : (least most : ℕ) (w : List ℕ) (m : ℕ) → test_items least most 0 0 (items_of w) ≡ Ok m → good_values least most (items_of w) ≡ values_of w
 unfolding values_of
@@ -192,7 +192,7 @@ items_range least most n at m (x ∷ xs) e = go (number_of least most x) refl (�
         let i : value x ≡ v = value_is least most x v q in
         let t = k h in
         (between_more {v = value x} (omega (arith, r.0)) (omega (arith, r.1)) t.0, omega (arith, t.1))
-    go (Err (fault_at why p)) q k h = absurd (let z : ◌≡◌ {A = ℕ} 0 1 = cc in omega arith)
+    go (Err bad) q k h = absurd (let z : ◌≡◌ {A = ℕ} 0 1 = cc in omega arith)
 
 pub list_range : (least most : ℕ) (comma : Bool) (n : ℕ) (w : List ℕ) (m : ℕ) → list_of least most comma n w ≡ Ok m → Between least most (values_of w) × (length (values_of w) ≡ n) × (m ≡ n)
 unfolding list_of values_of

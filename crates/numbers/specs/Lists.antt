@@ -29,7 +29,7 @@ pub record PieceRead (least most : ℕ) (w : List ℕ) (i : ℕ) (r : Piece) : T
 -- a good item lets the rest be tested; a bad one is refused at its own first byte
 abbrev pub or_item : Result ℕ Fault → ℕ → Result ℕ Fault → Result ℕ Fault
 or_item (Ok v) at rest = rest
-or_item (Err (fault_at why p)) at rest = Err (fault_at why at)
+or_item (Err x) at rest = Err (fault_at x.reason at)
 
 -- the items tested from the left: n were good before, and the first of these stands at a place
 unfoldable pub test_items : ℕ → ℕ → ℕ → ℕ → List (List ℕ) → Result ℕ Fault
@@ -47,7 +47,7 @@ open_end comma w = eqb (length w) 0 || (not comma && eqb (last_byte 0 w) 44)
 
 abbrev pub then_count : Result ℕ Fault → (ℕ → Result ℕ Fault) → Result ℕ Fault
 then_count (Ok m) rest = rest m
-then_count (Err (fault_at why at)) rest = Err (fault_at why at)
+then_count (Err x) rest = Err x
 
 -- what was found of the items, then an empty one at the end, then their number against a count
 unfoldable pub list_end : Bool → ℕ → List ℕ → Result ℕ Fault → Result ℕ Fault
@@ -67,7 +67,7 @@ values_of w = map value (items_of w)
 
 abbrev pub or_stop : Result ℕ Fault → List ℕ → List ℕ
 or_stop (Ok v) vs = v ∷ vs
-or_stop (Err (fault_at why p)) vs = []
+or_stop (Err x) vs = []
 
 -- the values of the items before the first bad one: of all items where there is none
 unfoldable pub good_values : ℕ → ℕ → List (List ℕ) → List ℕ
@@ -88,7 +88,7 @@ pub record ListEnded (comma : Bool) (n : ℕ) (w : List ℕ) (found r : Result �
 -- the table after reading: the values stored from its front as far as it reaches, or the table as it was
 abbrev pub table_after : Result ℕ Fault → List ℕ → List ℕ → List ℕ
 table_after (Ok m) vs before = sets before 0 vs
-table_after (Err (fault_at why at)) vs before = before
+table_after (Err x) vs before = before
 
 -- what reading a list promises
 pub record ListRead (least most : ℕ) (comma : Bool) (n : ℕ) (w before after : List ℕ) (r : Result ℕ Fault) : Type 0 where

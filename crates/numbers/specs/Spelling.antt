@@ -6,4 +6,4 @@ use Rattle.ledger.specs.Refusals.{fault_at}
 -- where in the word a fault stands
 abbrev pub fault_in : Result ℕ Fault → ℕ
 fault_in (Ok v) = 0
-fault_in (Err (fault_at why at)) = at
+fault_in (Err x) = x.place

@@ -99,12 +99,18 @@ fn judge(n: usize, first: u8, v: u64, least: u64, most: u64) -> Result<u64, Faul
     ensures { Judged n first v least most result }
 {
     if !leads(n, first) {
-        return Err(Fault { reason: Reason::NumberMisspelt, place: 0 });
+        return Err(Fault {
+            reason: Reason::NumberMisspelt,
+            place: 0,
+        });
     }
     if (least <= v) & (v <= most) {
         return Ok(v);
     }
-    Err(Fault { reason: Reason::NumberOutOfRange, place: 0 })
+    Err(Fault {
+        reason: Reason::NumberOutOfRange,
+        place: 0,
+    })
 }
 
 // The byte at a place, or 0 past the end.
@@ -137,7 +143,10 @@ fn read_long(word: &[u8], least: u64, most: u64) -> Result<u64, Fault>
     ensures { NumberRead least most word.now result }
 {
     if !well_spelt(word) {
-        return Err(Fault { reason: Reason::NumberMisspelt, place: 0 });
+        return Err(Fault {
+            reason: Reason::NumberMisspelt,
+            place: 0,
+        });
     }
     let tens = most / 10;
     let mut acc: u64 = 0;
@@ -145,16 +154,25 @@ fn read_long(word: &[u8], least: u64, most: u64) -> Result<u64, Fault>
     while i < word.len() {
         let d = digit(word[i]);
         if tens < acc {
-            return Err(Fault { reason: Reason::NumberOutOfRange, place: 0 });
+            return Err(Fault {
+                reason: Reason::NumberOutOfRange,
+                place: 0,
+            });
         }
         if most - acc * 10 < d {
-            return Err(Fault { reason: Reason::NumberOutOfRange, place: 0 });
+            return Err(Fault {
+                reason: Reason::NumberOutOfRange,
+                place: 0,
+            });
         }
         acc = acc * 10 + d;
         i += 1;
     }
     if acc < least {
-        return Err(Fault { reason: Reason::NumberOutOfRange, place: 0 });
+        return Err(Fault {
+            reason: Reason::NumberOutOfRange,
+            place: 0,
+        });
     }
     Ok(acc)
 }
@@ -169,7 +187,10 @@ pub fn read_number(word: &[u8], least: u64, most: u64) -> Result<u64, Fault>
     }
     let d = digits_in(word, 0, n);
     if d.end < n {
-        return Err(Fault { reason: Reason::NumberMisspelt, place: 0 });
+        return Err(Fault {
+            reason: Reason::NumberMisspelt,
+            place: 0,
+        });
     }
     judge(n, byte_at(word, 0), d.value, least, most)
 }
@@ -279,8 +300,11 @@ pub fn store_items(word: &[u8], least: u64, most: u64, out: &mut [u64]) -> Resul
             Ok(v) => {
                 store(out, n, v);
             }
-            Err(Fault { reason: reason, place: _ }) => {
-                return Err(Fault { reason: reason, place: i });
+            Err(x) => {
+                return Err(Fault {
+                    reason: x.reason,
+                    place: i,
+                });
             }
         }
         n += 1;
@@ -308,15 +332,26 @@ fn open_end(word: &[u8], comma: bool) -> bool
 
 // Ends a list whose items were found good or bad: an empty item at the end, then the number of items against a count.
 // `comma`: whether one further comma may stand at the end.
-pub fn end_list(found: Result<u64, Fault>, word: &[u8], comma: bool, count: u64) -> Result<u64, Fault>
+pub fn end_list(
+    found: Result<u64, Fault>,
+    word: &[u8],
+    comma: bool,
+    count: u64,
+) -> Result<u64, Fault>
     ensures { ListEnded comma count word.now found result }
 {
     let m = found?;
     if open_end(word, comma) {
-        return Err(Fault { reason: Reason::NumberMisspelt, place: word.len() });
+        return Err(Fault {
+            reason: Reason::NumberMisspelt,
+            place: word.len(),
+        });
     }
     if m != count {
-        return Err(Fault { reason: Reason::ListLength, place: 0 });
+        return Err(Fault {
+            reason: Reason::ListLength,
+            place: 0,
+        });
     }
     Ok(m)
 }
