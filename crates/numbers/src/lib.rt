@@ -55,8 +55,7 @@ fn digits_in(text: &[u8], from: usize, most: usize) -> Digits
     ensures { DigitsRead text.now from most result }
 {
     let mut value: u64 = 0;
-    let mut k = 0;
-    while k < most {
+    for k in 0..most {
         let b = wide(text[from + k]);
         if !is_digit(b) {
             return Digits {
@@ -65,11 +64,10 @@ fn digits_in(text: &[u8], from: usize, most: usize) -> Digits
             };
         }
         value = one_more(value, b);
-        k += 1;
     }
     Digits {
         value,
-        end: from + k,
+        end: from + most,
     }
 }
 
@@ -148,9 +146,8 @@ fn read_long(word: &[u8], least: u64, most: u64) -> Spelt
     }
     let tens = most / 10;
     let mut acc: u64 = 0;
-    let mut i = 0;
-    while i < word.len() {
-        let d = digit(word[i]);
+    for b in word {
+        let d = digit(*b);
         if tens < acc {
             return Spelt::Faulty(Reason::NumberOutOfRange, 0);
         }
@@ -158,7 +155,6 @@ fn read_long(word: &[u8], least: u64, most: u64) -> Spelt
             return Spelt::Faulty(Reason::NumberOutOfRange, 0);
         }
         acc = acc * 10 + d;
-        i += 1;
     }
     if acc < least {
         return Spelt::Faulty(Reason::NumberOutOfRange, 0);
