@@ -124,9 +124,9 @@ module _ (s : List ℕ) (from k v most : ℕ) (there : from + most ≤ length s)
         let q : from + k ≡ end_of Digit s from = scan_found Digit s (from + k) from t inv (omega arith) (et ∙ ap (is_in Digit) eb) e in
         at_most (omega arith) (omega arith) (λ l. q)
 
-  pub digits_end : k ≤ most → most ≤ k → DigitsRead s from most (record { value = v; end = from + k })
+  pub digits_end : k ≤ most → most ≤ k → DigitsRead s from most (record { value = v; end = from + most })
   unfolding end_of
-  digits_end h l = at_most (omega (arith, inv)) h (λ q. absurd (omega arith))
+  digits_end h l = let q : from + most ≡ from + k = omega arith in rw q (at_most (omega (arith, inv)) h (λ q. absurd (omega arith)))
 
 -- past the text's end, as many as are asked for, or as many as are left
 module _ (s : List ℕ) (from most : ℕ) where

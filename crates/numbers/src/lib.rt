@@ -48,8 +48,7 @@ fn digits_in(text: &[u8], from: usize, most: usize) -> Digits
     ensures { DigitsRead text.now from most result }
 {
     let mut value: u64 = 0;
-    let mut k = 0;
-    while k < most {
+    for k in 0..most {
         let b = wide(text[from + k]);
         if !is_digit(b) {
             return Digits {
@@ -58,11 +57,10 @@ fn digits_in(text: &[u8], from: usize, most: usize) -> Digits
             };
         }
         value = one_more(value, b);
-        k += 1;
     }
     Digits {
         value,
-        end: from + k,
+        end: from + most,
     }
 }
 
@@ -150,9 +148,8 @@ fn read_long(word: &[u8], least: u64, most: u64) -> Result<u64, Fault>
     }
     let tens = most / 10;
     let mut acc: u64 = 0;
-    let mut i = 0;
-    while i < word.len() {
-        let d = digit(word[i]);
+    for b in word {
+        let d = digit(*b);
         if tens < acc {
             return Err(Fault {
                 reason: Reason::NumberOutOfRange,
@@ -166,7 +163,6 @@ fn read_long(word: &[u8], least: u64, most: u64) -> Result<u64, Fault>
             });
         }
         acc = acc * 10 + d;
-        i += 1;
     }
     if acc < least {
         return Err(Fault {

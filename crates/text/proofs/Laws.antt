@@ -2,7 +2,7 @@
 use mathlib.Core.Path.{◌≡◌, refl, sym, ap, ◌∙◌}
 use mathlib.Core.Bool.{Bool, true, false, not, ◌&&◌, ◌||◌}
 use mathlib.Core.List.{List, [], ◌∷◌, ◌++◌}
-use Prim.Native.Nat.{ℕ, zero, suc, ◌+◌, ◌-◌, ◌≤◌, ◌<◌, min}
+use Prim.Native.Nat.{ℕ, zero, suc, ◌+◌, ◌-◌, ◌≤◌, ◌<◌, min, max}
 use native.Mathlib.Nat.{add-zero, add-sub_cancel_left}
 use native.Mathlib.Numerals.{add-one}
 use native.Mathlib.Omega.{arith}
@@ -42,8 +42,8 @@ module _ (c : Class) (s : List ℕ) (i : ℕ) where
     pub scan_more : not t ≡ false → end_of c s (i + 1) ≡ end_of c s from
     scan_more e = sym (end_of_step h (sym is ∙ not-false t e)) ∙ inv
 
-  pub scan_past : (from : ℕ) → end_of c s i ≡ end_of c s from → length s ≤ i → i ≡ end_of c s from
-  scan_past from inv h = sym (end_of_past h) ∙ inv
+  pub scan_past : (from r : ℕ) → end_of c s i ≡ end_of c s from → length s ≤ i → from ≤ i → i ≤ max from (length s) → r ≡ max from (length s) → r ≡ end_of c s from
+  scan_past from r inv h l m e = let q : r ≡ i = omega arith in q ∙ sym (end_of_past h) ∙ inv
 
 -- the same before a stop that lies in the text
 module _ (c : Class) (s : List ℕ) (i from stop : ℕ) (t : Bool) (inv : end_of c s i ≡ end_of c s from) (h : i < stop) (e : stop ≡ min (length s) (from + 32)) (is : t ≡ is_in c (get_or s i 0)) where
@@ -52,6 +52,10 @@ module _ (c : Class) (s : List ℕ) (i from stop : ℕ) (t : Bool) (inv : end_of
 
   pub near_more : not t ≡ false → end_of c s (i + 1) ≡ end_of c s from
   near_more = scan_more c s i from t inv (omega arith) is
+
+-- past the stop, a scan from there ends where the scan from the start does
+pub near_past : (c : Class) (s : List ℕ) (i from stop m r : ℕ) → end_of c s i ≡ end_of c s from → stop ≤ i → from ≤ i → i ≤ max from stop → m ≡ max from stop → r ≡ end_of c s m → r ≡ end_of c s from
+near_past c s i from stop m r inv h l k em is = let q : m ≡ i = omega arith in is ∙ ap (end_of c s) q ∙ inv
 
 -- a run that takes all of xs goes on into what follows
 pub more_ones : (t : Bool) (n m : ℕ) → one_more t n ≡ suc m → (t ≡ true) × (n ≡ m)

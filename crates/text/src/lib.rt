@@ -42,14 +42,12 @@ pub fn is_in(class: Class, b: u8) -> bool
 pub fn scan(text: &[u8], from: usize, class: Class) -> usize
     ensures { Scanned class text.now from result }
 {
-    let mut i = from;
-    while i < text.len() {
+    for i in from..text.len() {
         if !is_in(class, text[i]) {
             return i;
         }
-        i += 1;
     }
-    i
+    from.max(text.len())
 }
 
 // Whether all bytes are of a class. The loop has no early way out, so that many bytes are tested at once.
@@ -57,10 +55,8 @@ fn all_in(part: &[u8], class: Class) -> bool
     ensures { result ≡ leb (length part.now) (end_of class part.now 0) }
 {
     let mut good = true;
-    let mut i = 0;
-    while i < part.len() {
-        good = good & is_in(class, part[i]);
-        i += 1;
+    for b in part {
+        good &= is_in(class, *b);
     }
     good
 }
@@ -109,14 +105,12 @@ fn word_end(text: &[u8], from: usize) -> usize
     ensures { Scanned Word text.now from result }
 {
     let stop = stride_end(text.len(), from);
-    let mut i = from;
-    while i < stop {
+    for i in from..stop {
         if !is_in(Class::Word, text[i]) {
             return i;
         }
-        i += 1;
     }
-    scan_far(text, i, Class::Word)
+    scan_far(text, from.max(stop), Class::Word)
 }
 
 // Whether a text may hold all its bytes. The loop has no early way out, so that many bytes are tested at once.
@@ -124,10 +118,8 @@ fn all_allowed(text: &[u8]) -> bool
     ensures { result ≡ leb (length text.now) (end_of Allowed text.now 0) }
 {
     let mut good = true;
-    let mut i = 0;
-    while i < text.len() {
-        good = good & is_in(Class::Allowed, text[i]);
-        i += 1;
+    for b in text {
+        good &= is_in(Class::Allowed, *b);
     }
     good
 }
@@ -209,13 +201,11 @@ pub fn word_at(text: &[u8], line: usize, k: usize) -> Extent
     ensures { Found (word_at text.now line k) text.now line result }
 {
     let mut w = next_word(text, line);
-    let mut i = 0;
-    while i < k {
+    for _ in 0..k {
         if w.start == w.end {
             return w;
         }
         w = next_word(text, w.end);
-        i += 1;
     }
     w
 }

@@ -8,9 +8,9 @@ use Rattle.numbers.proofs.read_long.Goals as goal
 pub returns-then-not-well_spelt : goal.returns-then-not-well_spelt
 returns-then-not-well_spelt c = record { is = search not_spelt; near = refl }
 
-pub loop-i-init : goal.loop-i-init
+pub loop-b-init : goal.loop-b-init
 unfolding value
-loop-i-init c = (search rules, search rules, refl)
+loop-b-init c = (search rules, refl)
 
 pub returns-then-tens-acc : goal.returns-then-tens-acc
 returns-then-tens-acc c = record { is = search tens_large; near = refl }
@@ -18,8 +18,8 @@ returns-then-tens-acc c = record { is = search tens_large; near = refl }
 pub returns-then-most-acc : goal.returns-then-most-acc
 returns-then-most-acc c = record { is = search digit_large; near = refl }
 
-pub loop-i-preserved : goal.loop-i-preserved
-loop-i-preserved c = (search rules, search rules, search value_more)
+pub loop-b-preserved : goal.loop-b-preserved
+loop-b-preserved c = (search rules, search value_more)
 
 pub returns-then-acc-least : goal.returns-then-acc-least
 returns-then-acc-least c = record { is = search value_small; near = refl }

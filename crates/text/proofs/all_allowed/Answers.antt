@@ -1,14 +1,9 @@
 -- The bytes passed and those from here on are allowed exactly when all are. Assumes nothing.
 use Rattle.text.proofs.Laws.{all_more, all_done}
-use borrow.Author.Rules.{rules}
-use mathlib.Core.Path.{refl}
 use Rattle.text.proofs.all_allowed.Goals as goal
 
-pub loop-i-init : goal.loop-i-init
-loop-i-init c = (search rules, refl)
-
-pub loop-i-preserved : goal.loop-i-preserved
-loop-i-preserved c = (search rules, search all_more)
+pub loop-b-preserved : goal.loop-b-preserved
+loop-b-preserved c = search all_more
 
 pub returns : goal.returns
 returns c = search all_done
