@@ -50,8 +50,8 @@ module _ (s : List ℕ) (k : ℕ) (w : Extent) (x : Result ℕ Fault) (f : Found
   pub number_means : (v : ℕ) → x ≡ Ok v → v ≡ number_at s k
   number_means v e = ap meant (sym e ∙ number_is)
 
-  pub number_faulty : (reason : Reason) (place : ℕ) → x ≡ Err (fault_at reason place) → 0 ≡ number_at s k
-  number_faulty reason place e = ap meant (sym e ∙ number_is)
+  pub number_faulty : (bad : Fault) → x ≡ Err bad → 0 ≡ number_at s k
+  number_faulty bad e = ap meant (sym e ∙ number_is)
 
 -- the strand of a word
 module _ (s : List ℕ) (k : ℕ) (w : Extent) (x : Option Strand) (f : Found (word_at s 0 k) s 0 w) (b : ℕ) (eb : b ≡ get_or s w.start 0) (is : x ≡ strand_of b) where

@@ -43,14 +43,14 @@ module _ (k : Kind) (n : ℕ) (s : List ℕ) (at : ℕ) (w : Extent) (ew : w ≡
   unfolding field_from
   field_good v q = record { result = rw (← ew, ← er.is, q); stored = held }
 
-  pub field_bad : (why : Reason) (off : ℕ) → r ≡ Err (fault_at why off) → FieldRead k n s at base d d' (Err (record { reason = why; place = w.start + off }))
+  pub field_bad : (bad : Fault) → r ≡ Err bad → FieldRead k n s at base d d' (Err (record { reason = bad.reason; place = w.start + bad.place }))
   unfolding field_from
-  field_bad why off q = record { result = rw (← ew, ← er.is, q); stored = held }
+  field_bad bad q = record { result = rw (← ew, ← er.is, q); stored = held }
 
-  pub field_near : (why : Reason) (off : ℕ) → r ≡ Err (fault_at why off) → w.start ≤ w.end → w.start + off ≤ w.end
+  pub field_near : (bad : Fault) → r ≡ Err bad → w.start ≤ w.end → w.start + bad.place ≤ w.end
   unfolding bytes_of
-  field_near why off q h =
-      let m : off ≤ length (bytes_of s w) = rw q at er.near in
+  field_near bad q h =
+      let m : bad.place ≤ length (bytes_of s w) = rw q at er.near in
       omega (arith, length-take (w.end - w.start) (drop w.start s))
 
 -- a good field stands at its word

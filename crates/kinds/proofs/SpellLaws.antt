@@ -128,9 +128,9 @@ module _ (w : List ℕ) (t : Bool) (et : t ≡ same_bytes w (48 ∷ [])) where
   colour_short q = record { is = rw (← et, q); near = zero-le }
 
   module _ (no : t ≡ false) (v : List ℕ) (x : Result ℕ Fault) (ex : ListRead 0 colour_limit false 3 w (0 ∷ 0 ∷ 0 ∷ []) v x) where
-    pub colour_bad : (why : Reason) (at : ℕ) → x ≡ Err (fault_at why at) → WordRead (colour_of w) w (Err (fault_at why at))
+    pub colour_bad : (bad : Fault) → x ≡ Err bad → WordRead (colour_of w) w (Err bad)
     unfolding colour_of
-    colour_bad why at q = record { is = rw (← et, no, ← ex.is, q); near = rw q at ex.near }
+    colour_bad bad q = record { is = rw (← et, no, ← ex.is, q); near = rw q at ex.near }
 
     pub colour_good : (m : ℕ) → x ≡ Ok m → (c : ℕ) → c ≡ packed (get_or v 0 0 % suc colour_limit) (get_or v 1 0 % suc colour_limit) (get_or v 2 0 % suc colour_limit) → WordRead (colour_of w) w (Ok c)
     unfolding colour_of

@@ -64,9 +64,9 @@ module _ (s : List ℕ) (w : Extent) (is : w ≡ next_word s w.start) where
     tested_done l h = rw (words_over l h) at tested
 
     module _ (r : Result ℕ Fault) (h : w.start < w.end) (read : NumberRead 0 largest_listed (take (w.end - w.start) (drop w.start s)) r) where
-      tested_bad : (why : Reason) (off : ℕ) → r ≡ Err (fault_at why off) → Err (record { reason = why; place = w.start }) ≡ all
+      tested_bad : (bad : Fault) → r ≡ Err bad → Err (record { reason = bad.reason; place = w.start }) ≡ all
       unfolding words_from bytes_of
-      tested_bad why off e = rw (words_there h, ← read.is, e, ← is) at tested
+      tested_bad bad e = rw (words_there h, ← read.is, e, ← is) at tested
 
       pub tested_good : (v : ℕ) (w' : Extent) → r ≡ Ok v → w' ≡ next_word s w.end → words_from s w'.start (rest_of s w'.start) ≡ all
       unfolding words_from bytes_of
@@ -79,9 +79,9 @@ module _ (s : List ℕ) (w : Extent) (is : w ≡ next_word s w.start) where
     stored_done l h k m = completes_done (good_from s w.start) ys p at b b₀ inv (rw (words_over l h)) k m
 
     module _ (r : Result ℕ Fault) (h : w.start < w.end) (read : NumberRead 0 largest_listed (take (w.end - w.start) (drop w.start s)) r) where
-      stored_bad : (why : Reason) (off : ℕ) → r ≡ Err (fault_at why off) → p ≤ largest_place → length b ≤ largest_place → Put ys at b₀ b p
+      stored_bad : (bad : Fault) → r ≡ Err bad → p ≤ largest_place → length b ≤ largest_place → Put ys at b₀ b p
       unfolding good_values words_bytes bytes_of
-      stored_bad why off e k m = completes_done (good_from s w.start) ys p at b b₀ inv (rw (words_there h, ← read.is, e)) k m
+      stored_bad bad e k m = completes_done (good_from s w.start) ys p at b b₀ inv (rw (words_there h, ← read.is, e)) k m
 
       pub stored_good : (v q : ℕ) (b₁ : List ℕ) (w' : Extent) → r ≡ Ok v → Put (low_bytes word_size v) p b b₁ q → w' ≡ next_word s w.end → Completes (good_from s w'.start) q b₁ ys at b₀
       unfolding good_values words_bytes bytes_of
@@ -96,12 +96,12 @@ module _ (s : List ℕ) (w : Extent) (is : w ≡ next_word s w.start) where
     answer : Result ⊤ Fault → Result ℕ Fault
     answer c = then_check Err c (Ok (word_count s 0))
 
-    pub walked_bad : (r : Result ℕ Fault) → w.start < w.end → NumberRead 0 largest_listed (take (w.end - w.start) (drop w.start s)) r → (why : Reason) (off : ℕ) → r ≡ Err (fault_at why off)
-        → Walked s b₀ b (Err (record { reason = why; place = w.start }))
+    pub walked_bad : (r : Result ℕ Fault) → w.start < w.end → NumberRead 0 largest_listed (take (w.end - w.start) (drop w.start s)) r → (bad : Fault) → r ≡ Err bad
+        → Walked s b₀ b (Err (record { reason = bad.reason; place = w.start }))
     unfolding answer
-    walked_bad r h read why off e = record {
-      is = ap answer (tested_bad (words_from s 0 (rest_of s 0)) tested r h read why off e);
-      stored = (stored_bad p 0 b b₀ (good_from s 0) inv r h read why off e hp hb).stored;
+    walked_bad r h read bad e = record {
+      is = ap answer (tested_bad (words_from s 0 (rest_of s 0)) tested r h read bad e);
+      stored = (stored_bad p 0 b b₀ (good_from s 0) inv r h read bad e hp hb).stored;
     }
 
     pub walked_all : (n : ℕ) → w.start ≤ w.end → w.end ≤ w.start → n + word_count s w.start ≡ word_count s 0 → Walked s b₀ b (Ok n)

@@ -74,9 +74,9 @@ module _ (least most : ℕ) (w : List ℕ) (i n : ℕ) (inv : test_items least m
   list_done h = rw (items_past w i h) at inv
 
   module _ (h : i < length w) (x : Piece) (is : PieceRead least most w i x) where
-    pub list_bad : (why : Reason) (p : ℕ) → x.spelt ≡ Err (fault_at why p) → Err (fault_at why i) ≡ test_items least most 0 0 (items_of w)
+    pub list_bad : (bad : Fault) → x.spelt ≡ Err bad → Err (fault_at bad.reason i) ≡ test_items least most 0 0 (items_of w)
     unfolding test_items
-    list_bad why p q = rw (items_step w i x.end h is.ends, ← (spelt_in least most w i x is), q) at inv
+    list_bad bad q = rw (items_step w i x.end h is.ends, ← (spelt_in least most w i x is), q) at inv
 
     pub list_more : (v : ℕ) → x.spelt ≡ Ok v → test_items least most (n + 1) (x.end + 1) (items_of (drop (x.end + 1) w)) ≡ test_items least most 0 0 (items_of w)
     unfolding test_items
@@ -91,9 +91,9 @@ module _ (least most : ℕ) (w before out : List ℕ) (i n : ℕ) (inv : sets ou
   stored_done h = rw (items_past w i h) at inv
 
   module _ (h : i < length w) (x : Piece) (is : PieceRead least most w i x) where
-    pub stored_bad : (why : Reason) (p : ℕ) → x.spelt ≡ Err (fault_at why p) → out ≡ sets before 0 (good_values least most (items_of w))
+    pub stored_bad : (bad : Fault) → x.spelt ≡ Err bad → out ≡ sets before 0 (good_values least most (items_of w))
     unfolding good_values
-    stored_bad why p q = rw (items_step w i x.end h is.ends, ← (spelt_in least most w i x is), q) at inv
+    stored_bad bad q = rw (items_step w i x.end h is.ends, ← (spelt_in least most w i x is), q) at inv
 
     pub stored_more : (v : ℕ) (out' : List ℕ) → x.spelt ≡ Ok v → out' ≡ set out n v → sets out' (n + 1) (good_values least most (items_of (drop (x.end + 1) w))) ≡ sets before 0 (good_values least most (items_of w))
     unfolding good_values
@@ -101,9 +101,9 @@ module _ (least most : ℕ) (w before out : List ℕ) (i n : ℕ) (inv : sets ou
 
 -- the end of a list
 module _ (comma : Bool) (n : ℕ) (w : List ℕ) (found : Result ℕ Fault) where
-  pub end_bad : (why : Reason) (at : ℕ) → found ≡ Err (fault_at why at) → ListEnded comma n w found (Err (fault_at why at))
+  pub end_bad : (bad : Fault) → found ≡ Err bad → ListEnded comma n w found (Err bad)
   unfolding list_end
-  end_bad why at q = record { is = rw q; near = λ h. rw q at h }
+  end_bad bad q = record { is = rw q; near = λ h. rw q at h }
 
   module _ (m : ℕ) (q : found ≡ Ok m) (t : Bool) (et : t ≡ open_end comma w) where
     pub end_open : t ≡ true → ListEnded comma n w found (Err (fault_at NumberMisspelt (length w)))
@@ -159,8 +159,8 @@ module _ (least most : ℕ) (comma : Bool) (n : ℕ) (w b none none' : List ℕ)
   unfolding list_of
   list_is = rw (← walked.is) end.is
 
-  pub read_bad : (why : Reason) (at : ℕ) → x ≡ Err (fault_at why at) → ListRead least most comma n w b b (Err (fault_at why at))
-  read_bad why at q = record { is = sym q ∙ list_is; stored = refl; near = rw q at (end.near walked.near) }
+  pub read_bad : (bad : Fault) → x ≡ Err bad → ListRead least most comma n w b b (Err bad)
+  read_bad bad q = record { is = sym q ∙ list_is; stored = refl; near = rw q at (end.near walked.near) }
 
   pub read_good : (m : ℕ) (b' : List ℕ) (r : Result ℕ Fault) → x ≡ Ok m → ItemsStored least most w b b' r → ListRead least most comma n w b b' r
   read_good m b' r q walk =

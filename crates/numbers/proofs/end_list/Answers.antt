@@ -8,8 +8,8 @@ returns-then-open_end c = search ends
 pub returns-then-m-count : goal.returns-then-m-count
 returns-then-m-count c = search ends
 
-pub returns-in-Faulty : goal.returns-in-Faulty
-returns-in-Faulty c = search ends
+pub returns-in_err-m : goal.returns-in_err-m
+returns-in_err-m c = rw c.from_residual.ensures (search ends)
 
-pub returns-else-m-count : goal.returns-else-m-count
-returns-else-m-count c = search ends
+pub returns : goal.returns
+returns c = search ends

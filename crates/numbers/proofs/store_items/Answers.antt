@@ -7,8 +7,8 @@ use Rattle.numbers.proofs.store_items.Goals as goal
 pub loop-i-init : goal.loop-i-init
 loop-i-init c = (search rules, search rules, refl, refl, refl)
 
-pub returns-in-Faulty : goal.returns-in-Faulty
-returns-in-Faulty c = record { is = search list_bad; stored = search stored_bad; near = search rules }
+pub returns-in-Err : goal.returns-in-Err
+returns-in-Err c = record { is = search list_bad; stored = search stored_bad; near = search rules }
 
 pub loop-i-preserved : goal.loop-i-preserved
 loop-i-preserved c = (search rules, search rules, search rules, search list_more, search stored_more)
