@@ -16,19 +16,19 @@ use Rattle.writing.specs.Puts.{Put}
 use Rattle.writing.proofs.PutLaws.{put_then, Completes, completes_step, completes_done}
 use Rattle.binary.specs.Bytes.{low_bytes, word_size, words_bytes, low_at, rows_numbers, ByteRead}
 
-low_next : (k n : ℕ) → 0 < k → low_bytes k n ≡ n % 256 ∷ low_bytes (k - 1) (n / 256)
+low_next : (k j n : ℕ) → k ≡ suc j → low_bytes k n ≡ n % 256 ∷ low_bytes j (n / 256)
 unfolding low_bytes
-low_next zero n h = absurd (omega arith)
-low_next (suc k) n h = let e : suc k - 1 ≡ k = omega arith in rw e
+low_next k j n e = rw e
 
--- the lowest byte, then the others
-module _ (k n p at : ℕ) (all b b₀ : List ℕ) (c : Completes (low_bytes k n) p b all at b₀) where
-  pub low_step : (q : ℕ) (b₁ : List ℕ) → 0 < k → Put (n % 256 ∷ []) p b b₁ q → Completes (low_bytes (k - 1) (n / 256)) q b₁ all at b₀
-  low_step q b₁ h f = completes_step (low_bytes k n) (n % 256 ∷ []) (low_bytes (k - 1) (n / 256)) all p q at b b₁ b₀ c (low_next k n h) f
+-- the lowest byte, then the others: k bytes of which i are stored
+module _ (k i n p at : ℕ) (all b b₀ : List ℕ) (c : Completes (low_bytes (k - i) n) p b all at b₀) where
+  pub low_step : (q : ℕ) (b₁ : List ℕ) → i < k → Put (n % 256 ∷ []) p b b₁ q → Completes (low_bytes (k - (i + 1)) (n / 256)) q b₁ all at b₀
+  low_step q b₁ h f =
+      completes_step (low_bytes (k - i) n) (n % 256 ∷ []) (low_bytes (k - (i + 1)) (n / 256)) all p q at b b₁ b₀ c (low_next (k - i) (k - (i + 1)) n (omega arith)) f
 
-  pub low_done : k ≤ 0 → p ≤ largest_place → length b ≤ largest_place → Put all at b₀ b p
+  pub low_done : k ≤ i → p ≤ largest_place → length b ≤ largest_place → Put all at b₀ b p
   unfolding low_bytes
-  low_done h l m = let e : k ≡ 0 = omega arith in completes_done (low_bytes k n) all p at b b₀ c (rw e) l m
+  low_done h l m = let e : k - i ≡ 0 = omega arith in completes_done (low_bytes (k - i) n) all p at b b₀ c (rw e) l m
 
 pub words_next : (vs : List ℕ) (i : ℕ) → i < length vs → words_bytes (drop i vs) ≡ low_bytes word_size (get_or vs i 0) ++ words_bytes (drop (i + 1) vs)
 unfolding words_bytes

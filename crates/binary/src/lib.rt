@@ -17,11 +17,9 @@ pub fn put_low(buf: &mut [u8], at: usize, n: u64, count: usize) -> usize
 {
     let mut p = at;
     let mut rest = n;
-    let mut left = count;
-    while 0 < left {
+    for _ in 0..count {
         p = writing::put_byte(buf, p, (rest % 256) as u8);
-        rest = rest / 256;
-        left -= 1;
+        rest /= 256;
     }
     p
 }
@@ -53,10 +51,8 @@ fn store_words(buf: &mut [u8], at: usize, vs: &[u64])
     requires { at + word_size * length vs.now ≤ length buf.old }
     ensures { buf.new ≡ sets buf.old at (words_bytes vs.now) }
 {
-    let mut i = 0;
-    while i < vs.len() {
-        store_word(buf, at + WORD_SIZE * i, vs[i]);
-        i += 1;
+    for (i, v) in vs.iter().enumerate() {
+        store_word(buf, at + WORD_SIZE * i, *v);
     }
 }
 
@@ -75,10 +71,8 @@ fn put_each(buf: &mut [u8], at: usize, vs: &[u64]) -> usize
     ensures { Put (words_bytes vs.now) at buf.old buf.new result }
 {
     let mut p = at;
-    let mut i = 0;
-    while i < vs.len() {
-        p = put_low(buf, p, vs[i], WORD_SIZE);
-        i += 1;
+    for v in vs {
+        p = put_low(buf, p, *v, WORD_SIZE);
     }
     p
 }
@@ -130,8 +124,7 @@ fn store_rows(buf: &mut [u8], at: usize, targets: &[u64], queries: &[u64], sizes
     ensures { buf.new ≡ sets buf.old at
         (words_bytes (rows_numbers (table_of targets.now queries.now sizes.now))) }
 {
-    let mut i = 0;
-    while i < n {
+    for i in 0..n {
         store_row(
             buf,
             at + 3 * WORD_SIZE * i,
@@ -139,7 +132,6 @@ fn store_rows(buf: &mut [u8], at: usize, targets: &[u64], queries: &[u64], sizes
             queries[i],
             sizes[i],
         );
-        i += 1;
     }
 }
 
@@ -157,10 +149,8 @@ fn put_each_row(
         buf.old buf.new result }
 {
     let mut p = at;
-    let mut i = 0;
-    while i < n {
+    for i in 0..n {
         p = put_row(buf, p, targets[i], queries[i], sizes[i]);
-        i += 1;
     }
     p
 }
@@ -210,10 +200,8 @@ pub fn low_at(bytes: &[u8], at: usize, count: usize) -> u64
     ensures { result ≡ low_at (min count word_size) bytes.now at }
 {
     let most = in_word(count);
-    let mut left = most;
     let mut n = 0;
-    while 0 < left {
-        left -= 1;
+    for left in (0..most).rev() {
         n = byte_at(bytes, at, left) + 256 * n;
     }
     n

@@ -143,15 +143,13 @@ fn walk_columns(
     let mut at = from;
     let mut count = 0;
     let mut base = 0;
-    let mut k = 0;
-    while k < table.len() {
-        let kind = kinds::kind_of(table[k]);
+    for (k, code) in table.iter().enumerate() {
+        let kind = kinds::kind_of(*code);
         let (v, w) = read_field(kind, count, text, at, base, lists)?;
         store_pair(out, k, v, w.start as u64);
         count = kinds::count_after(kind, v, count);
         base = base_after(kind, base);
         at = w.end;
-        k += 1;
     }
     Ok(at)
 }
@@ -251,15 +249,13 @@ fn put_columns(
 {
     let mut p = at;
     let mut base = 0;
-    let mut k = 0;
-    while k < table.len() {
-        let kind = kinds::kind_of(table[k]);
+    for (k, code) in table.iter().enumerate() {
+        let kind = kinds::kind_of(*code);
         let v = value_of(values, k);
         let start = place_of(values, k);
         let q = put_gap(buf, p, k, sep);
         p = kinds::put_word(buf, q, kind, text, lists, base, v, start);
         base = base_after(kind, base);
-        k += 1;
     }
     p
 }
@@ -448,8 +444,7 @@ fn quick_columns(
     let mut at = from;
     let mut count = 0;
     let mut base = 0;
-    let mut k = 0;
-    while k < table.len() {
+    for (k, code) in table.iter().enumerate() {
         let start = text::scan(text, at, Class::Blank);
         if is_line_end(text, start) {
             return Quick {
@@ -459,7 +454,7 @@ fn quick_columns(
                 end: start,
             };
         }
-        let kind = kinds::kind_of(table[k]);
+        let kind = kinds::kind_of(*code);
         let x = quick_field(kind, count, text, at, start, base, lists);
         if !x.good {
             return Quick {
@@ -474,12 +469,11 @@ fn quick_columns(
         count = kinds::count_after(kind, v, count);
         base = few_after(kind, base);
         at = x.end;
-        k += 1;
     }
     let end = text::scan(text, at, Class::Blank);
     Quick {
         good: is_line_end(text, end),
-        count: k,
+        count: table.len(),
         last: at,
         end,
     }

@@ -2,14 +2,13 @@
 use mathlib.Core.Path.{◌≡◌, refl, sym, ap, ◌∙◌}
 use mathlib.Core.Bool.{Bool, true, false, ◌&&◌}
 use mathlib.Core.List.{List, [], ◌∷◌, ◌++◌, append-nil}
-use Prim.Native.Nat.{ℕ, suc, ◌+◌, ◌-◌, ◌%◌, ◌≤◌, ◌<◌, zero-le, min}
+use Prim.Native.Nat.{ℕ, suc, ◌+◌, ◌-◌, ◌%◌, ◌≤◌, zero-le, min}
 use native.Mathlib.Omega.{arith}
-use native.Mathlib.Numerals.{add-one}
 use lib.ListN.{length, set, get_or, take, drop, length-take, length-drop, take-append-drop, drop_of_length-le, get_or-eq_default}
-use lib.Seq.{sets, drop-cons, take_all}
+use lib.Seq.{sets, take_all}
 use borrow.Rule.Slice.PartMut.{put_mid}
-use lib.Dec.{leb}
-use borrow.Author.Tests.{le-leb, lt-leb, leb-true, leb-false, ne_eqb, eq-eqb}
+use lib.Pointwise.{pointwise}
+use lib.Dec.{eqb, leb}
 use Rattle.ledger.specs.Limits.{name_limit, colour_limit}
 use Rattle.ledger.specs.declared.Reason.{Reason}
 use Rattle.ledger.specs.declared.Reason.TheVariants.{BadWord}
@@ -61,40 +60,12 @@ pub ranged_read : (r : Range) (w : List ℕ) (low high : ℕ) (x : Result ℕ Fa
 ranged_read r w low high x el eh h = record { is = rw (← el, ← eh) h.is; near = omega (arith, h.near) }
 
 -- two words compared byte by byte
-none_same : (d : List ℕ) → leb (length d) 0 ≡ same_bytes [] d
+pub same_each : (a b : List ℕ) (r : Bool) → r ≡ pointwise eqb a b → r ≡ same_bytes a b
 unfolding same_bytes
-none_same [] = refl
-none_same (y ∷ d) = lt-leb (suc (length d)) 0 (omega arith)
-
-none_left_lem : (b : List ℕ) (i : ℕ) → i ≤ length b → leb (length b) i ≡ same_bytes [] (drop i b)
-none_left_lem b i l = same_test (length b) i (length (drop i b)) (length-drop i b) ∙ none_same (drop i b)
-  where
-    same_test : (n i m : ℕ) → m ≡ n - i → leb n i ≡ leb m 0
-    same_test n i m e = go (leb n i) refl
-      where
-        go : (t : Bool) → leb n i ≡ t → leb n i ≡ leb m 0
-        go true q = let h = leb-true n i q in q ∙ sym (le-leb m 0 (omega arith))
-        go false q = let h = leb-false n i q in q ∙ sym (lt-leb m 0 (omega arith))
-
-module _ (a b : List ℕ) (i : ℕ) (inv : same_bytes (drop i a) (drop i b) ≡ same_bytes a b) where
-  pub same_done : length a ≤ i → i ≤ length b → leb (length b) i ≡ same_bytes a b
-  same_done h l =
-      let e : same_bytes [] (drop i b) ≡ same_bytes a b = rw (drop_of_length-le a h) at inv in
-      none_left_lem b i l ∙ e
-
-  module _ (h : i < length a) where
-    pub same_short : length b ≤ i → false ≡ same_bytes a b
-    unfolding same_bytes
-    same_short l = rw (drop-cons a i 0 h, drop_of_length-le b l) at inv
-
-    module _ (l : i < length b) where
-      pub same_other : (get_or a i 0 ≡ get_or b i 0 → ⊥) → false ≡ same_bytes a b
-      unfolding same_bytes
-      same_other k = rw (drop-cons a i 0 h, drop-cons b i 0 l, ne_eqb (get_or a i 0) (get_or b i 0) k) at inv
-
-      pub same_more : get_or a i 0 ≡ get_or b i 0 → same_bytes (drop (i + 1) a) (drop (i + 1) b) ≡ same_bytes a b
-      unfolding same_bytes
-      same_more k = rw (add-one i) (rw (drop-cons a i 0 h, drop-cons b i 0 l, eq-eqb (get_or a i 0) (get_or b i 0) k) at inv)
+same_each [] [] r e = e
+same_each [] (y ∷ b) r e = e
+same_each (x ∷ a) [] r e = e
+same_each (x ∷ a) (y ∷ b) r e = e ∙ ap (λ (t : Bool). eqb x y && t) (same_each a b (pointwise eqb a b) refl)
 
 pub first_none : (w : List ℕ) → length w ≤ 0 → 0 ≡ get_or w 0 0
 first_none w h = sym (get_or-eq_default w 0 h)

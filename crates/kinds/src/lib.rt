@@ -148,17 +148,7 @@ fn is_strand(dot: bool, word: &[u8]) -> bool
 fn same_bytes(a: &[u8], b: &[u8]) -> bool
     ensures { result ≡ same_bytes a.now b.now }
 {
-    let mut i = 0;
-    while i < a.len() {
-        if b.len() <= i {
-            return false;
-        }
-        if a[i] != b[i] {
-            return false;
-        }
-        i += 1;
-    }
-    b.len() <= i
+    a == b
 }
 
 fn is_fixed(f: Fixed, word: &[u8]) -> bool

@@ -37,11 +37,7 @@ fn store_bytes(buf: &mut [u8], at: usize, bytes: &[u8])
     requires { at + length bytes.now ≤ length buf.old }
     ensures { buf.new ≡ sets buf.old at bytes.now }
 {
-    let mut i = 0;
-    while i < bytes.len() {
-        buf[at + i] = bytes[i];
-        i += 1;
-    }
+    buf[at..at + bytes.len()].copy_from_slice(bytes);
 }
 
 // Stores bytes one by one, as far as the buffer reaches.
@@ -49,10 +45,8 @@ fn put_each(buf: &mut [u8], at: usize, bytes: &[u8]) -> usize
     ensures { Put bytes.now at buf.old buf.new result }
 {
     let mut p = at;
-    let mut i = 0;
-    while i < bytes.len() {
-        p = put_byte(buf, p, bytes[i]);
-        i += 1;
+    for b in bytes {
+        p = put_byte(buf, p, *b);
     }
     p
 }
@@ -102,10 +96,8 @@ pub fn put_list(buf: &mut [u8], at: usize, vs: &[u64]) -> usize
     ensures { Put (list_text vs.now) at buf.old buf.new result }
 {
     let mut p = at;
-    let mut i = 0;
-    while i < vs.len() {
-        p = put_item(buf, p, vs[i]);
-        i += 1;
+    for v in vs {
+        p = put_item(buf, p, *v);
     }
     p
 }

@@ -5,11 +5,11 @@ use Rattle.bed.proofs.after_columns.Goals as goal
 pub after_spans-requires : goal.after_spans-requires
 after_spans-requires c = search listed_as
 
-pub returns-in-Faulty : goal.returns-in-Faulty
-returns-in-Faulty c = search (columns_stop, lines_stop, lines_on)
+pub returns-in-Err : goal.returns-in-Err
+returns-in-Err c = search (columns_stop, lines_stop, lines_on)
 
-pub returns-in-Faulty-check_spans : goal.returns-in-Faulty-check_spans
-returns-in-Faulty-check_spans c = search (columns_stop, lines_stop, lines_on)
+pub returns-in-Err-check_spans : goal.returns-in-Err-check_spans
+returns-in-Err-check_spans c = search (columns_stop, lines_stop, lines_on)
 
-pub returns-in-Passes-check_spans : goal.returns-in-Passes-check_spans
-returns-in-Passes-check_spans c = search lines_on
+pub returns-in-Ok-check_spans : goal.returns-in-Ok-check_spans
+returns-in-Ok-check_spans c = search lines_on

@@ -8,5 +8,5 @@ after_columns-requires c = (search long_listed, search long_line)
 pub returns-then-count_words-eq-COLUMNS : goal.returns-then-count_words-eq-COLUMNS
 returns-then-count_words-eq-COLUMNS c = search (long_on, long_stop)
 
-pub returns-in-Next : goal.returns-in-Next
-returns-in-Next c = search long_on
+pub returns-in-Ok : goal.returns-in-Ok
+returns-in-Ok c = search long_on

@@ -5,8 +5,8 @@ use Rattle.bed.proofs.after_spans.Goals as goal
 pub check_blocks-requires : goal.check_blocks-requires
 check_blocks-requires c = search block_held
 
-pub returns-in-Faulty : goal.returns-in-Faulty
-returns-in-Faulty c = search (spans_stop, block_held)
+pub returns-in-Err : goal.returns-in-Err
+returns-in-Err c = search (spans_stop, block_held)
 
-pub returns-in-Passes : goal.returns-in-Passes
-returns-in-Passes c = search (spans_read, block_held)
+pub returns-in-Ok : goal.returns-in-Ok
+returns-in-Ok c = search (spans_read, block_held)

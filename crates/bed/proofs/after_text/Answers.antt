@@ -5,8 +5,8 @@ use Rattle.bed.proofs.after_text.Goals as goal
 pub after_words-requires : goal.after_words-requires
 after_words-requires c = search words_counted
 
-pub returns-in-Faulty : goal.returns-in-Faulty
-returns-in-Faulty c = search (text_stop, text_on)
+pub returns-in-Err : goal.returns-in-Err
+returns-in-Err c = search (text_stop, text_on)
 
-pub returns-in-Passes : goal.returns-in-Passes
-returns-in-Passes c = search text_on
+pub returns-in-Ok : goal.returns-in-Ok
+returns-in-Ok c = search text_on

@@ -11,8 +11,8 @@ slice_bounds-walk_line-end c = search words_length
 pub after_columns-requires : goal.after_columns-requires
 after_columns-requires c = (search words_listed, search words_line)
 
-pub returns-in-Faulty : goal.returns-in-Faulty
-returns-in-Faulty c = search (words_stop, words_on)
+pub returns-in-Err : goal.returns-in-Err
+returns-in-Err c = search (words_stop, words_on)
 
-pub returns-in-Next : goal.returns-in-Next
-returns-in-Next c = search words_on
+pub returns-in-Ok : goal.returns-in-Ok
+returns-in-Ok c = search words_on

@@ -8,8 +8,8 @@ use Rattle.bed.proofs.is_standard.Goals as goal
 pub is_tidy-requires : goal.is_tidy-requires
 is_tidy-requires c = search accepted_as
 
-pub returns-in-Refused : goal.returns-in-Refused
-returns-in-Refused c = λ q. absurd (let z : ◌≡◌ {A = ℕ} 0 1 = cc in omega arith)
+pub returns-in-Err : goal.returns-in-Err
+returns-in-Err c = λ q. absurd (let z : ◌≡◌ {A = ℕ} 0 1 = cc in omega arith)
 
-pub returns-in-Accepted : goal.returns-in-Accepted
-returns-in-Accepted c = λ q. search standard_of
+pub returns-in-Ok : goal.returns-in-Ok
+returns-in-Ok c = λ q. search standard_of

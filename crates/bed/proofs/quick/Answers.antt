@@ -5,8 +5,8 @@ use Rattle.bed.proofs.quick.Goals as goal
 pub returns-then-text-gt-LONG : goal.returns-then-text-gt-LONG
 returns-then-text-gt-LONG c = search quick_unsure
 
-pub returns-in-Faulty : goal.returns-in-Faulty
-returns-in-Faulty c = search quick_unsure
+pub returns-in-Err : goal.returns-in-Err
+returns-in-Err c = search quick_unsure
 
-pub returns-in-Passes : goal.returns-in-Passes
-returns-in-Passes c = search quick_text
+pub returns-in-Ok : goal.returns-in-Ok
+returns-in-Ok c = search quick_text

@@ -5,8 +5,8 @@ use Rattle.bed.proofs.stage.Goals as goal
 pub returns-then-text-gt-LONG : goal.returns-then-text-gt-LONG
 returns-then-text-gt-LONG c = search check_on
 
-pub returns-in-Faulty : goal.returns-in-Faulty
-returns-in-Faulty c = search (check_stop, check_on)
+pub returns-in-Err : goal.returns-in-Err
+returns-in-Err c = search (check_stop, check_on)
 
 pub returns-else-text-gt-LONG : goal.returns-else-text-gt-LONG
 returns-else-text-gt-LONG c = search check_on

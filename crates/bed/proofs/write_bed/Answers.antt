@@ -5,8 +5,8 @@ use Rattle.bed.proofs.write_bed.Goals as goal
 pub write_text-requires : goal.write_text-requires
 write_text-requires c = search write_ready
 
-pub returns-in-Refused : goal.returns-in-Refused
-returns-in-Refused c = search (write_refused, write_wrote)
+pub returns-in-Err : goal.returns-in-Err
+returns-in-Err c = search (write_refused, write_wrote)
 
-pub returns-in-Holds : goal.returns-in-Holds
-returns-in-Holds c = search write_wrote
+pub returns-in-Ok : goal.returns-in-Ok
+returns-in-Ok c = search write_wrote

@@ -2,8 +2,8 @@
 use Rattle.chain.proofs.StageLaws.{columns_faulty, columns_on}
 use Rattle.chain.proofs.after_columns.Goals as goal
 
-pub returns-in-Faulty : goal.returns-in-Faulty
-returns-in-Faulty c = search (columns_faulty, columns_on)
+pub returns-in-Err : goal.returns-in-Err
+returns-in-Err c = search (columns_faulty, columns_on)
 
-pub returns-in-Passes : goal.returns-in-Passes
-returns-in-Passes c = search (columns_faulty, columns_on)
+pub returns-in-Ok : goal.returns-in-Ok
+returns-in-Ok c = search (columns_faulty, columns_on)

@@ -8,11 +8,11 @@ after_columns-requires c = search head_headed
 pub returns-then-q : goal.returns-then-q
 returns-then-q c = search head_on
 
-pub after_columns-requires-in-Next : goal.after_columns-requires-in-Next
-after_columns-requires-in-Next c = search words_headed
+pub after_columns-requires-in-Ok : goal.after_columns-requires-in-Ok
+after_columns-requires-in-Ok c = search words_headed
 
-pub returns-in-Faulty : goal.returns-in-Faulty
-returns-in-Faulty c = search (words_faulty, words_on)
+pub returns-in-Err : goal.returns-in-Err
+returns-in-Err c = search (words_faulty, words_on)
 
-pub returns-in-Next : goal.returns-in-Next
-returns-in-Next c = search (words_faulty, words_on)
+pub returns-in-Ok : goal.returns-in-Ok
+returns-in-Ok c = search (words_faulty, words_on)

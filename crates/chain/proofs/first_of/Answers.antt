@@ -4,8 +4,8 @@ use Rattle.chain.proofs.BlockLaws.{first_passes}
 use Rattle.chain.proofs.first_of.Goals as goal
 use Rattle.std.specs.Prelude.{Err}
 
-pub returns-in-Faulty : goal.returns-in-Faulty
-returns-in-Faulty c = search (stops Err, first_passes)
+pub returns-in-Err : goal.returns-in-Err
+returns-in-Err c = search (stops Err, first_passes)
 
-pub returns-in-Passes : goal.returns-in-Passes
-returns-in-Passes c = search (stops Err, first_passes)
+pub returns-in-Ok : goal.returns-in-Ok
+returns-in-Ok c = search (stops Err, first_passes)

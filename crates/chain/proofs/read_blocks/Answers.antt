@@ -5,8 +5,8 @@ use Rattle.chain.proofs.read_blocks.Goals as goal
 pub store_rows-requires : goal.store_rows-requires
 store_rows-requires c = search read_staged
 
-pub returns-in-Faulty : goal.returns-in-Faulty
-returns-in-Faulty c = search (read_faulty, read_stored)
+pub returns-in-Err : goal.returns-in-Err
+returns-in-Err c = search (read_faulty, read_stored)
 
-pub returns-in-Read : goal.returns-in-Read
-returns-in-Read c = search (read_faulty, read_stored)
+pub returns-in-Ok : goal.returns-in-Ok
+returns-in-Ok c = search (read_faulty, read_stored)

@@ -8,8 +8,8 @@ slice_bounds-table-end c = search numbers_few
 pub slice_bounds-walk_line-end : goal.slice_bounds-walk_line-end
 slice_bounds-walk_line-end c = search numbers_length
 
-pub returns-in-Faulty : goal.returns-in-Faulty
-returns-in-Faulty c = search (numbers_refused, numbers_read_lem)
+pub returns-in-Err : goal.returns-in-Err
+returns-in-Err c = search (numbers_refused, numbers_read_lem)
 
-pub returns-in-Next : goal.returns-in-Next
-returns-in-Next c = search (numbers_refused, numbers_read_lem)
+pub returns-in-Ok : goal.returns-in-Ok
+returns-in-Ok c = search (numbers_refused, numbers_read_lem)

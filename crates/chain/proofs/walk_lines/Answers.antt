@@ -5,8 +5,8 @@ use Rattle.chain.proofs.walk_lines.Goals as goal
 pub loop-line-init : goal.loop-line-init
 loop-line-init c = search walk_start
 
-pub returns-in-Faulty : goal.returns-in-Faulty
-returns-in-Faulty c = search walk_refused
+pub returns-in-Err : goal.returns-in-Err
+returns-in-Err c = search walk_refused
 
 pub put_row-requires : goal.put_row-requires
 put_row-requires c = search last_index

@@ -2,8 +2,8 @@
 use Rattle.columns.proofs.OneLineLaws.{first_refused, first_good}
 use Rattle.columns.proofs.count_first.Goals as goal
 
-pub returns-in-Faulty : goal.returns-in-Faulty
-returns-in-Faulty c = search (first_refused, first_good)
+pub returns-in-Err : goal.returns-in-Err
+returns-in-Err c = search (first_refused, first_good)
 
-pub returns-in-Passes : goal.returns-in-Passes
-returns-in-Passes c = search (first_refused, first_good)
+pub returns-in-Ok : goal.returns-in-Ok
+returns-in-Ok c = search (first_refused, first_good)

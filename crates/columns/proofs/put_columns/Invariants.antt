@@ -1,6 +1,5 @@
 -- Whatever stores the columns from here on completes the line. Assumes nothing.
-use Prim.Native.Nat.{◌-◌, ◌*◌, ◌≤◌}
-use mathlib.Core.Path.{◌≡◌}
+use Prim.Native.Nat.{◌*◌, ◌≤◌}
 use mathlib.Core.List.{map}
 use lib.ListN.{length}
 use Rattle.ledger.specs.Limits.{block_limit, largest_place}
@@ -11,8 +10,5 @@ use Rattle.columns.proofs.LineLaws.{rest}
 use Rattle.columns.proofs.put_columns.Given as goal
 
 abbrev pub invariant-loop-k : goal.invariant-loop-k
-invariant-loop-k l = (l.k ≤ length l.table) × (l.base ≤ block_limit * l.k) × (length l.buf ≡ length l.initial.buf) × (length l.buf ≤ largest_place) × (l.p ≤ largest_place)
+invariant-loop-k l = (l.base ≤ block_limit * l.k) × (length l.buf ≤ largest_place) × (l.p ≤ largest_place)
     × Completes (rest l.table l.k l.base l.sep l.text l.values l.lists) l.p l.buf (line_text (map kind_of l.table) l.sep l.text l.values l.lists) l.at l.initial.buf
-
-abbrev pub decreases-loop-k : goal.decreases-loop-k
-decreases-loop-k l = length l.table - l.k

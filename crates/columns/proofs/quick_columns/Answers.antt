@@ -1,14 +1,16 @@
 -- The columns passed so far, and what they stored. Assumes nothing.
 use borrow.Author.Rules.{rules}
-use mathlib.Core.Path.{refl, sym, ◌∙◌}
+use mathlib.Core.Path.{◌≡◌, sym, ◌∙◌}
+use native.Mathlib.Omega.{arith}
+use lib.ListN.{length}
 use Rattle.columns.proofs.QuickLaws.{passed_none, passed_more, passed_all, not_good}
 use Rattle.columns.proofs.quick_columns.Goals as goal
 
 pub loop-k-init : goal.loop-k-init
-loop-k-init c = (search rules, search rules, refl, refl, passed_none _ _ _ _ _)
+loop-k-init c = (search rules, passed_none _ _ _ _ _)
 
 pub returns-then-is_line_end : goal.returns-then-is_line_end
-returns-then-is_line_end c = let l = c.loop-k in passed_all _ _ _ _ _ _ _ _ _ _ _ l.invariant.4 l.invariant.0 _ c.scan-start.ensures _ (sym c.if-is_line_end.true ∙ c.is_line_end.ensures)
+returns-then-is_line_end c = let l = c.loop-k in passed_all _ _ _ _ _ _ _ _ _ _ _ l.invariant.1 (omega arith) _ c.scan-start.ensures _ (sym c.if-is_line_end.true ∙ c.is_line_end.ensures)
 
 pub returns-then-not-x : goal.returns-then-not-x
 returns-then-not-x c = not_good _ _ _ _ _ _ _ _ _ _
@@ -16,11 +18,11 @@ returns-then-not-x c = not_good _ _ _ _ _ _ _ _ _ _
 pub loop-k-preserved : goal.loop-k-preserved
 loop-k-preserved c = let l = c.loop-k in (
   search rules,
-  search rules,
-  search rules,
-  search rules,
-  passed_more _ _ _ _ _ _ _ _ _ _ _ l.invariant.4 c.loop-k-test.true _ c.scan-start.ensures _ c.kind_of-kind.ensures _ _ c.quick_field-x.ensures c.if-not-x.false _ c.store_pair.ensures _ c.count_after-count.ensures _ c.few_after-base.ensures.0,
+  passed_more _ _ _ _ _ _ _ _ _ _ _ l.invariant.1 c.loop-k-test.true _ c.scan-start.ensures _ c.kind_of-kind.ensures _ _ c.quick_field-x.ensures c.if-not-x.false _ c.store_pair.ensures _ c.count_after-count.ensures _ c.few_after-base.ensures.0,
 )
 
 pub returns : goal.returns
-returns c = let l = c.loop-k in passed_all _ _ _ _ _ _ _ _ _ _ _ l.invariant.4 l.invariant.0 _ c.scan-end.ensures _ c.is_line_end-2.ensures
+returns c =
+    let l = c.loop-k in
+    let e : l.k ≡ length c.args.table.now = omega arith in
+    rw (← e) (passed_all _ _ _ _ _ _ _ _ _ _ _ l.invariant.1 (omega arith) _ c.scan-end.ensures _ c.is_line_end-2.ensures)

@@ -2,8 +2,8 @@
 use Rattle.columns.proofs.QuickLaws.{word_good, word_bad}
 use Rattle.columns.proofs.quick_word.Goals as goal
 
-pub returns-in-Good : goal.returns-in-Good
-returns-in-Good c = search word_good
+pub returns-in-Ok : goal.returns-in-Ok
+returns-in-Ok c = search word_good
 
-pub returns-in-Bad : goal.returns-in-Bad
-returns-in-Bad c = search word_bad
+pub returns-in-Err : goal.returns-in-Err
+returns-in-Err c = search word_bad

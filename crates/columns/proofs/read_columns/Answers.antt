@@ -8,14 +8,14 @@ slice_bounds-walk_columns-end c = search codes_length
 pub walk_columns-requires : goal.walk_columns-requires
 walk_columns-requires c = search codes_few
 
-pub slice_bounds-walk_columns-end-in-Next : goal.slice_bounds-walk_columns-end-in-Next
-slice_bounds-walk_columns-end-in-Next c = search codes_length
+pub slice_bounds-walk_columns-end-in-Ok : goal.slice_bounds-walk_columns-end-in-Ok
+slice_bounds-walk_columns-end-in-Ok c = search codes_length
 
-pub walk_columns-requires-in-Next : goal.walk_columns-requires-in-Next
-walk_columns-requires-in-Next c = search codes_few
+pub walk_columns-requires-in-Ok : goal.walk_columns-requires-in-Ok
+walk_columns-requires-in-Ok c = search codes_few
 
-pub returns-in-Faulty : goal.returns-in-Faulty
-returns-in-Faulty c = search (read_refused, read_walked)
+pub returns-in-Err : goal.returns-in-Err
+returns-in-Err c = search (read_refused, read_walked)
 
-pub returns-in-Next : goal.returns-in-Next
-returns-in-Next c = search (read_refused, read_walked)
+pub returns-in-Ok : goal.returns-in-Ok
+returns-in-Ok c = search (read_refused, read_walked)

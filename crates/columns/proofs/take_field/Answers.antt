@@ -2,8 +2,8 @@
 use Rattle.columns.proofs.WalkLaws.{taken_good, taken_bad}
 use Rattle.columns.proofs.take_field.Goals as goal
 
-pub returns-in-Good : goal.returns-in-Good
-returns-in-Good c = search (taken_good, taken_bad)
+pub returns-in-Ok : goal.returns-in-Ok
+returns-in-Ok c = search (taken_good, taken_bad)
 
-pub returns-in-Bad : goal.returns-in-Bad
-returns-in-Bad c = search (taken_good, taken_bad)
+pub returns-in-Err : goal.returns-in-Err
+returns-in-Err c = search (taken_good, taken_bad)

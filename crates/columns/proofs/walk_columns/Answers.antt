@@ -1,24 +1,17 @@
 -- The columns from here on, and what they store, give what the whole table gives. Assumes nothing.
 use borrow.Author.Rules.{rules}
-use mathlib.Core.Path.{refl}
 use Rattle.columns.proofs.ReadLaws.{columns_done, columns_bad, columns_more, values_done, values_more, lists_done, lists_more}
 use Rattle.columns.proofs.walk_columns.Goals as goal
 
-pub loop-k-init : goal.loop-k-init
-loop-k-init c = (search rules, search rules, refl, refl, refl, refl, refl)
-
-pub returns-in-Bad : goal.returns-in-Bad
-returns-in-Bad c = record { result = columns_bad _ _ _ _ _ _ c.loop-k-test.true _ c.kind_of-kind.ensures _ c.read_field.ensures.result c.loop-k.invariant.4 _ c.in-Bad.is; stored = λ m q. cc; held = λ m q. cc }
+pub returns-in-Err : goal.returns-in-Err
+returns-in-Err c = record { result = columns_bad _ _ _ _ _ _ c.loop-k-test.true _ c.kind_of-kind.ensures _ c.read_field.ensures.result c.loop-k.invariant.1 _ c.in-Err.is; stored = λ m q. cc; held = λ m q. cc }
 
 pub loop-k-preserved : goal.loop-k-preserved
 loop-k-preserved c = let l = c.loop-k in (
   search rules,
-  search rules,
-  search rules,
-  search rules,
-  columns_more _ _ _ _ _ _ c.loop-k-test.true _ c.kind_of-kind.ensures _ c.read_field.ensures.result _ _ c.in-Good.is _ c.count_after-count.ensures l.invariant.4,
-  values_more _ _ _ _ _ _ c.loop-k-test.true _ c.kind_of-kind.ensures _ c.read_field.ensures.result _ _ c.in-Good.is _ c.count_after-count.ensures _ _ _ c.store_pair.ensures l.invariant.5,
-  lists_more _ _ _ _ _ _ c.loop-k-test.true _ c.kind_of-kind.ensures _ c.read_field.ensures.result _ _ c.in-Good.is _ c.count_after-count.ensures _ _ _ _ _ c.base_after-base.ensures.0 c.read_field.ensures.stored l.invariant.6,
+  columns_more _ _ _ _ _ _ c.loop-k-test.true _ c.kind_of-kind.ensures _ c.read_field.ensures.result _ _ c.in-Ok.is _ c.count_after-count.ensures l.invariant.1,
+  values_more _ _ _ _ _ _ c.loop-k-test.true _ c.kind_of-kind.ensures _ c.read_field.ensures.result _ _ c.in-Ok.is _ c.count_after-count.ensures _ _ _ c.store_pair.ensures l.invariant.2,
+  lists_more _ _ _ _ _ _ c.loop-k-test.true _ c.kind_of-kind.ensures _ c.read_field.ensures.result _ _ c.in-Ok.is _ c.count_after-count.ensures _ _ _ _ _ c.base_after-base.ensures.0 c.read_field.ensures.stored l.invariant.3,
 )
 
 pub returns : goal.returns

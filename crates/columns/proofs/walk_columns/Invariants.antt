@@ -1,8 +1,8 @@
 -- The columns from here on, and what they store, give what the whole table gives. Assumes nothing.
-use Prim.Native.Nat.{◌-◌, ◌*◌, ◌≤◌}
+use Prim.Native.Nat.{◌*◌, ◌≤◌}
 use mathlib.Core.Path.{◌≡◌}
 use mathlib.Core.List.{map}
-use lib.ListN.{length, drop}
+use lib.ListN.{drop}
 use lib.Seq.{sets}
 use Rattle.ledger.specs.Limits.{block_limit}
 use Rattle.kinds.specs.Kinds.{kind_of}
@@ -10,10 +10,7 @@ use Rattle.columns.specs.Columns.{columns_from, values_from, lists_from}
 use Rattle.columns.proofs.walk_columns.Given as goal
 
 abbrev pub invariant-loop-k : goal.invariant-loop-k
-invariant-loop-k l = (l.k ≤ length l.table) × (l.base ≤ block_limit * l.k) × (length l.out ≡ length l.initial.out) × (length l.lists ≡ length l.initial.lists)
+invariant-loop-k l = (l.base ≤ block_limit * l.k)
     × (columns_from (map kind_of (drop l.k l.table)) l.count l.text l.at ≡ columns_from (map kind_of l.table) 0 l.text l.from)
     × (sets l.out (2 * l.k) (values_from (map kind_of (drop l.k l.table)) l.count l.text l.at) ≡ sets l.initial.out 0 (values_from (map kind_of l.table) 0 l.text l.from))
     × (lists_from (map kind_of (drop l.k l.table)) l.count l.text l.at l.base l.lists ≡ lists_from (map kind_of l.table) 0 l.text l.from 0 l.initial.lists)
-
-abbrev pub decreases-loop-k : goal.decreases-loop-k
-decreases-loop-k l = length l.table - l.k

@@ -5,8 +5,8 @@ use Rattle.columns.proofs.walk_words.Goals as goal
 pub returns-then-w : goal.returns-then-w
 returns-then-w c = search words
 
-pub returns-in-Faulty : goal.returns-in-Faulty
-returns-in-Faulty c = search words
+pub returns-in-Err : goal.returns-in-Err
+returns-in-Err c = search words
 
 pub returns-else-w : goal.returns-else-w
 returns-else-w c = search words

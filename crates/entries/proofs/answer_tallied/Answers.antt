@@ -5,8 +5,8 @@ use Rattle.entries.proofs.answer_tallied.Goals as goal
 pub returns-then-number : goal.returns-then-number
 returns-then-number c = search tally_alone
 
-pub returns-in-Lifted : goal.returns-in-Lifted
-returns-in-Lifted c = search tally_lifted
+pub returns-in-Ok : goal.returns-in-Ok
+returns-in-Ok c = search tally_lifted
 
 pub returns-else-number : goal.returns-else-number
 returns-else-number c = search tally_left

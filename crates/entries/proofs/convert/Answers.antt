@@ -2,8 +2,8 @@
 use Rattle.entries.proofs.EntryLaws.{convert_refused, convert_accepted}
 use Rattle.entries.proofs.convert.Goals as goal
 
-pub returns-in-Refused : goal.returns-in-Refused
-returns-in-Refused c = search convert_refused
+pub returns-in-Err : goal.returns-in-Err
+returns-in-Err c = search convert_refused
 
-pub returns-in-Converted : goal.returns-in-Converted
-returns-in-Converted c = search convert_accepted
+pub returns-in-Ok : goal.returns-in-Ok
+returns-in-Ok c = search convert_accepted

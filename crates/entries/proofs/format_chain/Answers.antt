@@ -6,9 +6,9 @@ use Rattle.entries.proofs.format_chain.Goals as goal
 pub write_chain-requires : goal.write_chain-requires
 write_chain-requires c = search chain_wide
 
-pub returns-in-Refused : goal.returns-in-Refused
+pub returns-in-Err : goal.returns-in-Err
 unfolding formatted_chain
-returns-in-Refused c = search chain_refused
+returns-in-Err c = search chain_refused
 
-pub returns-in-Accepted : goal.returns-in-Accepted
-returns-in-Accepted c = search format_chain_accepted
+pub returns-in-Ok : goal.returns-in-Ok
+returns-in-Ok c = search format_chain_accepted

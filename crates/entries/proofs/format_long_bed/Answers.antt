@@ -6,9 +6,9 @@ use Rattle.entries.proofs.format_long_bed.Goals as goal
 pub write_bed-requires : goal.write_bed-requires
 write_bed-requires c = search bed_wide
 
-pub returns-in-Refused : goal.returns-in-Refused
+pub returns-in-Err : goal.returns-in-Err
 unfolding formatted_bed
-returns-in-Refused c = search bed_refused
+returns-in-Err c = search bed_refused
 
-pub returns-in-Accepted : goal.returns-in-Accepted
-returns-in-Accepted c = search format_bed_accepted
+pub returns-in-Ok : goal.returns-in-Ok
+returns-in-Ok c = search format_bed_accepted

@@ -6,9 +6,9 @@ use Rattle.entries.proofs.format_psl.Goals as goal
 pub write_psl-requires : goal.write_psl-requires
 write_psl-requires c = search psl_wide
 
-pub returns-in-Refused : goal.returns-in-Refused
+pub returns-in-Err : goal.returns-in-Err
 unfolding formatted_psl
-returns-in-Refused c = search psl_refused
+returns-in-Err c = search psl_refused
 
-pub returns-in-Accepted : goal.returns-in-Accepted
-returns-in-Accepted c = search format_psl_accepted
+pub returns-in-Ok : goal.returns-in-Ok
+returns-in-Ok c = search format_psl_accepted

@@ -2,8 +2,8 @@
 use Rattle.entries.proofs.BatchLaws.{batch_refused, batch_told}
 use Rattle.entries.proofs.lift_batch.Goals as goal
 
-pub returns-in-Refused : goal.returns-in-Refused
-returns-in-Refused c = search batch_refused
+pub returns-in-Err : goal.returns-in-Err
+returns-in-Err c = search batch_refused
 
-pub returns-in-Holds : goal.returns-in-Holds
-returns-in-Holds c = search batch_told
+pub returns-in-Ok : goal.returns-in-Ok
+returns-in-Ok c = search batch_told

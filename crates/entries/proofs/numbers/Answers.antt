@@ -2,8 +2,8 @@
 use Rattle.entries.proofs.NumberLaws.{numbers_refused, numbers_accepted}
 use Rattle.entries.proofs.numbers.Goals as goal
 
-pub returns-in-Refused : goal.returns-in-Refused
-returns-in-Refused c = search numbers_refused
+pub returns-in-Err : goal.returns-in-Err
+returns-in-Err c = search numbers_refused
 
-pub returns-in-Accepted : goal.returns-in-Accepted
-returns-in-Accepted c = search numbers_accepted
+pub returns-in-Ok : goal.returns-in-Ok
+returns-in-Ok c = search numbers_accepted

@@ -3,8 +3,8 @@ use Rattle.entries.proofs.EntryLaws.{parse_psl_refused, parse_psl_accepted}
 use Rattle.entries.proofs.StageLaws.{psl_parts}
 use Rattle.entries.proofs.parse_psl.Goals as goal
 
-pub returns-in-Refused : goal.returns-in-Refused
-returns-in-Refused c = search parse_psl_refused
+pub returns-in-Err : goal.returns-in-Err
+returns-in-Err c = search parse_psl_refused
 
-pub returns-in-Accepted : goal.returns-in-Accepted
-returns-in-Accepted c = search (parse_psl_accepted, psl_parts)
+pub returns-in-Ok : goal.returns-in-Ok
+returns-in-Ok c = search (parse_psl_accepted, psl_parts)

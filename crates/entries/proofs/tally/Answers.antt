@@ -7,9 +7,9 @@ use Rattle.entries.proofs.tally.Goals as goal
 pub answer_tally-requires : goal.answer_tally-requires
 answer_tally-requires c = search chain_wide
 
-pub returns-in-Refused : goal.returns-in-Refused
+pub returns-in-Err : goal.returns-in-Err
 unfolding tallied
-returns-in-Refused c = search chain_refused
+returns-in-Err c = search chain_refused
 
-pub returns-in-Accepted : goal.returns-in-Accepted
-returns-in-Accepted c = search tally_answered
+pub returns-in-Ok : goal.returns-in-Ok
+returns-in-Ok c = search tally_answered

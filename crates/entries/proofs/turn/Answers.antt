@@ -7,9 +7,9 @@ use Rattle.entries.proofs.turn.Goals as goal
 pub write_turned-requires : goal.write_turned-requires
 write_turned-requires c = search chain_wide
 
-pub returns-in-Refused : goal.returns-in-Refused
+pub returns-in-Err : goal.returns-in-Err
 unfolding turned_text
-returns-in-Refused c = search chain_refused
+returns-in-Err c = search chain_refused
 
-pub returns-in-Accepted : goal.returns-in-Accepted
-returns-in-Accepted c = search turn_answered
+pub returns-in-Ok : goal.returns-in-Ok
+returns-in-Ok c = search turn_answered

@@ -5,8 +5,8 @@ use Rattle.entries.proofs.write_turned.Goals as goal
 pub write_chain-requires : goal.write_chain-requires
 write_chain-requires c = search turned_wide
 
-pub returns-in-Refused : goal.returns-in-Refused
-returns-in-Refused c = search turned_refused
+pub returns-in-Err : goal.returns-in-Err
+returns-in-Err c = search turned_refused
 
-pub returns-in-Turned : goal.returns-in-Turned
-returns-in-Turned c = search turned_written
+pub returns-in-Ok : goal.returns-in-Ok
+returns-in-Ok c = search turned_written

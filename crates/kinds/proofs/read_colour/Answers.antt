@@ -5,8 +5,8 @@ use Rattle.kinds.proofs.read_colour.Goals as goal
 pub returns-then-same_bytes : goal.returns-then-same_bytes
 returns-then-same_bytes c = search colours
 
-pub returns-in-Faulty : goal.returns-in-Faulty
-returns-in-Faulty c = search colours
+pub returns-in-Err : goal.returns-in-Err
+returns-in-Err c = search colours
 
-pub returns-in-Means : goal.returns-in-Means
-returns-in-Means c = search colours
+pub returns-in-Ok : goal.returns-in-Ok
+returns-in-Ok c = search colours

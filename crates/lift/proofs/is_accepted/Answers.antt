@@ -1,8 +1,8 @@
 use Rattle.lift.proofs.AcceptLaws.{accepted_if, not_accepted_if}
 use Rattle.lift.proofs.is_accepted.Goals as goal
 
-pub returns-in-Holds : goal.returns-in-Holds
-returns-in-Holds c = search accepted_if
+pub returns-in-Ok : goal.returns-in-Ok
+returns-in-Ok c = search accepted_if
 
-pub returns-in-Refused : goal.returns-in-Refused
-returns-in-Refused c = search not_accepted_if
+pub returns-in-Err : goal.returns-in-Err
+returns-in-Err c = search not_accepted_if

@@ -8,8 +8,8 @@ returns-then-c-p c = search past_target
 pub drift_of-requires : goal.drift_of-requires
 drift_of-requires c = (search small_target, search small_query)
 
-pub returns-in-Base : goal.returns-in-Base
-returns-in-Base c = search (by_partner, lift_at)
+pub returns-in-Some : goal.returns-in-Some
+returns-in-Some c = search (by_partner, lift_at)
 
-pub returns-in-Alone : goal.returns-in-Alone
-returns-in-Alone c = search (by_partner, lift_none)
+pub returns-in-None : goal.returns-in-None
+returns-in-None c = search (by_partner, lift_none)

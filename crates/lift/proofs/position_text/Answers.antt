@@ -5,8 +5,8 @@ use Rattle.lift.proofs.position_text.Goals as goal
 pub position_rows-requires : goal.position_rows-requires
 position_rows-requires c = search text_held
 
-pub returns-in-Refused : goal.returns-in-Refused
-returns-in-Refused c = search text_refused
+pub returns-in-Err : goal.returns-in-Err
+returns-in-Err c = search text_refused
 
-pub returns-in-Accepted : goal.returns-in-Accepted
-returns-in-Accepted c = search text_lifted_lem
+pub returns-in-Ok : goal.returns-in-Ok
+returns-in-Ok c = search text_lifted_lem

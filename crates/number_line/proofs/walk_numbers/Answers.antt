@@ -8,8 +8,8 @@ use Rattle.number_line.proofs.walk_numbers.Goals as goal
 pub loop-w-init : goal.loop-w-init
 loop-w-init c = (search word_again, search count_first, search rules, search rules, search rules, refl, search rules, search rules, search tested_from, search completes_first)
 
-pub returns-in-Faulty : goal.returns-in-Faulty
-returns-in-Faulty c = search walked_bad
+pub returns-in-Err : goal.returns-in-Err
+returns-in-Err c = search walked_bad
 
 pub loop-w-preserved : goal.loop-w-preserved
 loop-w-preserved c = (search word_again, search count_next, search rules, search rules, search rules, search rules, search rules, search rules, search tested_good, search stored_good)

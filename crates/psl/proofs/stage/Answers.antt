@@ -5,8 +5,8 @@ use Rattle.psl.proofs.stage.Goals as goal
 pub after_line-requires : goal.after_line-requires
 after_line-requires c = search stage_ready
 
-pub returns-in-Faulty : goal.returns-in-Faulty
-returns-in-Faulty c = search (stage_stops, stage_on)
+pub returns-in-Err : goal.returns-in-Err
+returns-in-Err c = search (stage_stops, stage_on)
 
-pub returns-in-Next : goal.returns-in-Next
-returns-in-Next c = search (stage_stops, stage_on)
+pub returns-in-Ok : goal.returns-in-Ok
+returns-in-Ok c = search (stage_stops, stage_on)

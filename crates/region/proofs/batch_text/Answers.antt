@@ -9,8 +9,8 @@ returns-then-not-rows_fit c = search text_no_room
 pub put_text-after-requires : goal.put_text-after-requires
 put_text-after-requires c = (search text_held, search room_there)
 
-pub returns-in-Refused : goal.returns-in-Refused
-returns-in-Refused c = search text_refused
+pub returns-in-Err : goal.returns-in-Err
+returns-in-Err c = search text_refused
 
-pub returns-in-Accepted : goal.returns-in-Accepted
-returns-in-Accepted c = search text_answered
+pub returns-in-Ok : goal.returns-in-Ok
+returns-in-Ok c = search text_answered

@@ -6,8 +6,8 @@ use Rattle.region.proofs.lift_text.Goals as goal
 pub lift_rows-requires : goal.lift_rows-requires
 lift_rows-requires c = search text_held
 
-pub returns-in-Refused : goal.returns-in-Refused
-returns-in-Refused c = search text_refused
+pub returns-in-Err : goal.returns-in-Err
+returns-in-Err c = search text_refused
 
-pub returns-in-Accepted : goal.returns-in-Accepted
-returns-in-Accepted c = search text_lifted_lem
+pub returns-in-Ok : goal.returns-in-Ok
+returns-in-Ok c = search text_lifted_lem

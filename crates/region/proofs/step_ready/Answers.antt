@@ -8,8 +8,8 @@ overflow_sub-end c = search step_order
 pub grow-requires : goal.grow-requires
 grow-requires c = search step_growable
 
-pub returns-in-Refused : goal.returns-in-Refused
-returns-in-Refused c = search step_stays
+pub returns-in-Err : goal.returns-in-Err
+returns-in-Err c = search step_stays
 
-pub returns-in-Admitted : goal.returns-in-Admitted
-returns-in-Admitted c = search step_grows
+pub returns-in-Ok : goal.returns-in-Ok
+returns-in-Ok c = search step_grows

@@ -2,5 +2,5 @@
 use Rattle.table_psl.proofs.RowLaws.{filled_accepted}
 use Rattle.table_psl.proofs.rows_filled.Goals as goal
 
-pub returns-in-Accepted : goal.returns-in-Accepted
-returns-in-Accepted c = search filled_accepted
+pub returns-in-Ok : goal.returns-in-Ok
+returns-in-Ok c = search filled_accepted

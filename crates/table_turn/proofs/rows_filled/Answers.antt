@@ -2,5 +2,5 @@
 use Rattle.table_turn.proofs.RowLaws.{filled_turned}
 use Rattle.table_turn.proofs.rows_filled.Goals as goal
 
-pub returns-in-Turned : goal.returns-in-Turned
-returns-in-Turned c = search filled_turned
+pub returns-in-Ok : goal.returns-in-Ok
+returns-in-Ok c = search filled_turned

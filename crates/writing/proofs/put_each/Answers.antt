@@ -1,14 +1,10 @@
 -- Whatever stores the bytes from here on completes the whole. Assumes nothing.
 use borrow.Author.Rules.{rules}
-use mathlib.Core.Path.{refl}
-use Rattle.writing.proofs.PutLaws.{completes_all, bytes_step, bytes_done}
+use Rattle.writing.proofs.PutLaws.{bytes_step, bytes_done}
 use Rattle.writing.proofs.put_each.Goals as goal
 
-pub loop-i-init : goal.loop-i-init
-loop-i-init c = (search rules, refl, search rules, search rules, completes_all _ _ _)
-
-pub loop-i-preserved : goal.loop-i-preserved
-loop-i-preserved c = (search rules, search rules, search rules, search rules, search bytes_step)
+pub loop-b-preserved : goal.loop-b-preserved
+loop-b-preserved c = (search rules, search rules, search bytes_step)
 
 pub returns : goal.returns
 returns c = search bytes_done

@@ -1,15 +1,10 @@
 -- Whatever stores the list from here on completes the whole. Assumes nothing.
 use borrow.Author.Rules.{rules}
-use mathlib.Core.Path.{refl}
-use Rattle.writing.proofs.PutLaws.{completes_all}
 use Rattle.writing.proofs.ListLaws.{list_step, list_done}
 use Rattle.writing.proofs.put_list.Goals as goal
 
-pub loop-i-init : goal.loop-i-init
-loop-i-init c = (search rules, refl, search rules, search rules, completes_all _ _ _)
-
-pub loop-i-preserved : goal.loop-i-preserved
-loop-i-preserved c = (search rules, search rules, search rules, search rules, search list_step)
+pub loop-v-preserved : goal.loop-v-preserved
+loop-v-preserved c = (search rules, search rules, search list_step)
 
 pub returns : goal.returns
 returns c = search list_done

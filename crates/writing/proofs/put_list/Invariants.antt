@@ -1,14 +1,10 @@
 -- Whatever stores the list from here on completes the whole. Assumes nothing.
-use Prim.Native.Nat.{◌-◌, ◌≤◌}
-use mathlib.Core.Path.{◌≡◌}
+use Prim.Native.Nat.{◌≤◌}
 use lib.ListN.{length, drop}
 use Rattle.ledger.specs.Limits.{largest_place}
 use Rattle.writing.specs.Digits.{list_text}
 use Rattle.writing.proofs.PutLaws.{Completes}
 use Rattle.writing.proofs.put_list.Given as goal
 
-abbrev pub invariant-loop-i : goal.invariant-loop-i
-invariant-loop-i l = (l.i ≤ length l.vs) × (length l.buf ≡ length l.initial.buf) × (length l.buf ≤ largest_place) × (l.p ≤ largest_place) × Completes (list_text (drop l.i l.vs)) l.p l.buf (list_text l.vs) l.at l.initial.buf
-
-abbrev pub decreases-loop-i : goal.decreases-loop-i
-decreases-loop-i l = length l.vs - l.i
+abbrev pub invariant-loop-v : goal.invariant-loop-v
+invariant-loop-v l = (length l.buf ≤ largest_place) × (l.p ≤ largest_place) × Completes (list_text (drop l.v-index l.vs)) l.p l.buf (list_text l.vs) l.at l.initial.buf

@@ -2,8 +2,8 @@
 use Rattle.writing.proofs.PutLaws.{fed_refused, fed_put}
 use Rattle.writing.proofs.write_fed.Goals as goal
 
-pub returns-in-Refused : goal.returns-in-Refused
-returns-in-Refused c = search fed_refused
+pub returns-in-Err : goal.returns-in-Err
+returns-in-Err c = search fed_refused
 
-pub returns-in-Written : goal.returns-in-Written
-returns-in-Written c = search fed_put
+pub returns-in-Ok : goal.returns-in-Ok
+returns-in-Ok c = search fed_put

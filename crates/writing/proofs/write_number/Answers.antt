@@ -2,8 +2,8 @@
 use Rattle.writing.proofs.PutLaws.{write_measured_refused, write_measured_put}
 use Rattle.writing.proofs.write_number.Goals as goal
 
-pub returns-in-Refused : goal.returns-in-Refused
-returns-in-Refused c = search (write_measured_refused, write_measured_put)
+pub returns-in-Err : goal.returns-in-Err
+returns-in-Err c = search (write_measured_refused, write_measured_put)
 
-pub returns-in-Written : goal.returns-in-Written
-returns-in-Written c = search (write_measured_refused, write_measured_put)
+pub returns-in-Ok : goal.returns-in-Ok
+returns-in-Ok c = search (write_measured_refused, write_measured_put)

@@ -2,8 +2,8 @@
 use Rattle.cases.proofs.CaseLaws.{check_holds, check_refused}
 use Rattle.cases.proofs.puts.put_check.Goals as goal
 
-pub returns-in-Holds : goal.returns-in-Holds
-returns-in-Holds c = search (check_holds, check_refused)
+pub returns-in-Ok : goal.returns-in-Ok
+returns-in-Ok c = search (check_holds, check_refused)
 
-pub returns-in-Refused : goal.returns-in-Refused
-returns-in-Refused c = search (check_holds, check_refused)
+pub returns-in-Err : goal.returns-in-Err
+returns-in-Err c = search (check_holds, check_refused)

@@ -5,8 +5,8 @@ use Rattle.cases.proofs.puts.put_text.Goals as goal
 pub slice_bounds-put_shown-end : goal.slice_bounds-put_shown-end
 slice_bounds-put_shown-end c = search written_length
 
-pub returns-in-Refused : goal.returns-in-Refused
-returns-in-Refused c = search (text_refused, text_written)
+pub returns-in-Err : goal.returns-in-Err
+returns-in-Err c = search (text_refused, text_written)
 
-pub returns-in-Written : goal.returns-in-Written
-returns-in-Written c = search (text_refused, text_written)
+pub returns-in-Ok : goal.returns-in-Ok
+returns-in-Ok c = search (text_refused, text_written)

@@ -2,8 +2,8 @@
 use Rattle.cases.proofs.CaseLaws.{strand_is_lem, strand_none}
 use Rattle.cases.proofs.words.strand_at.Goals as goal
 
-pub returns-in-Is : goal.returns-in-Is
-returns-in-Is c = search strand_is_lem
+pub returns-in-Some : goal.returns-in-Some
+returns-in-Some c = search strand_is_lem
 
-pub returns-in-NoStrand : goal.returns-in-NoStrand
-returns-in-NoStrand c = search strand_none
+pub returns-in-None : goal.returns-in-None
+returns-in-None c = search strand_none
