@@ -1,5 +1,6 @@
 -- The rule for the blocks from here on, after the last one seen, is the rule for all of them. Assumes nothing.
 use borrow.Author.Rules.{rules}
+use native.Mathlib.Omega.{arith}
 use mathlib.Core.Path.{◌≡◌, sym}
 use Prim.Native.Nat.{◌-◌}
 use lib.ListN.{take, drop}
@@ -29,7 +30,7 @@ pub returns-then-x-s : goal.returns-then-x-s
 returns-then-x-s c = fill_before _ _ _ _ _ _ c.loop-x.invariant.1 _ _ _ _ c.in-Some.ensures.steps c.if-x-s.true
 
 pub returns-then-x-s-2 : goal.returns-then-x-s-2
-returns-then-x-s-2 c = fill_within _ _ _ _ _ _ c.loop-x.invariant.1 _ _ _ _ c.in-Some.ensures.steps c.if-x-s.false c.if-x-s-2.true
+returns-then-x-s-2 c = fill_within _ _ _ _ _ _ c.loop-x.invariant.1 _ _ _ _ c.in-Some.ensures.steps c.if-x-s.false (omega (arith, c.if-x-s-2.true))
 
 pub loop-x-preserved : goal.loop-x-preserved
 loop-x-preserved c = fill_more _ _ _ _ _ _ c.loop-x.invariant.1 _ _ _ _ c.in-Some.ensures.steps c.loop-x.invariant.0 c.if-x-s.false c.if-x-s-2.false
