@@ -26,9 +26,7 @@ pub fn blocks_fill(starts: &[u64], sizes: &[u64], count: usize, first: u64, last
     if s != first {
         return false;
     }
-    let mut i = 1;
-    while i < n {
-        let x = starts[i];
+    for (&x, &y) in starts[1..n].iter().zip(&sizes[1..n]) {
         if x < s {
             return false;
         }
@@ -36,8 +34,7 @@ pub fn blocks_fill(starts: &[u64], sizes: &[u64], count: usize, first: u64, last
             return false;
         }
         s = x;
-        z = sizes[i];
-        i += 1;
+        z = y;
     }
     if last < s {
         return false;
@@ -61,9 +58,7 @@ pub fn are_sums(queries: &[u64], sizes: &[u64], count: usize) -> bool
     if q != 0 {
         return false;
     }
-    let mut i = 1;
-    while i < n {
-        let x = queries[i];
+    for (&x, &y) in queries[1..n].iter().zip(&sizes[1..n]) {
         if x < q {
             return false;
         }
@@ -71,8 +66,7 @@ pub fn are_sums(queries: &[u64], sizes: &[u64], count: usize) -> bool
             return false;
         }
         q = x;
-        z = sizes[i];
-        i += 1;
+        z = y;
     }
     true
 }
@@ -81,18 +75,7 @@ pub fn are_sums(queries: &[u64], sizes: &[u64], count: usize) -> bool
 pub fn all_between(values: &[u64], count: usize, least: u64, most: u64) -> bool
     ensures { result ≡ all_between least most (take count values.now) }
 {
-    let n = ledger::least(count, values.len());
-    let mut i = 0;
-    while i < n {
-        if values[i] < least {
-            return false;
-        }
-        if most < values[i] {
-            return false;
-        }
-        i += 1;
-    }
-    true
+    values.iter().take(count).all(|v| least <= *v && *v <= most)
 }
 
 // Whether the numbers of the first so many rows are in their ranges: starts from 0, sizes from 1.
@@ -118,11 +101,7 @@ pub fn copy_numbers(from: &[u64], count: usize, to: &mut [u64])
 {
     let n = ledger::least(count, from.len());
     let m = ledger::least(n, to.len());
-    let mut i = 0;
-    while i < m {
-        to[i] = from[i];
-        i += 1;
-    }
+    to[..m].copy_from_slice(&from[..m]);
 }
 
 // Puts the sums of the earlier sizes at the front of a table, as far as it reaches, for the first so many sizes. A sum that 64
@@ -132,15 +111,12 @@ pub fn put_sums(sizes: &[u64], count: usize, to: &mut [u64])
 {
     let n = ledger::least(count, sizes.len());
     let mut sum: u64 = 0;
-    let mut i = 0;
-    while i < n {
+    for (i, &z) in sizes[..n].iter().enumerate() {
         numbers::store(to, i, sum);
-        let z = sizes[i];
         if ledger::LARGEST_NUMBER - sum < z {
             return;
         }
         sum += z;
-        i += 1;
     }
 }
 
@@ -149,14 +125,11 @@ pub fn put_shifted(from: &[u64], count: usize, by: u64, to: &mut [u64])
     ensures { to.new ≡ sets to.old 0 (shifted_within largest_number by (take count from.now)) }
 {
     let n = ledger::least(count, from.len());
-    let mut i = 0;
-    while i < n {
-        let x = from[i];
+    for (i, &x) in from[..n].iter().enumerate() {
         if ledger::LARGEST_NUMBER - by < x {
             return;
         }
         numbers::store(to, i, by + x);
-        i += 1;
     }
 }
 
@@ -194,10 +167,8 @@ pub fn put_subtracted(from: &[u64], count: usize, by: u64, to: &mut [u64])
     ensures { to.new ≡ sets to.old 0 (subtracted by (take count from.now)) }
 {
     let n = ledger::least(count, from.len());
-    let mut i = 0;
-    while i < n {
-        numbers::store(to, i, less(from[i], by));
-        i += 1;
+    for (i, &x) in from[..n].iter().enumerate() {
+        numbers::store(to, i, less(x, by));
     }
 }
 
@@ -250,14 +221,7 @@ fn add(a: u64, b: u64) -> u64
 pub fn sum_of(values: &[u64], count: usize) -> u64
     ensures { result ≡ capped (sum_of (take count values.now)) }
 {
-    let n = ledger::least(count, values.len());
-    let mut sum: u64 = 0;
-    let mut i = 0;
-    while i < n {
-        sum = add(sum, values[i]);
-        i += 1;
-    }
-    sum
+    values.iter().take(count).fold(0, |sum, v| add(sum, *v))
 }
 
 // The bases between the end of a block and the next start; 0 where they touch or overlap.
@@ -288,13 +252,10 @@ pub fn gap_count(starts: &[u64], sizes: &[u64], count: usize) -> u64
     let mut gaps: u64 = 0;
     let mut s = starts[0];
     let mut z = sizes[0];
-    let mut i = 1;
-    while i < n {
-        let x = starts[i];
+    for (&x, &y) in starts[1..n].iter().zip(&sizes[1..n]) {
         gaps += one(gap_after(s, z, x));
         s = x;
-        z = sizes[i];
-        i += 1;
+        z = y;
     }
     gaps
 }
@@ -310,13 +271,10 @@ pub fn gap_bases(starts: &[u64], sizes: &[u64], count: usize) -> u64
     let mut bases: u64 = 0;
     let mut s = starts[0];
     let mut z = sizes[0];
-    let mut i = 1;
-    while i < n {
-        let x = starts[i];
+    for (&x, &y) in starts[1..n].iter().zip(&sizes[1..n]) {
         bases = add(bases, gap_after(s, z, x));
         s = x;
-        z = sizes[i];
-        i += 1;
+        z = y;
     }
     bases
 }

@@ -40,13 +40,10 @@ fn load(rows: &[Row], n: usize, t: &mut [u64], q: &mut [u64], s: &mut [u64])
     ensures { Loaded n rows.now t.old t.new q.old q.new s.old
         s.new }
 {
-    let mut i = 0;
-    while i < n {
-        let r = rows[i];
+    for (i, r) in rows[..n].iter().enumerate() {
         t[i] = r.target;
         q[i] = r.query;
         s[i] = r.size;
-        i += 1;
     }
 }
 
@@ -55,14 +52,12 @@ fn store(rows: &mut [Row], n: usize, t: &[u64], q: &[u64], s: &[u64])
     requires { (n ≤ length rows.old) × (n ≤ length t.now) × (n ≤ length q.now) × (n ≤ length s.now) }
     ensures { rows.new ≡ front_stored n t.now q.now s.now rows.old }
 {
-    let mut i = 0;
-    while i < n {
-        rows[i] = Row {
+    for (i, row) in rows[..n].iter_mut().enumerate() {
+        *row = Row {
             target: t[i],
             query: q[i],
             size: s[i],
         };
-        i += 1;
     }
 }
 

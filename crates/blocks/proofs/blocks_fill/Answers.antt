@@ -1,5 +1,12 @@
 -- The rule for the blocks from here on, after the last one seen, is the rule for all of them. Assumes nothing.
 use borrow.Author.Rules.{rules}
+use native.Mathlib.Omega.{arith}
+use mathlib.Core.Path.{◌≡◌, sym}
+use Prim.Native.Nat.{◌-◌}
+use lib.ListN.{take, drop}
+use Rattle.std.specs.Iterator.Adapters.{zip_first, zip_second}
+use Rattle.std.specs.Slice.Iter.{iter_rest}
+use Rattle.std.proofs.lemmas.Iterator.{empty_from_Zip}
 use Rattle.blocks.proofs.BlockLaws.{fill_uneven, fill_none, fill_off, fill_start, fill_before, fill_within, fill_more, fill_past, fill_done}
 use Rattle.blocks.proofs.blocks_fill.Goals as goal
 
@@ -12,26 +19,28 @@ returns-then-n-eq0 c = search fill_none
 pub returns-then-s-first : goal.returns-then-s-first
 returns-then-s-first c = search fill_off
 
-pub loop-i-init : goal.loop-i-init
-loop-i-init c =
+pub loop-x-init : goal.loop-x-init
+loop-x-init c =
     let o = c.args in
-    (search rules, fill_start o.starts.now o.sizes.now o.count _ _ c.least-n.ensures c.least.ensures o.first o.last c.if-least-n.false c.if-n-eq0.false c.if-s-first.false)
+    let a : iter_rest (zip_first c.into_iter-x-iterator.result) ≡ take (c.least-n.result - 1) (drop 1 o.starts.now) = search rules in
+    let b : iter_rest (zip_second c.into_iter-x-iterator.result) ≡ take (c.least-n.result - 1) (drop 1 o.sizes.now) = search rules in
+    fill_start o.starts.now o.sizes.now o.count _ _ c.least-n.ensures c.least.ensures o.first o.last c.if-least-n.false c.if-n-eq0.false _ _ a b c.if-s-first.false
 
 pub returns-then-x-s : goal.returns-then-x-s
-returns-then-x-s c = search fill_before
+returns-then-x-s c = fill_before _ _ _ _ _ _ c.loop-x.invariant.1 _ _ _ _ c.in-Some.ensures.steps c.if-x-s.true
 
 pub returns-then-x-s-2 : goal.returns-then-x-s-2
-returns-then-x-s-2 c = search fill_within
+returns-then-x-s-2 c = fill_within _ _ _ _ _ _ c.loop-x.invariant.1 _ _ _ _ c.in-Some.ensures.steps c.if-x-s.false (omega (arith, c.if-x-s-2.true))
 
-pub loop-i-preserved : goal.loop-i-preserved
-loop-i-preserved c =
-    let o = c.args in
-    (search rules, fill_more o.starts.now o.sizes.now o.count _ _ c.least-n.ensures c.least.ensures o.first o.last c.if-least-n.false _ _ c.loop-i.i c.loop-i.invariant.1 c.loop-i-test.true c.if-x-s.false c.if-x-s-2.false)
+pub loop-x-preserved : goal.loop-x-preserved
+loop-x-preserved c = fill_more _ _ _ _ _ _ c.loop-x.invariant.1 _ _ _ _ c.in-Some.ensures.steps c.loop-x.invariant.0 c.if-x-s.false c.if-x-s-2.false
 
 pub returns-then-last-s : goal.returns-then-last-s
-returns-then-last-s c = search fill_past
+returns-then-last-s c =
+    let e = empty_from_Zip _ c.next.new.self _ c.in-None.is c.next.ensures.steps (sym c.loop-x.invariant.0) in
+    fill_past _ _ _ _ _ _ c.loop-x.invariant.1 e c.if-last-s.true
 
 pub returns : goal.returns
 returns c =
-    let o = c.args in
-    fill_done o.starts.now o.sizes.now o.count _ _ c.least-n.ensures c.least.ensures o.first o.last c.if-least-n.false _ _ c.loop-i.i c.loop-i.invariant.1 c.loop-i-test.false c.if-last-s.false
+    let e = empty_from_Zip _ c.next.new.self _ c.in-None.is c.next.ensures.steps (sym c.loop-x.invariant.0) in
+    fill_done _ _ _ _ _ _ c.loop-x.invariant.1 e c.if-last-s.false

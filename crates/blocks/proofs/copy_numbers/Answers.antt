@@ -1,14 +1,7 @@
--- Storing the rest from here on completes storing all of them. Assumes nothing.
+-- The copied front and the rest are what storing number by number leaves. Assumes nothing.
 use borrow.Author.Rules.{rules}
-use mathlib.Core.Path.{refl}
-use Rattle.blocks.proofs.BlockLaws.{copied_more, copied_done}
+use Rattle.blocks.proofs.BlockLaws.{copied}
 use Rattle.blocks.proofs.copy_numbers.Goals as goal
 
-pub loop-i-init : goal.loop-i-init
-loop-i-init c = (search rules, refl, refl)
-
-pub loop-i-preserved : goal.loop-i-preserved
-loop-i-preserved c = (search rules, search rules, search copied_more)
-
 pub returns : goal.returns
-returns c = search copied_done
+returns c = copied c.args.from.now c.args.count _ _ c.args.to.now _ c.least-n.ensures c.least-m.ensures (search rules)

@@ -1,18 +1,28 @@
 -- The gaps so far and those after the last block seen are all of them. Assumes nothing.
 use borrow.Author.Rules.{rules}
-use Rattle.blocks.proofs.GapLaws.{gaps_none, gaps_start, gaps_below, gaps_more, gaps_done}
+use mathlib.Core.Path.{◌≡◌}
+use Prim.Native.Nat.{◌-◌}
+use lib.ListN.{take, drop}
+use Rattle.std.specs.Iterator.Adapters.{zip_first, zip_second}
+use Rattle.std.specs.Slice.Iter.{iter_rest}
+use Rattle.std.proofs.lemmas.Slice.Zip.{either_empty_from_Zip}
+use Rattle.blocks.proofs.GapLaws.{gaps_none, gaps_start, gaps_more, gaps_done}
 use Rattle.blocks.proofs.gap_count.Goals as goal
 
 pub returns-then-n-eq0 : goal.returns-then-n-eq0
 returns-then-n-eq0 c = search gaps_none
 
-pub loop-i-init : goal.loop-i-init
-loop-i-init c = (search rules, search rules, search gaps_start)
-
-pub loop-i-preserved : goal.loop-i-preserved
-loop-i-preserved c =
+pub loop-x-init : goal.loop-x-init
+loop-x-init c =
     let o = c.args in
-    (search rules, gaps_below _ _ _ _ c.loop-i.invariant.1 c.one-gaps.ensures, gaps_more o.starts.now o.sizes.now o.count _ _ c.least.ensures c.least-n.ensures _ _ c.loop-i.i _ c.loop-i.invariant.2 c.loop-i-test.true _ _ c.gap_after.ensures c.one-gaps.ensures)
+    let a : iter_rest (zip_first c.into_iter-x-iterator.result) ≡ take (c.least-n.result - 1) (drop 1 o.starts.now) = search rules in
+    let b : iter_rest (zip_second c.into_iter-x-iterator.result) ≡ take (c.least-n.result - 1) (drop 1 o.sizes.now) = search rules in
+    gaps_start o.starts.now o.sizes.now o.count _ _ c.least.ensures c.least-n.ensures c.if-n-eq0.false _ _ a b
+
+pub loop-x-preserved : goal.loop-x-preserved
+loop-x-preserved c = gaps_more _ _ _ _ _ _ c.loop-x.invariant.1 _ _ _ _ c.in-Some.ensures.steps _ _ _ c.gap_after.ensures c.one-gaps.ensures c.loop-x.invariant.0
 
 pub returns : goal.returns
-returns c = search gaps_done
+returns c =
+    let e = either_empty_from_Zip _ c.next.new.self _ c.in-None.is c.next.ensures.steps in
+    gaps_done _ _ _ _ _ _ c.loop-x.invariant.1 e

@@ -1,13 +1,9 @@
 -- Storing the rest from here on completes storing all of them. Assumes nothing.
-use Prim.Native.Nat.{◌-◌, ◌≤◌}
 use mathlib.Core.Path.{◌≡◌}
-use lib.ListN.{length, take, drop}
+use lib.ListN.{take, drop}
 use lib.Seq.{sets}
 use Rattle.blocks.specs.Blocks.{subtracted}
 use Rattle.blocks.proofs.put_subtracted.Given as goal
 
 abbrev pub invariant-loop-i : goal.invariant-loop-i
-invariant-loop-i l = (l.i ≤ l.n) × (length l.to ≡ length l.initial.to) × (sets l.to l.i (subtracted l.by (drop l.i (take l.count l.from))) ≡ sets l.initial.to 0 (subtracted l.by (take l.count l.from)))
-
-abbrev pub decreases-loop-i : goal.decreases-loop-i
-decreases-loop-i l = l.n - l.i
+invariant-loop-i l = sets l.to l.i (subtracted l.by (drop l.i l.x-items)) ≡ sets l.initial.to 0 (subtracted l.by (take l.count l.from))
