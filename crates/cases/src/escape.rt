@@ -65,10 +65,8 @@ fn coded(s: &[u8]) -> Unescaped
 // The value of a few digits, leading zeros among them.
 fn times_of(digits: &[u8]) -> usize {
     let mut n: usize = 0;
-    let mut i = 0;
-    while i < digits.len() {
-        n = n % 10000 * 10 + hex_digit(digits[i]) as usize;
-        i += 1;
+    for digit in digits {
+        n = n % 10000 * 10 + hex_digit(*digit) as usize;
     }
     n
 }
@@ -117,10 +115,8 @@ fn front_of(s: &[u8]) -> Unescaped
 // Stores a byte so many times.
 fn put_times(buf: &mut [u8], at: usize, b: u8, times: usize) -> usize {
     let mut p = at;
-    let mut i = 0;
-    while i < times {
+    for _ in 0..times {
         p = writing::put_byte(buf, p, b);
-        i += 1;
     }
     p
 }

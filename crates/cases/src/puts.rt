@@ -70,10 +70,8 @@ pub fn put_spaced(out: &mut [u8], at: usize, vs: &[u64]) -> usize
     ensures { Put (spaced_text vs.now) at out.old out.new result }
 {
     let mut p = at;
-    let mut i = 0;
-    while i < vs.len() {
-        p = put_labelled(out, p, b" ", vs[i]);
-        i += 1;
+    for v in vs {
+        p = put_labelled(out, p, b" ", *v);
     }
     p
 }
@@ -99,13 +97,11 @@ pub fn put_rows(
         out.new result }
 {
     let mut p = at;
-    let mut i = 0;
-    while i < n {
+    for i in 0..n {
         let target = columns::value_at(targets, i);
         let query = columns::value_at(queries, i);
         let size = columns::value_at(sizes, i);
         p = put_row(out, p, target, query, size);
-        i += 1;
     }
     p
 }
@@ -128,10 +124,8 @@ pub fn put_shown(out: &mut [u8], at: usize, bytes: &[u8]) -> usize
     ensures { Put (shown_text bytes.now) at out.old out.new result }
 {
     let mut p = at;
-    let mut i = 0;
-    while i < bytes.len() {
-        p = put_shown_byte(out, p, bytes[i]);
-        i += 1;
+    for b in bytes {
+        p = put_shown_byte(out, p, *b);
     }
     p
 }

@@ -69,12 +69,10 @@ pub fn page() -> [u8; 2 * ledger::TEXT_LIMIT]
 fn numbers_kept(vs: &[u64], from: usize) -> bool
     ensures { result ≡ all_marked (drop from vs.now) }
 {
-    let mut i = from;
-    while i < vs.len() {
+    for i in from..vs.len() {
         if vs[i] != MARK {
             return false;
         }
-        i += 1;
     }
     true
 }
@@ -83,12 +81,10 @@ fn numbers_kept(vs: &[u64], from: usize) -> bool
 pub fn bytes_kept(buf: &[u8], from: usize) -> bool
     ensures { result ≡ all_marked (drop from buf.now) }
 {
-    let mut i = from;
-    while i < buf.len() {
+    for i in from..buf.len() {
         if buf[i] != MARK_BYTE {
             return false;
         }
-        i += 1;
     }
     true
 }

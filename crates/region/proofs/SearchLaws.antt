@@ -5,7 +5,7 @@ use mathlib.Core.Bool.{Bool, true, false, not, ◌&&◌, ◌||◌}
 use mathlib.Core.List.{List, [], ◌∷◌, Memᴰ}
 use Prim.Native.Nat.{ℕ, zero, suc, ◌+◌, ◌-◌, ◌*◌, ◌/◌, ◌%◌, ◌≤◌, ◌<◌, min, max}
 use native.Mathlib.Omega.{arith}
-use lib.ListN.{length, get_or, set, length-set}
+use lib.ListN.{length, get_or, set}
 use lib.Seq.{get_or-set_same, get_or-set_other}
 use lib.Dec.{leb, ltb}
 use borrow.Author.Tests.{lt-leb, le-leb, lt-ltb, le-ltb, leb-true, leb-false, ltb-true, ltb-false}
@@ -622,22 +622,6 @@ pub reached_found : (c : Chain) (rows : List Row) (a e : ℕ) (r : Reach) → Re
 reached_found c rows a e r h = record { reached = λ _. h; fits = h.fits }
 
 -- ---- the loops
--- a column laid so far
-pub lay_none : (n : ℕ) (ts xs : List ℕ) → Laid 0 [] xs → Laid 0 ts xs
-lay_none n ts xs l = record { room = l.room; starts = λ k h. absurd (omega arith); rest = l.rest }
-
-pub lay_more : (ts xs : List ℕ) (i : ℕ) → i < block_limit → Laid i ts xs → Laid (i + 1) ts (set xs i (get_or ts i 0))
-lay_more ts xs i h l = record {
-  room = length-set xs i (get_or ts i 0) ∙ l.room;
-  starts = λ k m. either i k _
-      (λ n. let e : k ≡ i = omega arith in rw e (get_or-set_same xs i (get_or ts i 0) 0 (omega (arith, l.room))))
-      (λ n. get_or-set_other xs i k (get_or ts i 0) 0 (λ e. omega arith) ∙ l.starts k n);
-  rest = λ k m n. get_or-set_other xs i k (get_or ts i 0) 0 (λ e. omega arith) ∙ l.rest k (omega arith) n;
-}
-
-pub lay_done : (n i : ℕ) (ts xs : List ℕ) → i ≤ n → n ≤ i → Laid i ts xs → Laid n ts xs
-lay_done n i ts xs h k l = let e : n ≡ i = omega arith in rw e l
-
 -- sums so far
 pub sum_more : (zs ys : List ℕ) (i s : ℕ) → i < length ys → ((k : ℕ) → k < i → get_or ys k 0 ≡ sizes_before zs k) → s ≡ sizes_before zs i
     → (k : ℕ) → k < i + 1 → get_or (set ys i s) k 0 ≡ sizes_before zs k

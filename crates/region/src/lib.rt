@@ -162,10 +162,8 @@ fn sizes_between(sizes: &[u64], i: usize, j: usize) -> u64
     ensures { SizesFrom sizes.now i j result }
 {
     let mut sum = 0;
-    let mut k = i;
-    while k < j {
+    for k in i..j {
         sum += sizes[k];
-        k += 1;
     }
     sum
 }
@@ -376,11 +374,7 @@ fn lay_starts(targets: &[u64], n: usize, starts: &mut [u64])
     requires { Layable n targets.now × Laid 0 [] starts.old }
     ensures { Laid n targets.now starts.new }
 {
-    let mut i = 0;
-    while i < n {
-        starts[i] = targets[i];
-        i += 1;
-    }
+    starts[..n].copy_from_slice(&targets[..n]);
 }
 
 fn no_sums() -> [u64; ROOM]
@@ -395,11 +389,9 @@ fn sum_sizes(sizes: &[u64], n: usize, before: &mut [u64])
     ensures { Summed n sizes.now before.new }
 {
     let mut sum = 0;
-    let mut i = 0;
-    while i < n {
+    for i in 0..n {
         before[i] = sum;
         sum += sizes[i];
-        i += 1;
     }
 }
 
@@ -462,9 +454,7 @@ fn answer_all(
         regions.now answers.old answers.new result }
 {
     let mut t = tally;
-    let mut i = 0;
-    while i < regions.len() {
-        let region = regions[i];
+    for (i, region) in regions.iter().enumerate() {
         let start = region[0];
         let end = region[1];
         let r = quick_reach(c, targets, queries, sizes, starts, before, start, end);
@@ -472,7 +462,6 @@ fn answer_all(
         t = done.tally;
         let answer = done.answer;
         answers[i] = answer_row(answer);
-        i += 1;
     }
     t
 }
@@ -506,11 +495,9 @@ fn refuse_all(count: usize, answers: &mut [[u64; 5]])
     requires { count ≤ length answers.old }
     ensures { answers.new ≡ refused_rows count ++ drop count answers.old }
 {
-    let mut i = 0;
-    while i < count {
+    for i in 0..count {
         let answer = not_lifted(Reason::BlockRules);
         answers[i] = answer_row(answer);
-        i += 1;
     }
 }
 
@@ -607,8 +594,7 @@ fn put_rows(
 {
     let m = regions.len() / REGION_SIZE;
     let mut t = tally;
-    let mut i = 0;
-    while i < m {
+    for i in 0..m {
         let region = region_at(regions, i);
         let start = region[0];
         let end = region[1];
@@ -618,7 +604,6 @@ fn put_rows(
         let answer = done.answer;
         let row = answer_row(answer);
         put_row(out, i, row);
-        i += 1;
     }
     t
 }

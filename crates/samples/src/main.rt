@@ -292,10 +292,8 @@ fn put_listed(out: &mut [u8], at: usize, bytes: &[u8], n: usize) -> usize {
     let m = ledger::least(n, LISTED);
     let a = cases::put_labelled(out, at, b"count ", n as u64);
     let mut p = writing::put_byte(out, a, b':');
-    let mut i = 0;
-    while i < m {
+    for i in 0..m {
         p = cases::put_labelled(out, p, b" ", binary::word_at(bytes, binary::WORD_SIZE * i));
-        i += 1;
     }
     p
 }

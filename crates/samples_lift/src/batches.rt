@@ -34,13 +34,10 @@ pub(crate) fn question_words(line: &[u8]) -> usize {
 fn regions_of(line: &[u8]) -> [[u64; 2]; MOST_REGIONS] {
     let none = [0u64; 2];
     let mut regions = [none; MOST_REGIONS];
-    let mut i = 0;
-    while i < MOST_REGIONS {
+    for i in 0..MOST_REGIONS {
         let start = cases::number_at(line, 2 + 2 * i);
         let end = cases::number_at(line, 3 + 2 * i);
-        let region = [start, end];
-        regions[i] = region;
-        i += 1;
+        regions[i] = [start, end];
     }
     regions
 }
@@ -57,15 +54,7 @@ fn row_kept(row: [u64; 5]) -> bool {
 
 // Whether rows are as they were before the call.
 fn answers_kept(answers: &[[u64; 5]]) -> bool {
-    let mut i = 0;
-    while i < answers.len() {
-        let row = answers[i];
-        if !row_kept(row) {
-            return false;
-        }
-        i += 1;
-    }
-    true
+    answers.iter().all(|row| row_kept(*row))
 }
 
 // How many rows a batch of so many regions fills.
@@ -86,11 +75,8 @@ fn put_row(out: &mut [u8], at: usize, row: [u64; 5]) -> usize {
 
 fn put_answers(out: &mut [u8], at: usize, answers: &[[u64; 5]]) -> usize {
     let mut p = at;
-    let mut i = 0;
-    while i < answers.len() {
-        let row = answers[i];
-        p = put_row(out, p, row);
-        i += 1;
+    for row in answers {
+        p = put_row(out, p, *row);
     }
     p
 }

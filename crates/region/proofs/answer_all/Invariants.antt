@@ -9,11 +9,7 @@ use Rattle.region.specs.Batches.{answer_rows, sent_as}
 use Rattle.region.proofs.answer_all.Given as goal
 
 abbrev pub invariant-loop-i : goal.invariant-loop-i
-invariant-loop-i l = (l.i ≤ length l.regions)
-    × (length l.answers ≡ length l.initial.answers)
+invariant-loop-i l = (length l.answers ≡ length l.initial.answers)
     × (sent_through l.t (map (sent_as l.c (table_of l.targets l.queries l.sizes)) (drop l.i l.regions)) ≡ sent_through l.initial.t (map (sent_as l.c (table_of l.targets l.queries l.sizes)) l.regions))
     × (take l.i l.answers ++ (answer_rows l.t (map (sent_as l.c (table_of l.targets l.queries l.sizes)) (drop l.i l.regions)) ++ drop (length l.regions) l.answers)
     ≡ answer_rows l.initial.t (map (sent_as l.c (table_of l.targets l.queries l.sizes)) l.regions) ++ drop (length l.regions) l.initial.answers)
-
-abbrev pub decreases-loop-i : goal.decreases-loop-i
-decreases-loop-i l = length l.regions - l.i

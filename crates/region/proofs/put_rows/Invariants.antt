@@ -11,9 +11,6 @@ use Rattle.region.specs.Batches.{answer_rows, sent_as, region_size, row_size, re
 use Rattle.region.proofs.put_rows.Given as goal
 
 abbrev pub invariant-loop-i : goal.invariant-loop-i
-invariant-loop-i l = (l.i ≤ l.m) × (length l.out ≡ length l.initial.out) × (length l.out ≤ largest_place)
+invariant-loop-i l = (length l.out ≡ length l.initial.out) × (length l.out ≤ largest_place)
     × (sent_through l.t (map (sent_as l.c (table_of l.targets l.queries l.sizes)) (regions_from (l.m - l.i) l.regions (region_size * l.i))) ≡ sent_through l.initial.t (map (sent_as l.c (table_of l.targets l.queries l.sizes)) (regions_from l.m l.regions 0)))
     × Completes (rows_bytes (answer_rows l.t (map (sent_as l.c (table_of l.targets l.queries l.sizes)) (regions_from (l.m - l.i) l.regions (region_size * l.i))))) (row_size * l.i) l.out (rows_bytes (answer_rows l.initial.t (map (sent_as l.c (table_of l.targets l.queries l.sizes)) (regions_from l.m l.regions 0)))) 0 l.initial.out
-
-abbrev pub decreases-loop-i : goal.decreases-loop-i
-decreases-loop-i l = l.m - l.i

@@ -7,7 +7,4 @@ use Rattle.region.specs.Steps.{refused_rows}
 use Rattle.region.proofs.refuse_all.Given as goal
 
 abbrev pub invariant-loop-i : goal.invariant-loop-i
-invariant-loop-i l = (l.i ≤ l.count) × (length l.answers ≡ length l.initial.answers) × (take l.i l.answers ++ (refused_rows (l.count - l.i) ++ drop l.count l.answers) ≡ refused_rows l.count ++ drop l.count l.initial.answers)
-
-abbrev pub decreases-loop-i : goal.decreases-loop-i
-decreases-loop-i l = l.count - l.i
+invariant-loop-i l = (length l.answers ≡ length l.initial.answers) × (take l.i l.answers ++ (refused_rows (l.count - l.i) ++ drop l.count l.answers) ≡ refused_rows l.count ++ drop l.count l.initial.answers)

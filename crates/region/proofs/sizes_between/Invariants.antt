@@ -4,7 +4,4 @@ use Rattle.region.specs.Searches.{SizesFrom}
 use Rattle.region.proofs.sizes_between.Given as goal
 
 abbrev pub invariant-loop-k : goal.invariant-loop-k
-invariant-loop-k l = (l.k ≤ l.j) × SizesFrom l.sizes l.i l.k l.sum
-
-abbrev pub decreases-loop-k : goal.decreases-loop-k
-decreases-loop-k l = l.j - l.k
+invariant-loop-k l = SizesFrom l.sizes l.i l.k l.sum

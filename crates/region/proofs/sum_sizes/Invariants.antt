@@ -7,7 +7,4 @@ use Rattle.region.specs.Searches.{sizes_before}
 use Rattle.region.proofs.sum_sizes.Given as goal
 
 abbrev pub invariant-loop-i : goal.invariant-loop-i
-invariant-loop-i l = (l.i ≤ l.n) × (length l.before ≡ block_limit) × (l.sum ≡ sizes_before l.sizes l.i) × ((k : ℕ) → k < l.i → get_or l.before k 0 ≡ sizes_before l.sizes k)
-
-abbrev pub decreases-loop-i : goal.decreases-loop-i
-decreases-loop-i l = l.n - l.i
+invariant-loop-i l = (length l.before ≡ block_limit) × (l.sum ≡ sizes_before l.sizes l.i) × ((k : ℕ) → k < l.i → get_or l.before k 0 ≡ sizes_before l.sizes k)

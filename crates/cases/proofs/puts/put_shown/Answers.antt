@@ -5,11 +5,11 @@ use Rattle.cases.proofs.CaseLaws.{shown_step, shown_done}
 use borrow.Author.Rules.{rules}
 use Rattle.cases.proofs.puts.put_shown.Goals as goal
 
-pub loop-i-init : goal.loop-i-init
-loop-i-init c = (search rules, refl, search rules, search rules, completes_all _ _ _)
+pub loop-b-init : goal.loop-b-init
+loop-b-init c = (refl, search rules, search rules, completes_all _ _ _)
 
-pub loop-i-preserved : goal.loop-i-preserved
-loop-i-preserved c = (search rules, search rules, search rules, search rules, search shown_step)
+pub loop-b-preserved : goal.loop-b-preserved
+loop-b-preserved c = (search rules, search rules, search rules, search shown_step)
 
 pub returns : goal.returns
 returns c = search shown_done

@@ -5,11 +5,11 @@ use Rattle.cases.proofs.CaseLaws.{spaced_step, spaced_done}
 use borrow.Author.Rules.{rules}
 use Rattle.cases.proofs.puts.put_spaced.Goals as goal
 
-pub loop-i-init : goal.loop-i-init
-loop-i-init c = (search rules, refl, search rules, search rules, completes_all _ _ _)
+pub loop-v-init : goal.loop-v-init
+loop-v-init c = (refl, search rules, search rules, completes_all _ _ _)
 
-pub loop-i-preserved : goal.loop-i-preserved
-loop-i-preserved c = (search rules, search rules, search rules, search rules, search spaced_step)
+pub loop-v-preserved : goal.loop-v-preserved
+loop-v-preserved c = (search rules, search rules, search rules, search spaced_step)
 
 pub returns : goal.returns
 returns c = search spaced_done

@@ -1,12 +1,8 @@
 -- The marks from here on are all there exactly when those from the start are. Assumes nothing.
-use Prim.Native.Nat.{◌-◌, ◌≤◌}
 use mathlib.Core.Path.{◌≡◌}
-use lib.ListN.{length, drop}
+use lib.ListN.{drop}
 use Rattle.cases.specs.Marks.{all_marked}
 use Rattle.cases.proofs.rooms.bytes_kept.Given as goal
 
 abbrev pub invariant-loop-i : goal.invariant-loop-i
-invariant-loop-i l = (l.from ≤ l.i) × (all_marked (drop l.i l.buf) ≡ all_marked (drop l.from l.buf))
-
-abbrev pub decreases-loop-i : goal.decreases-loop-i
-decreases-loop-i l = length l.buf - l.i
+invariant-loop-i l = all_marked (drop l.i l.buf) ≡ all_marked (drop l.from l.buf)

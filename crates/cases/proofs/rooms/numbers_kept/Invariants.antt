@@ -1,12 +1,8 @@
 -- The marks from here on are all there exactly when those from the start are. Assumes nothing.
-use Prim.Native.Nat.{◌-◌, ◌≤◌}
 use mathlib.Core.Path.{◌≡◌}
-use lib.ListN.{length, drop}
+use lib.ListN.{drop}
 use Rattle.cases.specs.Marks.{all_marked}
 use Rattle.cases.proofs.rooms.numbers_kept.Given as goal
 
 abbrev pub invariant-loop-i : goal.invariant-loop-i
-invariant-loop-i l = (l.from ≤ l.i) × (all_marked (drop l.i l.vs) ≡ all_marked (drop l.from l.vs))
-
-abbrev pub decreases-loop-i : goal.decreases-loop-i
-decreases-loop-i l = length l.vs - l.i
+invariant-loop-i l = all_marked (drop l.i l.vs) ≡ all_marked (drop l.from l.vs)
