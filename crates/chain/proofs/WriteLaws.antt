@@ -16,7 +16,13 @@ use Rattle.text.proofs.TextLaws.{both}
 use Rattle.writing.specs.Digits.{digits}
 use Rattle.writing.specs.Puts.{Put}
 use Rattle.writing.specs.Answers.{Wrote}
+<<<<<<< HEAD
 use Rattle.writing.proofs.PutLaws.{Completes, completes_all, completes_step, put_then}
+=======
+use Rattle.writing.specs.declared.Writing.{Writing}
+use Rattle.writing.specs.declared.Writing.TheVariants as writing
+use Rattle.writing.proofs.PutLaws.{Completes, completes_step, put_then}
+>>>>>>> 68624fecac89c685b6d019ad6734f76363755a5e
 use Rattle.columns.specs.Columns.{table_of}
 use Rattle.columns.specs.Lines.{words_from, line_text, fed_line}
 use Rattle.columns.proofs.JoinLaws.{line_joins}
@@ -65,11 +71,6 @@ pub record Lining (ts qs zs : List ℕ) (at last : ℕ) (b₀ b : List ℕ) (p i
   pub rest : Completes (block_text (last - i) i ts qs zs) p b (block_text last 0 ts qs zs) at b₀
 
 module _ (ts qs zs : List ℕ) (at last : ℕ) (b₀ : List ℕ) where
-  pub lines_start : Lining ts qs zs at last b₀ b₀ at 0
-  lines_start =
-      let e : last - 0 ≡ last = omega arith in
-      record { low = omega arith; long = refl; rest = rw e (completes_all (block_text last 0 ts qs zs) at b₀) }
-
   module _ (b : List ℕ) (p i : ℕ) (l : Lining ts qs zs at last b₀ b p i) where
     line_more : i < last → block_text (last - i) i ts qs zs ≡ fed_words (gap_words i ts qs zs) ++ block_text (last - (i + 1)) (i + 1) ts qs zs
     unfolding block_text

@@ -881,10 +881,8 @@ fn put_blocks(
 {
     let last = count - 1;
     let mut p = at;
-    let mut i = 0;
-    while i < last {
+    for i in 0..last {
         p = put_gap(buf, p, i, targets, queries, sizes);
-        i += 1;
     }
     put_block(buf, p, LAST_COLUMNS, columns::value_at(sizes, last), 0, 0)
 }

@@ -83,15 +83,13 @@ fn find_partner(c: Chain, targets: &[u64], queries: &[u64], sizes: &[u64], p: u6
     let n = c.blockCount as usize;
     let k = c.qStrand;
     let size = c.qSize;
-    let mut i = 0;
-    while i < n {
+    for i in 0..n {
         let t = targets[i];
         let z = sizes[i];
         if in_block(t, z, p) {
             let s = queries[i] + (p - t);
             return Some(forward_base(k, size, s));
         }
-        i += 1;
     }
     None
 }

@@ -492,10 +492,8 @@ fn put_values(values: &[u64], out: &mut [u64])
     requires { length values.now ≤ column_limit }
     ensures { out.new ≡ values_put out.old 0 values.now }
 {
-    let mut k = 0;
-    while k < values.len() {
-        numbers::store(out, 2 * k, values[k]);
-        k += 1;
+    for (k, v) in values.iter().enumerate() {
+        numbers::store(out, 2 * k, *v);
     }
 }
 

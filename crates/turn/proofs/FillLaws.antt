@@ -1,12 +1,12 @@
 -- The turned rows slice by slice, as the code fills them; and the ways out of `turn_chain`. Assumes nothing.
 use mathlib.Core.Path.{◌≡◌, refl, sym, ap, ◌∙◌}
 use mathlib.Core.Bool.{Bool, true, false, not}
-use mathlib.Core.List.{List, map}
+use mathlib.Core.List.{List, [], ◌++◌, map, append-nil}
 use Prim.Native.Nat.{ℕ, zero, suc, ◌+◌, ◌-◌, ◌≤◌, ◌<◌}
 use native.Mathlib.Numerals.{add-one}
 use native.Mathlib.Omega.{arith}
-use lib.ListN.{length, get_or, set, length-set, length-map, get_or-map}
-use lib.Seq.{sets, ext_get_or}
+use lib.ListN.{length, get_or, set, take, drop, length-set, length-map, length-take, drop_of_length-le, get_or-map}
+use lib.Seq.{sets, sets-eq, ext_get_or}
 use borrow.Author.Tests.{lt-leb, not-true, not-false}
 use Rattle.blocks.specs.Strands.{strand_start, strand_end}
 use Rattle.ledger.specs.declared.Strand.{Strand}
@@ -72,6 +72,17 @@ list_length : (f : ℕ → ℕ) (a n : ℕ) → length (list_of f a n) ≡ n
 unfolding list_of
 list_length f a zero = refl
 list_length f a (suc n) = ap suc (list_length f (suc a) n)
+
+-- the first n numbers of a slice are filled: the rest stay
+pub fill_front : (f : ℕ → ℕ) (n : ℕ) (before out : List ℕ) → n ≤ length before → out ≡ sets (take n before) 0 (list_of f 0 n) → out ++ drop n before ≡ sets before 0 (list_of f 0 n)
+fill_front f n before out h e =
+    let l = list_length f 0 n in
+    let m : length (take n before) ≡ n = rw length-take (omega arith) in
+    let q : 0 + length (list_of f 0 n) ≡ n = omega (arith, l) in
+    let z : drop n (take n before) ≡ [] = drop_of_length-le (take n before) (omega arith) in
+    let front : out ≡ list_of f 0 n ++ [] = e ∙ sets-eq (list_of f 0 n) (take n before) 0 (omega arith) ∙ rw (q, z) in
+    let whole : sets before 0 (list_of f 0 n) ≡ list_of f 0 n ++ drop n before = sets-eq (list_of f 0 n) before 0 (omega arith) ∙ rw q in
+    rw (front, append-nil) (sym whole)
 
 list_at : (f : ℕ → ℕ) (a n i : ℕ) → i < n → get_or (list_of f a n) i 0 ≡ f (a + i)
 unfolding list_of

@@ -28,13 +28,11 @@ fn fill_starts(k: Strand, size: u64, n: usize, starts: &[u64], sizes: &[u64], ou
     ensures { out.new
         ≡ sets out.old 0 (list_of (start_at k size n starts.now sizes.now) 0 n) }
 {
-    let mut i = 0;
-    while i < n {
+    for (i, y) in out[..n].iter_mut().enumerate() {
         let j = source_of(k, n, i);
         let x = starts[j];
         let z = sizes[j];
-        out[i] = blocks::strand_start(k, size, x, x + z);
-        i += 1;
+        *y = blocks::strand_start(k, size, x, x + z);
     }
 }
 
@@ -43,11 +41,9 @@ fn fill_sizes(k: Strand, n: usize, sizes: &[u64], out: &mut [u64])
     requires { (n ≤ length sizes.now) × (n ≤ length out.old) }
     ensures { out.new ≡ sets out.old 0 (list_of (size_at k n sizes.now) 0 n) }
 {
-    let mut i = 0;
-    while i < n {
+    for (i, y) in out[..n].iter_mut().enumerate() {
         let j = source_of(k, n, i);
-        out[i] = sizes[j];
-        i += 1;
+        *y = sizes[j];
     }
 }
 

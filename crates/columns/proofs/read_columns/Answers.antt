@@ -1,4 +1,5 @@
 -- The first walk stores nothing and gives the answer; where it is good, the second walk stores. Assumes nothing.
+use Rattle.std.proofs.lemmas.Result.{err_from_is_err_and}
 use Rattle.columns.proofs.ReadLaws.{codes_length, codes_few, read_refused, read_walked}
 use Rattle.columns.proofs.read_columns.Goals as goal
 
@@ -8,14 +9,16 @@ slice_bounds-walk_columns-end c = search codes_length
 pub walk_columns-requires : goal.walk_columns-requires
 walk_columns-requires c = search codes_few
 
-pub slice_bounds-walk_columns-end-in-Ok : goal.slice_bounds-walk_columns-end-in-Ok
-slice_bounds-walk_columns-end-in-Ok c = search codes_length
+pub returns : goal.returns
+returns c = search (codes_length, c.in_ok-walk_columns.was)
 
-pub walk_columns-requires-in-Ok : goal.walk_columns-requires-in-Ok
-walk_columns-requires-in-Ok c = search codes_few
+pub returns : goal.returns
+returns c = search (codes_few, c.in_ok-walk_columns.was)
 
-pub returns-in-Err : goal.returns-in-Err
-returns-in-Err c = search (read_refused, read_walked)
+pub returns-in_err-walk_columns : goal.returns-in_err-walk_columns
+returns-in_err-walk_columns c =
+    let p = err_from_is_err_and c.from_residual.result c.from_residual.ensures.1 in
+    rw (p.1, p.2) (search (read_refused, read_walked, c.in_err-walk_columns.was))
 
-pub returns-in-Ok : goal.returns-in-Ok
-returns-in-Ok c = search (read_refused, read_walked)
+pub returns : goal.returns
+returns c = search (read_refused, read_walked, c.in_ok-walk_columns.was)

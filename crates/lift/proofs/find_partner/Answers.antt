@@ -1,14 +1,10 @@
 use Prim.Native.Nat.{◌<◌}
-use mathlib.Core.Path.{refl}
 use lib.ListN.{get_or}
 use native.Mathlib.Omega.{arith}
 use borrow.Author.Rules.{rules}
 use Rattle.lift.specs.Pairs.{pairs}
 use Rattle.lift.proofs.FindLaws.{held, seek_on, seek_found, seek_past, told_low}
 use Rattle.lift.proofs.find_partner.Goals as goal
-
-pub loop-i-init : goal.loop-i-init
-loop-i-init c = record { to = search rules; same = refl }
 
 pub overflow_sub-s : goal.overflow_sub-s
 overflow_sub-s c = search told_low
