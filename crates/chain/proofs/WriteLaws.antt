@@ -16,13 +16,7 @@ use Rattle.text.proofs.TextLaws.{both}
 use Rattle.writing.specs.Digits.{digits}
 use Rattle.writing.specs.Puts.{Put}
 use Rattle.writing.specs.Answers.{Wrote}
-<<<<<<< HEAD
-use Rattle.writing.proofs.PutLaws.{Completes, completes_all, completes_step, put_then}
-=======
-use Rattle.writing.specs.declared.Writing.{Writing}
-use Rattle.writing.specs.declared.Writing.TheVariants as writing
 use Rattle.writing.proofs.PutLaws.{Completes, completes_step, put_then}
->>>>>>> 68624fecac89c685b6d019ad6734f76363755a5e
 use Rattle.columns.specs.Columns.{table_of}
 use Rattle.columns.specs.Lines.{words_from, line_text, fed_line}
 use Rattle.columns.proofs.JoinLaws.{line_joins}
