@@ -32,7 +32,7 @@ use Rattle.ledger.specs.Refusals.{fault_at}
 
 -- ---- one word
 good_means : (x : Result ℕ Fault) (y w : Extent) (v : ℕ) → field_of x y ≡ Ok (v, w) → x ≡ Ok v
-good_means (Ok u) y w v e = cc
+good_means (Ok u) y w v e = let p : ◌≡◌ {A = ℕ × Extent} (u, y) (v, w) = cc in ap Ok (ap (λ (z : ℕ × Extent). z.0) p)
 good_means (Err bad) y w v e = absurd (let z : ◌≡◌ {A = ℕ} 0 1 = cc in omega arith)
 
 module _ (k : Kind) (n : ℕ) (s : List ℕ) (at base : ℕ) (d d' : List ℕ) (r : Result (ℕ × Extent) Fault) (read : FieldRead k n s at base d d' r) where

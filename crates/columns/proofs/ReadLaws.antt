@@ -1,5 +1,5 @@
 -- What each step of reading a line by its table shows, on plain values. Assumes nothing.
-use mathlib.Core.Path.{◌≡◌, refl, sym, ◌∙◌}
+use mathlib.Core.Path.{◌≡◌, refl, sym, ap, ◌∙◌}
 use mathlib.Core.Bool.{Bool, true, false}
 use mathlib.Core.List.{List, map}
 use Prim.Native.Nat.{ℕ, suc, ◌+◌, ◌-◌, ◌*◌, ◌≤◌, ◌<◌, min}
@@ -55,7 +55,7 @@ module _ (k : Kind) (n : ℕ) (s : List ℕ) (at : ℕ) (w : Extent) (ew : w ≡
 
 -- a good field stands at its word
 good_word : (x : Result ℕ Fault) (y w : Extent) (v : ℕ) → field_of x y ≡ Ok (v, w) → w ≡ y
-good_word (Ok u) y w v e = cc
+good_word (Ok u) y w v e = let p : ◌≡◌ {A = ℕ × Extent} (u, y) (v, w) = cc in sym (ap (λ (z : ℕ × Extent). z.1) p)
 good_word (Err bad) y w v e = absurd (let z : ◌≡◌ {A = ℕ} 0 1 = cc in omega arith)
 
 pub field_word : (k : Kind) (n : ℕ) (s : List ℕ) (at v : ℕ) (w : Extent) → field_from k n s at ≡ Ok (v, w) → w ≡ next_word s at

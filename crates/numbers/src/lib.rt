@@ -296,9 +296,9 @@ pub fn store_items(word: &[u8], least: u64, most: u64, out: &mut [u64]) -> Resul
             Ok(v) => {
                 store(out, n, v);
             }
-            Err(x) => {
+            Err(bad) => {
                 return Err(Fault {
-                    reason: x.reason,
+                    reason: bad.reason,
                     place: i,
                 });
             }

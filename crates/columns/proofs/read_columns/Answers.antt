@@ -9,16 +9,16 @@ slice_bounds-walk_columns-end c = search codes_length
 pub walk_columns-requires : goal.walk_columns-requires
 walk_columns-requires c = search codes_few
 
-pub returns : goal.returns
-returns c = search (codes_length, c.in_ok-walk_columns.was)
+pub slice_bounds-walk_columns-end-2 : goal.slice_bounds-walk_columns-end-2
+slice_bounds-walk_columns-end-2 c = search codes_length
 
-pub returns : goal.returns
-returns c = search (codes_few, c.in_ok-walk_columns.was)
+pub walk_columns-requires-2 : goal.walk_columns-requires-2
+walk_columns-requires-2 c = search codes_few
 
 pub returns-in_err-walk_columns : goal.returns-in_err-walk_columns
 returns-in_err-walk_columns c =
     let p = err_from_is_err_and c.from_residual.result c.from_residual.ensures.1 in
-    rw (p.1, p.2) (search (read_refused, read_walked, c.in_err-walk_columns.was))
+    rw (p.1, p.2) (search (read_refused, c.in_err-walk_columns.was))
 
 pub returns : goal.returns
-returns c = search (read_refused, read_walked, c.in_ok-walk_columns.was)
+returns c = search (read_walked, c.in_ok-walk_columns.was)

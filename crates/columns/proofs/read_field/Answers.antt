@@ -5,10 +5,10 @@ use Rattle.columns.proofs.read_field.Goals as goal
 
 pub overflow_add-result : goal.overflow_add-result
 overflow_add-result c = let w = c.next_word-w.ensures in
-    omega (arith, field_near _ _ _ _ _ w.is _ _ _ _ c.spell_in.ensures _ _ c.in-Err.is w.mid)
+    omega (arith, field_near _ _ _ _ _ w.is _ _ _ _ c.spell_in.ensures _ c.in-Err.is w.mid)
 
 pub returns-in-Ok : goal.returns-in-Ok
-returns-in-Ok c = search (field_good, field_bad)
+returns-in-Ok c = search field_good
 
 pub returns-in-Err : goal.returns-in-Err
-returns-in-Err c = search (field_good, field_bad)
+returns-in-Err c = search field_bad

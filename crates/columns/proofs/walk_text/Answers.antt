@@ -10,12 +10,12 @@ returns-in_err-check_text c =
 
 pub returns-in_err-e : goal.returns-in_err-e
 returns-in_err-e c =
-    let p = err_from_is_err_and c.from_residual-2.result c.from_residual-2.ensures.1 in
+    let p = err_from_is_err_and c.from_residual-in_err-e.result c.from_residual-in_err-e.ensures.1 in
     rw (p.1, p.2) (search (texts, c.in_ok-check_text.was, c.in_err-e.was))
 
 pub returns-in_err-check_last_line : goal.returns-in_err-check_last_line
 returns-in_err-check_last_line c =
-    let p = err_from_is_err_and c.from_residual-3.result c.from_residual-3.ensures.1 in
+    let p = err_from_is_err_and c.from_residual-in_err-check_last_line.result c.from_residual-in_err-check_last_line.ensures.1 in
     rw (p.1, p.2) (search (texts, c.in_ok-check_text.was, c.in_ok-e.was, c.in_err-check_last_line.was))
 
 pub returns : goal.returns
