@@ -27,7 +27,6 @@ use Rattle.columns.proofs.PlaceLaws.{spelt_at, value_first, values_length}
 use Rattle.columns.proofs.TableLaws as table
 use Rattle.chain.specs.declared.BlockLine.{BlockLine}
 use Rattle.chain.specs.declared.BlockLine.TheVariants.{Last, Gap}
-use Rattle.chain.specs.declared.BlockLine.TheVariants as block
 use Rattle.chain.specs.Columns as column
 use Rattle.chain.specs.Table.{block_columns}
 use Rattle.chain.specs.Records.{line_values, size_at, target_gap, query_gap}
