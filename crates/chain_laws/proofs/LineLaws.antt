@@ -24,7 +24,6 @@ use Rattle.columns.proofs.SpellsLaws.{columns_mean, Reads, meant_read}
 use Rattle.columns.proofs.PlaceLaws.{value_first}
 use Rattle.chain.specs.declared.BlockLine.{BlockLine}
 use Rattle.chain.specs.declared.BlockLine.TheVariants.{Last, Gap}
-use Rattle.chain.specs.declared.BlockLine.TheVariants as block
 use Rattle.chain.specs.declared.Ending.{Ending}
 use Rattle.chain.specs.Columns as column
 use Rattle.chain.specs.Table.{block_columns}
