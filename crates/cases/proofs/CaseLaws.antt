@@ -9,11 +9,14 @@ use lib.ListN.{length, get_or, take, drop, length-take, drop_of_length-le}
 use lib.Seq.{drop-cons}
 use lib.Dec.{ltb, eqb}
 use borrow.Author.Tests.{eq-eqb, ne_eqb}
+use Rattle.std.specs.Prelude.{Ok, Err, Result, ⊤}
+use Rattle.std.specs.Result.{result_unwrap_or}
 use Rattle.ledger.specs.declared.Refusal.{Refusal}
 use Rattle.ledger.specs.Reasons.{reason_number}
 use Rattle.ledger.specs.declared.Strand.{Strand}
 use Rattle.ledger.specs.Limits.{largest_number, largest_place}
 use Rattle.ledger.specs.Strands.{strand_letter}
+use Rattle.ledger.specs.declared.Fault.{Fault}
 use Rattle.numbers.specs.Numbers.{number_of, NumberRead}
 use Rattle.text.specs.declared.Extent.{Extent}
 use Rattle.text.specs.Words.{word_at, bytes_of, Found}
@@ -22,9 +25,6 @@ use Rattle.writing.proofs.PutLaws.{Completes, completes_all, completes_step, com
 use Rattle.cases.specs.Lines.{is_case, case_letter, meant, number_at}
 use Rattle.cases.specs.Marks.{all_marked}
 use Rattle.cases.specs.Texts.{labelled, refused_label, reason_text, refusal_text, check_text, strand_text, written_text, row_text, rows_text, spaced_text, shown_byte, shown_text, kept_text}
-use Rattle.std.specs.Prelude.{Ok, Err, Result, ⊤}
-use Rattle.std.specs.Result.{result_unwrap_or}
-use Rattle.ledger.specs.declared.Fault.{Fault}
 
 -- the first byte of a case, and what follows it
 module _ (s : List ℕ) (b : ℕ) where

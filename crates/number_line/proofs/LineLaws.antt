@@ -4,6 +4,8 @@ use mathlib.Core.List.{List, [], ◌∷◌, map}
 use Prim.Native.Nat.{ℕ, ◌≤◌, ◌<◌}
 use native.Mathlib.Omega.{arith}
 use lib.ListN.{length, drop}
+use Rattle.std.specs.Prelude.{Ok, Err, Result, ⊤}
+use Rattle.ledger.specs.declared.Fault.{Fault}
 use Rattle.text.specs.Checks.{then_check, text_check, last_line_check}
 use Rattle.text.specs.Pieces.{lines_of, line_of, words_of}
 use Rattle.text.specs.Words.{next_word, next_line}
@@ -19,8 +21,6 @@ use Rattle.writing.proofs.DigitLaws.{Most}
 use Rattle.kinds.proofs.DecimalLaws.{number_as, as_number, values_listed}
 use Rattle.number_line.specs.Numbers.{largest_listed, or_word, words_from, numbers_in, numbers_answer, numbers_stages, numbers_check}
 use Rattle.number_line.specs.Rules.{NumbersText}
-use Rattle.std.specs.Prelude.{Ok, Err, Result, ⊤}
-use Rattle.ledger.specs.declared.Fault.{Fault}
 
 largest_small : largest_listed < Most
 largest_small = omega arith

@@ -9,6 +9,7 @@ use lib.ListN.{length, take, drop, get_or, length-map, length-append, take-appen
 use lib.Seq.{sets, take-length, length-take-le, drop-cons}
 use lib.Dec.{leb, eqb}
 use borrow.Author.Tests.{leb-true, leb-false, le-leb, lt-leb, eqb-true, ne_eqb}
+use Rattle.std.specs.Prelude.{Ok, Err, Result, ⊤}
 use Rattle.ledger.specs.Limits.{text_limit}
 use Rattle.ledger.specs.declared.Reason.TheVariants.{NoRoom}
 use Rattle.ledger.specs.declared.Fault.{Fault}
@@ -28,7 +29,6 @@ use Rattle.number_line.specs.declared.Quick.{Quick}
 use Rattle.number_line.specs.Numbers.{words_from, numbers_in, numbers_answer, numbers_stages, numbers_check, numbers_read, bytes_after, NumbersStored}
 use Rattle.number_line.specs.Walks.{Walked, line_check, feedless, is_gap, QuickRead, QuickText, Handed, bytes_held, NumbersHeld}
 use Rattle.number_line.proofs.LineLaws.{words_good, all_good, checked_of, checked_is}
-use Rattle.std.specs.Prelude.{Ok, Err, Result, ⊤}
 
 -- ---- small tests
 pub fit_is : (n room : ℕ) → leb n (room / word_size) ≡ leb (word_size * n) room

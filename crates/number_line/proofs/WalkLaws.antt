@@ -4,7 +4,9 @@ use mathlib.Core.List.{List, [], ◌∷◌, ◌++◌}
 use Prim.Native.Nat.{ℕ, ◌+◌, ◌-◌, ◌≤◌, ◌<◌}
 use native.Mathlib.Omega.{arith}
 use lib.ListN.{length, take, drop}
+use Rattle.std.specs.Prelude.{Ok, Err, Result, ⊤}
 use Rattle.ledger.specs.Limits.{largest_place}
+use Rattle.ledger.specs.declared.Fault.{Fault}
 use Rattle.text.specs.Checks.{then_check}
 use Rattle.text.specs.declared.Extent.{Extent}
 use Rattle.text.specs.Pieces.{line_of, words_of}
@@ -17,8 +19,6 @@ use Rattle.writing.proofs.PutLaws.{Completes, completes_step, completes_done}
 use Rattle.binary.specs.Bytes.{word_size, low_bytes, words_bytes}
 use Rattle.number_line.specs.Numbers.{largest_listed, words_from}
 use Rattle.number_line.specs.Walks.{Walked}
-use Rattle.std.specs.Prelude.{Ok, Err, Result, ⊤}
-use Rattle.ledger.specs.declared.Fault.{Fault}
 
 -- the words from a place on
 abbrev pub rest_of : List ℕ → ℕ → List (List ℕ)

@@ -3,13 +3,13 @@ use Rattle.std.specs.Prelude.{ℕ, ◌*◌, ◌≡◌, List, [], ◌∷◌, map,
 use Rattle.std.proofs.lemmas.List.Edits.{sets}
 use Rattle.ledger.specs.declared.Reason.TheVariants.{NoRoom}
 use Rattle.ledger.specs.Refusals.{fault_at, refusal_at, require}
+use Rattle.ledger.specs.declared.Fault.{Fault}
+use Rattle.ledger.specs.declared.Refusal.{Refusal}
 use Rattle.text.specs.Checks.{then_check, text_check, last_line_check}
 use Rattle.text.specs.Pieces.{line_of, words_of}
 use Rattle.text.specs.Words.{next_word}
 use Rattle.numbers.specs.Numbers.{value, number_of}
 use Rattle.binary.specs.Bytes.{word_size, words_bytes}
-use Rattle.ledger.specs.declared.Fault.{Fault}
-use Rattle.ledger.specs.declared.Refusal.{Refusal}
 
 -- the greatest number, of eighteen digits
 abbrev pub largest_listed : ℕ
