@@ -2,6 +2,7 @@
 use mathlib.Core.Path.{◌≡◌, refl}
 use mathlib.Core.List.{List, [], ◌∷◌}
 use Prim.Native.Nat.{ℕ}
+use Rattle.std.specs.Prelude.{Ok, Err}
 use Rattle.ledger.specs.declared.Reason.TheVariants.{WrongCount, NumberMisspelt, NumberOutOfRange, NoRoom}
 use Rattle.text.specs.Scan.{run, end_of}
 use Rattle.text.specs.Checks.{text_check, last_line_check}
@@ -9,7 +10,6 @@ use Rattle.text.specs.Pieces.{pieces_of, non_empty, line_of, words_of}
 use Rattle.text.specs.Words.{line_end, next_line, next_word}
 use Rattle.numbers.specs.Numbers.{well_spelt, value_from, value, number_of}
 use Rattle.number_line.specs.Numbers.{words_from, numbers_in, numbers_stages, numbers_check, numbers_read}
-use Rattle.std.specs.Prelude.{Ok, Err}
 
 -- `567 488` and a line feed
 abbrev two : List ℕ

@@ -3,13 +3,13 @@ use Rattle.std.specs.Prelude.{ℕ, ◌*◌, ◌≡◌, List, [], ◌∷◌, map,
 use Rattle.std.proofs.lemmas.List.Edits.{sets}
 use Rattle.ledger.specs.declared.Reason.TheVariants.{NoRoom}
 use Rattle.ledger.specs.Refusals.{fault_at, refusal_at, require}
+use Rattle.ledger.specs.declared.Fault.{Fault}
+use Rattle.ledger.specs.declared.Refusal.{Refusal}
 use Rattle.text.specs.Checks.{then_check, text_check, last_line_check}
 use Rattle.text.specs.Pieces.{line_of, words_of}
 use Rattle.text.specs.Words.{next_word}
 use Rattle.numbers.specs.Numbers.{value, number_of}
 use Rattle.binary.specs.Bytes.{word_size, words_bytes}
-use Rattle.ledger.specs.declared.Fault.{Fault}
-use Rattle.ledger.specs.declared.Refusal.{Refusal}
 
 -- the greatest number, of eighteen digits
 abbrev pub largest_listed : ℕ
@@ -22,7 +22,7 @@ or_word (Err x) at rest = Err (fault_at x.reason at)
 
 -- the words from a place on, from the left: misspelt (4), or out of range (5)
 unfoldable pub words_from : List ℕ → ℕ → List (List ℕ) → Result ⊤ Fault
-words_from s at [] = (Ok tt)
+words_from s at [] = Ok tt
 words_from s at (w ∷ ws) = or_word (number_of 0 largest_listed w) (next_word s at).start (words_from s (next_word s at).end ws)
 
 -- the numbers that the words spell; a text of no line has no word

@@ -1,6 +1,7 @@
 -- What the steps of reading promise, inside the crate: the walk over the words, and the quick way through a plain line.
 use Rattle.std.specs.Prelude.{ℕ, ◌-◌, ◌≤◌, ◌≡◌, Bool, true, ◌||◌, cond, List, length, take, get_or, leb, eqb, Ok, Err, Result}
 use Rattle.std.proofs.lemmas.List.Edits.{sets}
+use Rattle.ledger.specs.declared.Fault.{Fault}
 use Rattle.text.specs.declared.Class.TheVariants.{Blank, Line, Allowed}
 use Rattle.text.specs.Scan.{is_in, run}
 use Rattle.text.specs.Checks.{then_check, last_line_check}
@@ -10,7 +11,6 @@ use Rattle.numbers.specs.Lists.{good_values}
 use Rattle.binary.specs.Bytes.{words_bytes}
 use Rattle.number_line.specs.declared.Quick.{Quick}
 use Rattle.number_line.specs.Numbers.{largest_listed, words_from, numbers_in, numbers_stages, then_room}
-use Rattle.ledger.specs.declared.Fault.{Fault}
 
 -- the values of a line's words before the first bad one
 abbrev pub good_in : List ℕ → List ℕ
