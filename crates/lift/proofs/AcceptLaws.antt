@@ -26,7 +26,7 @@ use Rattle.chain.specs.Write.{record_check}
 use Rattle.chain_laws.proofs.RuleLaws.{rules_of, rules_is, valid_used}
 use Rattle.lift.specs.Accepted.{used, accepted, Ready}
 use Rattle.lift.proofs.RunLaws.{run_at, Placed, placed_of, placed_is}
-use Rattle.std.specs.Prelude.{Ok, Err, Result, ⊤}
+use Rattle.std.specs.Prelude.{Ok, Result, ⊤, is_ok}
 
 -- the rules of an accepted chain, on a table of n rows whose used ones are bs
 pub record Rules (c : Chain) (n : ℕ) (bs : List Row) : Type 0 where
@@ -197,18 +197,10 @@ pub ready_if : (c : Chain) (ts qs zs : List ℕ) (u : Bool) → u ≡ accepted c
 ready_if c ts qs zs u e h = ready c ts qs zs (accepted_true c (table_of ts qs zs) u e h)
 
 -- the record checker's answer as a flag
-pub accepted_if : (c : Chain) (ts qs zs : List ℕ) (x : Result ⊤ Refusal) → x ≡ record_check c ts qs zs → x ≡ Ok tt → true ≡ accepted c (table_of ts qs zs)
+pub accepted_if : (c : Chain) (ts qs zs : List ℕ) (x : Result ⊤ Refusal) (u : Bool) → x ≡ record_check c ts qs zs → u ≡ is_ok x → u ≡ accepted c (table_of ts qs zs)
 unfolding record_check
-accepted_if c ts qs zs x e h = go (chain_valid c ts qs zs) refl (sym h ∙ e)
+accepted_if c ts qs zs x u e h = h ∙ ap is_ok e ∙ go (chain_valid c ts qs zs) ∙ table_accepted c ts qs zs
   where
-    go : (t : Bool) → chain_valid c ts qs zs ≡ t → (Ok tt) ≡ require t (refused BlockRules) (Ok tt) → true ≡ accepted c (table_of ts qs zs)
-    go true k l = sym k ∙ table_accepted c ts qs zs
-    go false k l = absurd (let z : ◌≡◌ {A = ℕ} 0 1 = cc in omega arith)
-
-pub not_accepted_if : (c : Chain) (ts qs zs : List ℕ) (x : Result ⊤ Refusal) (y : Refusal) → x ≡ record_check c ts qs zs → x ≡ Err y → false ≡ accepted c (table_of ts qs zs)
-unfolding record_check
-not_accepted_if c ts qs zs x y e h = go (chain_valid c ts qs zs) refl (sym h ∙ e)
-  where
-    go : (t : Bool) → chain_valid c ts qs zs ≡ t → Err y ≡ require t (refused BlockRules) (Ok tt) → false ≡ accepted c (table_of ts qs zs)
-    go true k l = absurd (let z : ◌≡◌ {A = ℕ} 0 1 = cc in omega arith)
-    go false k l = sym k ∙ table_accepted c ts qs zs
+    go : (t : Bool) → is_ok (require t (refused BlockRules) (Ok tt)) ≡ t
+    go true = refl
+    go false = refl

@@ -98,7 +98,7 @@ module _ (c : Chain) (rows : List Row) (ok : accepted c rows ≡ true) where
       (omega arith, rw w.query_is (forward_below c.qStrand c.qSize w.base l))
 
   -- a position in a pair lifts to its partner
-  pub lifts : (p q : ℕ) → Memᴰ (pair p q) (pairs c rows) → lift_position c rows p ≡ Ok (q, (pos q -ℤ pos p))
+  pub lifts : (p q : ℕ) → Memᴰ (pair p q) (pairs c rows) → lift_position c rows p ≡ Ok (q, pos q -ℤ pos p)
   unfolding lift_position
   lifts p q m = rw (ok, lt-ltb p c.tSize (pair_inside p q m).0, pair_found p q m)
 
@@ -110,11 +110,14 @@ module _ (c : Chain) (rows : List Row) (ok : accepted c rows ≡ true) where
       go : (t : Bool) (x : Option ℕ) → partner_of p (pairs c rows) ≡ x → require t (not_lifted OutsideTarget) (at_partner p x) ≡ Ok (q, d) → Memᴰ (pair p q) (pairs c rows) × (d ≡ pos q -ℤ pos p)
       go false x k h = absurd (let z : ◌≡◌ {A = ℕ} 0 1 = cc in omega arith)
       go true None k h = absurd (let z : ◌≡◌ {A = ℕ} 0 1 = cc in omega arith)
-      go true (Some b) k h = let z : b ≡ q = cc in let y : pos b -ℤ pos p ≡ d = cc in
+      go true (Some b) k h =
+          let w : ◌≡◌ {A = ℕ × ℤ} (b, pos b -ℤ pos p) (q, d) = cc in
+          let z : b ≡ q = ap (λ (x : ℕ × ℤ). x.0) w in
+          let y : pos b -ℤ pos p ≡ d = ap (λ (x : ℕ × ℤ). x.1) w in
           (found_mem p q (pairs c rows) (k ∙ ap Some z), sym y ∙ ap (λ (n : ℕ). pos n -ℤ pos p) z)
 
   -- A POSITION LIFTS TO q EXACTLY WHEN IT STANDS IN A PAIR WITH q
-  pub lifts_exactly : (p q : ℕ) → (lift_position c rows p ≡ Ok (q, (pos q -ℤ pos p))) ↔ Memᴰ (pair p q) (pairs c rows)
+  pub lifts_exactly : (p q : ℕ) → (lift_position c rows p ≡ Ok (q, pos q -ℤ pos p)) ↔ Memᴰ (pair p q) (pairs c rows)
   lifts_exactly p q = (λ e. (lifted_lem p q (pos q -ℤ pos p) e).0, λ m. lifts p q m)
 
   -- a position inside the target that stands in no pair is refused by 12
@@ -153,7 +156,7 @@ module _ (c : Chain) (ts qs zs : List ℕ) (is : Ready c ts qs zs) (p : ℕ) whe
     small_query b l = omega (arith, is.q_most, (partnered b l).1)
 
     -- the drift, as the answer holds it
-    pub lift_at : (b : ℕ) (d : ℤ) → x ≡ Some b → d ≡ pos b -ℤ pos p → Ok (b, (to_z w64 (of_z w64 d))) ≡ at_partner p (partner_of p (pairs c (table_of ts qs zs)))
+    pub lift_at : (b : ℕ) (d : ℤ) → x ≡ Some b → d ≡ pos b -ℤ pos p → Ok (b, to_z w64 (of_z w64 d)) ≡ at_partner p (partner_of p (pairs c (table_of ts qs zs)))
     lift_at b d k h = rw (h, to_z-of_z (less_fits p b (small_target b k) (small_query b k)), ← e, k)
 
     pub lift_none : (r : Result (ℕ × ℤ) Refusal) → x ≡ None → r ≡ not_lifted NoPair → r ≡ at_partner p (partner_of p (pairs c (table_of ts qs zs)))

@@ -17,12 +17,12 @@ use Rattle.std.specs.Prelude.{Ok, Result, ℤ}
 use Rattle.ledger.specs.declared.Refusal.{Refusal}
 
 -- each position and its answer
-abbrev AllLift : List Row → List (ℕ × (Result (ℕ × ℤ) Refusal)) → Type 0
+abbrev AllLift : List Row → List (ℕ × Result (ℕ × ℤ) Refusal) → Type 0
 AllLift rows [] = Unit {0}
 AllLift rows (x ∷ xs) = (lift_position chain_a rows x.0 ≡ x.1) × AllLift rows xs
 
 positions_a : AllLift rows_a
-    ((10, Ok (74, (pos 64))) ∷ (19, Ok (65, (pos 46))) ∷ (23, Ok (64, (pos 41))) ∷ (31, Ok (55, (pos 24))) ∷ (39, Ok (47, (pos 8)))
+    ((10, Ok (74, pos 64)) ∷ (19, Ok (65, pos 46)) ∷ (23, Ok (64, pos 41)) ∷ (31, Ok (55, pos 24)) ∷ (39, Ok (47, pos 8))
     ∷ (20, not_lifted NoPair) ∷ (22, not_lifted NoPair) ∷ (40, not_lifted NoPair) ∷ (99, not_lifted NoPair) ∷ (100, not_lifted OutsideTarget) ∷ [])
 unfolding lift_position accepted chain_valid names_fit fields_fit row_numbers_fit spans_fit rows_fit blocks_fill order_from all_between pairs pairs_of block_pairs partner_of
 positions_a = (refl, (refl, (refl, (refl, (refl, (refl, (refl, (refl, (refl, (refl, tt))))))))))

@@ -14,7 +14,7 @@ not_lifted why = Err (without_text why)
 
 -- the partner and the drift, partner minus position, a signed number
 abbrev pub at_partner : ℕ → Option ℕ → Result (ℕ × ℤ) Refusal
-at_partner p (Some q) = Ok (q, (pos q -ℤ pos p))
+at_partner p (Some q) = Ok (q, pos q -ℤ pos p)
 at_partner p None = not_lifted NoPair
 
 -- THE LIFT OF A POSITION: no accepted chain (9), not inside the target (13), no pair (12)

@@ -51,10 +51,7 @@ pub fn convert(start: u64, end: u64, size: u64) -> Result<Span, Refusal>
 pub fn is_accepted(c: Chain, targets: &[u64], queries: &[u64], sizes: &[u64]) -> bool
     ensures { result ≡ accepted c (table_of targets.now queries.now sizes.now) }
 {
-    match chain::check_chain(c, targets, queries, sizes) {
-        Ok(()) => true,
-        Err(_) => false,
-    }
+    chain::check_chain(c, targets, queries, sizes).is_ok()
 }
 
 // The forward number of a query base.
@@ -75,7 +72,7 @@ fn in_block(start: u64, size: u64, p: u64) -> bool
     p - start < size
 }
 
-// The partner of a target base, in an accepted chain: one pass over the blocks.
+// The partner of a target base, if it has one, in an accepted chain: one pass over the blocks.
 fn find_partner(c: Chain, targets: &[u64], queries: &[u64], sizes: &[u64], p: u64) -> Option<u64>
     requires { Ready c targets.now queries.now sizes.now }
     ensures { result ≡ partner_of p (pairs c (table_of targets.now queries.now sizes.now)) }
@@ -94,7 +91,7 @@ fn find_partner(c: Chain, targets: &[u64], queries: &[u64], sizes: &[u64], p: u6
     None
 }
 
-// Partner minus position.
+// The drift: partner minus position.
 fn drift_of(p: u64, q: u64) -> i64
     requires { (p ≤ largest_position) × (q ≤ largest_position) }
     ensures { result ≡ pos q -ℤ pos p }
@@ -108,7 +105,7 @@ fn not_lifted(reason: Reason) -> Result<(u64, i64), Refusal>
     Err(Refusal::without_text(reason))
 }
 
-// The lift of a position through rows of an accepted chain.
+// The lift of a position through rows of an accepted chain: its partner and the drift.
 fn position_ready(
     c: Chain,
     targets: &[u64],
