@@ -6,8 +6,8 @@ ghost use Rattle.std.specs.Prelude.{◌≡◌};
 ghost use Rattle.cases_chain.specs.Lifts.{PositionLifted, RegionLifted, RegionCounted, BatchCounted, TableTurned};
 ghost use Rattle.cases_chain.specs.Tables.{TableRead, TableChecked, TableWrote};
 
-use ledger::Refusal;
 use chain::Chain;
+use ledger::Refusal;
 use region::{Region, Tallied, Tally};
 
 // A text read into a table of so many rows, at most 512; then all 512 rows to columns.

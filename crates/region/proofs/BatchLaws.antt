@@ -109,7 +109,7 @@ module _ (t : Tally) (c : Chain) (rows : List Row) (regions before : List (List 
       let e = lt-leb (length regions) (length before) h in
       record { check = rw e (ap (λ (x : Batched). x.check) k); tally = rw e (ap (λ (x : Batched). x.tally) k); answers = rw e }
 
-  module _ (h : length regions ≤ length before) (after : List (List ℕ)) (r : Batched) (k : r.check ≡ (Ok tt)) where
+  module _ (h : length regions ≤ length before) (after : List (List ℕ)) (r : Batched) (k : r.check ≡ Ok tt) where
     pub batch_answered : (u : Tally) → AnsweredAll t c rows regions before after u → r.tally ≡ u → BatchDone t c rows regions before after r
     unfolding batch_check sent_batch
     batch_answered u a l =

@@ -203,7 +203,7 @@ module _ (s : List ℕ) (t : Tally) (regions before : List ℕ) (fits : Bool) (i
           let v = regions_length (length regions / region_size) regions 0 in
           omega arith
 
-      pub text_answered : (after : List ℕ) (u : Tally) (r : Batched) → RowsPut t c (chain_rows s c) regions before after u → r.tally ≡ u → r.check ≡ (Ok tt) → TextBatch s t regions before after r
+      pub text_answered : (after : List ℕ) (u : Tally) (r : Batched) → RowsPut t c (chain_rows s c) regions before after u → r.tally ≡ u → r.check ≡ Ok tt → TextBatch s t regions before after r
       unfolding text_batch_check
       text_answered after u r a l k =
           let z : 0 + length (rows_bytes (answer_rows t (map (sent_as c (chain_rows s c)) (regions_in regions)))) ≡ length (rows_bytes (answer_rows t (map (sent_as c (chain_rows s c)) (regions_in regions)))) = omega arith in
@@ -215,7 +215,7 @@ pub refused_none : (s regions : List ℕ) (room : ℕ) (x : Refusal) → text_ba
 unfolding text_batch_check sent_text sent_bytes
 refused_none s regions room x = go (room_in_bytes regions room) (chain_check s)
   where
-    go : (v : Bool) (y : Result Chain Refusal) → require v (refused NoRoom) (of_checked Err (λ _. (Ok tt)) y) ≡ Err x
+    go : (v : Bool) (y : Result Chain Refusal) → require v (refused NoRoom) (of_checked Err (λ _. Ok tt) y) ≡ Err x
         → of_checked {A = List Sent} (λ _. []) (λ c. sent_if v (map (sent_as c (chain_rows s c)) (regions_in regions))) y ≡ []
     go true (Ok c) e = absurd (let z : ◌≡◌ {A = ℕ} 0 1 = cc in omega arith)
     go true (Err y) e = refl

@@ -227,7 +227,7 @@ module _ (t : Tally) (size a e : ℕ) (u : Bool) (out : u ≡ not (ltb a e && le
         let w : tally_limit < t.asked + (e - a) = omega arith in
         rw (not-false (ltb a e && leb e size) (sym out ∙ h), ← good, not-false v n, lt-leb _ _ w)
 
-    pub admit_good : not v ≡ false → e - a ≤ tally_limit - t.asked → (Ok tt) ≡ admission t size a e
+    pub admit_good : not v ≡ false → e - a ≤ tally_limit - t.asked → Ok tt ≡ admission t size a e
     unfolding admission
     admit_good n o =
         let f = good_if t v good n in
@@ -243,14 +243,14 @@ module _ (t : Tally) (size a e : ℕ) (g : Reach) (x : Result ⊤ Reason) (is : 
   unfolding step_ready
   step_stays r why k et ea = rw (← is, k) (λ i. record { tally = et i; answer = ea i })
 
-  module _ (k : x ≡ (Ok tt)) where
+  module _ (k : x ≡ Ok tt) where
     -- what an admitted region is
     admitted : (a < e) × (good_tally t ≡ true) × (t.asked + (e - a) ≤ tally_limit)
     unfolding admission
     admitted = go (ltb a e) (leb e size) (good_tally t) (leb (t.asked + (e - a)) tally_limit) refl refl refl (sym k ∙ is)
       where
         go : (b c d f : Bool) → ltb a e ≡ b → good_tally t ≡ d → leb (t.asked + (e - a)) tally_limit ≡ f
-            → (Ok tt) ≡ if_admitted (b && c) OutsideTarget (if_admitted d CountsDisagree (if_admitted f NumberOutOfRange (Ok tt))) → (a < e) × (good_tally t ≡ true) × (t.asked + (e - a) ≤ tally_limit)
+            → Ok tt ≡ if_admitted (b && c) OutsideTarget (if_admitted d CountsDisagree (if_admitted f NumberOutOfRange (Ok tt))) → (a < e) × (good_tally t ≡ true) × (t.asked + (e - a) ≤ tally_limit)
         go false c d f eb ed ef w = absurd (let z : ◌≡◌ {A = ℕ} 0 1 = cc in omega arith)
         go true false d f eb ed ef w = absurd (let z : ◌≡◌ {A = ℕ} 0 1 = cc in omega arith)
         go true true false f eb ed ef w = absurd (let z : ◌≡◌ {A = ℕ} 0 1 = cc in omega arith)

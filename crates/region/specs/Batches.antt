@@ -97,7 +97,7 @@ sent_text s regions room = of_checked (λ _. []) (λ c. sent_bytes c (chain_rows
 
 -- too few rows, or a region cut short, is 11 before the text is read; then the text's own refusals
 unfoldable pub text_batch_check : List ℕ → List ℕ → ℕ → Result ⊤ Refusal
-text_batch_check s regions room = require (room_in_bytes regions room) (refused NoRoom) (of_checked Err (λ _. (Ok tt)) (chain_check s))
+text_batch_check s regions room = require (room_in_bytes regions room) (refused NoRoom) (of_checked Err (λ _. Ok tt) (chain_check s))
 
 -- WHAT A BATCH THROUGH A TEXT PROMISES
 pub record TextBatch (s : List ℕ) (t : Tally) (regions before after : List ℕ) (r : Batched) : Type 0 where

@@ -510,7 +510,7 @@ fn no_room(tally: Tally) -> Batched
 }
 
 fn answered(tally: Tally) -> Batched
-    ensures { (result.tally ≡ tally) × (result.check ≡ (Ok tt)) }
+    ensures { (result.tally ≡ tally) × (result.check ≡ Ok tt) }
 {
     let check = Ok(());
     Batched { tally, check }

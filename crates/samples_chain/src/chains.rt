@@ -1,6 +1,6 @@
 // A text read as a chain.
-use ledger::Refusal;
 use chain::Chain;
+use ledger::Refusal;
 
 fn put_target(out: &mut [u8], at: usize, r: Chain) -> usize {
     let a = cases::put_part(out, at, r.tName);

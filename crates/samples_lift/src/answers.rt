@@ -1,8 +1,8 @@
 // The questions about a chain handed in, and their answers as bytes.
-use region::Region;
 use crate::{batches, drifts, tallies};
 use chain::Chain;
 use ledger::{Part, Refusal};
+use region::Region;
 
 fn put_position(out: &mut [u8], at: usize, answer: Result<(u64, i64), Refusal>) -> usize {
     match answer {

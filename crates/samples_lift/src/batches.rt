@@ -2,9 +2,9 @@
 // there are, and the start and end of each.
 ghost use Rattle.std.specs.Prelude.{◌≤◌};
 
-use ledger::Refusal;
 use crate::tallies;
 use chain::Chain;
+use ledger::Refusal;
 
 // A case has at most so many regions and rows for their answers.
 const MOST_REGIONS: usize = 16;
@@ -82,7 +82,13 @@ fn put_answers(out: &mut [u8], at: usize, answers: &[[u64; 5]]) -> usize {
 }
 
 // The row of each region, or the refusal; and whether the other rows are as they were.
-fn put_batch(out: &mut [u8], at: usize, check: Result<(), Refusal>, count: usize, answers: &[[u64; 5]]) -> usize {
+fn put_batch(
+    out: &mut [u8],
+    at: usize,
+    check: Result<(), Refusal>,
+    count: usize,
+    answers: &[[u64; 5]],
+) -> usize {
     let n = answered(check, ledger::least(count, answers.len()));
     let a = cases::put_check(out, at, check);
     let b = put_answers(out, a, &answers[..n]);

@@ -31,7 +31,7 @@ pub batch_refused : (t u : Tally) (c : Chain) (rows : List Row) (regions before 
     → (x ≡ record { reason = NoRoom; place = 0 }) × (u ≡ t) × (after ≡ before)
 unfolding batch_check
 batch_refused t u c rows regions before after x h = either (length regions) (length before) _
-    (λ k. absurd (let w : Err x ≡ (Ok tt) = rw (le-leb (length regions) (length before) k) at h.check in let z : ◌≡◌ {A = ℕ} 0 1 = cc in omega arith))
+    (λ k. absurd (let w : Err x ≡ Ok tt = rw (le-leb (length regions) (length before) k) at h.check in let z : ◌≡◌ {A = ℕ} 0 1 = cc in omega arith))
     (λ k. let w : Err x ≡ Err (record { reason = NoRoom; place = 0 }) = rw (lt-leb (length regions) (length before) k) at h.check in
     let n = batch_left t c rows regions before after _ h k in (cc, n.1, n.0))
 

@@ -19,8 +19,8 @@ BatchLifted t c rows regions before u after x = BatchDone t c rows regions befor
 
 -- what a call promises of the lent tally: one region, or a batch whose answers go to so many rows
 pub data Called : Tally → Call → Tally → Type 0 where
-  called_single : {t u : Tally} {r : Sent} {x : (Result Region Refusal)} → RegionTallied t r.chain r.rows r.start r.end u x → Called t (single r) u
-  called_many : {t u : Tally} {c : Chain} {rows : List Row} {regions before after : List (List ℕ)} {x : (Result ⊤ Refusal)}
+  called_single : {t u : Tally} {r : Sent} {x : Result Region Refusal} → RegionTallied t r.chain r.rows r.start r.end u x → Called t (single r) u
+  called_many : {t u : Tally} {c : Chain} {rows : List Row} {regions before after : List (List ℕ)} {x : Result ⊤ Refusal}
       → BatchLifted t c rows regions before u after x → Called t (many c rows regions (length before)) u
 
 -- calls one after the other, each with the tally as the last one left it; the tally before and after

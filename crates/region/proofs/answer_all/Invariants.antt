@@ -1,7 +1,6 @@
 -- Rows up to i are written, and the tally is that after them. Assumes nothing.
 use mathlib.Core.Path.{◌≡◌}
 use mathlib.Core.List.{◌++◌, map}
-use Prim.Native.Nat.{◌-◌, ◌≤◌}
 use lib.ListN.{length, take, drop}
 use Rattle.blocks.specs.Rows.{table_of}
 use Rattle.region.specs.Tallies.{sent_through}

@@ -1,7 +1,7 @@
 -- Rows up to i are written. Assumes nothing.
 use mathlib.Core.Path.{◌≡◌}
 use mathlib.Core.List.{◌++◌}
-use Prim.Native.Nat.{◌-◌, ◌≤◌}
+use Prim.Native.Nat.{◌-◌}
 use lib.ListN.{length, take, drop}
 use Rattle.region.specs.Steps.{refused_rows}
 use Rattle.region.proofs.refuse_all.Given as goal

@@ -1,5 +1,4 @@
 -- The sizes up to block k are summed. Assumes nothing.
-use Prim.Native.Nat.{◌-◌, ◌≤◌}
 use Rattle.region.specs.Searches.{SizesFrom}
 use Rattle.region.proofs.sizes_between.Given as goal
 

@@ -1,6 +1,6 @@
 -- The sums before the blocks up to i are there. Assumes nothing.
 use mathlib.Core.Path.{◌≡◌}
-use Prim.Native.Nat.{ℕ, ◌-◌, ◌≤◌, ◌<◌}
+use Prim.Native.Nat.{ℕ, ◌<◌}
 use lib.ListN.{length, get_or}
 use Rattle.ledger.specs.Limits.{block_limit}
 use Rattle.region.specs.Searches.{sizes_before}
