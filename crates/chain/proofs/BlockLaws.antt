@@ -181,7 +181,7 @@ pub limit_reached : (line k : ℕ) → k ≡ 0 → fault NoRoom line ≡ limit_c
 unfolding limit_check
 limit_reached line k e = rw e
 
-pub limit_ahead : (line k : ℕ) → (k ≡ 0 → ⊥) → (Ok tt) ≡ limit_check line k
+pub limit_ahead : (line k : ℕ) → (k ≡ 0 → ⊥) → Ok tt ≡ limit_check line k
 unfolding limit_check
 limit_ahead line zero y = absurd (y refl)
 limit_ahead line (suc k) y = refl
