@@ -229,11 +229,9 @@ fn read_item(word: &[u8], from: usize, least: u64, most: u64) -> Piece
     Piece { spelt, end }
 }
 
-// A number taken from a text. Where it is not good, a word that is no number may stand there, or one that has to be
-// read with more care.
+// A number taken from a text, and where its word ends.
 #[derive(Clone, Copy)]
 pub struct Taken {
-    pub good: bool,
     pub value: u64,
     pub end: usize,
 }
@@ -259,8 +257,9 @@ fn short_digits(text: &[u8], from: usize) -> Digits
     digits_in(text, from, ledger::least(SHORT, text.len() - from))
 }
 
-// The number that the word at a place spells, and the word's end, in one pass over its digits.
-pub fn number_at(text: &[u8], from: usize, least: u64, most: u64) -> Taken
+// The number that the word at a place spells, and the word's end, in one pass over its digits. Where none is taken, a word
+// that is no number may stand there, or one that has to be read with more care.
+pub fn number_at(text: &[u8], from: usize, least: u64, most: u64) -> Option<Taken>
     ensures { NumberTaken least most text.now from result }
 {
     let d = short_digits(text, from);
@@ -270,7 +269,7 @@ pub fn number_at(text: &[u8], from: usize, least: u64, most: u64) -> Taken
     let led = leads(end - from, byte_at(text, from));
     let ended = is_word_end(text, end);
     let good = ended & (led & fits);
-    Taken { good, value, end }
+    good.then_some(Taken { value, end })
 }
 
 // Stores a number at a place of a table, where the table has that place.
