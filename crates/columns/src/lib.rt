@@ -37,8 +37,8 @@ fn spell_in(
         text.now word) (items_in kind (bytes_of text.now word)) base lists.old
         lists.new result }
 {
-    let e = ledger::least(word.end, text.len());
-    let a = ledger::least(word.start, e);
+    let e = word.end.min(text.len());
+    let a = word.start.min(e);
     kinds::spell(kind, count, &text[a..e], base, lists)
 }
 
@@ -137,7 +137,7 @@ pub fn read_columns(
     ensures { ColumnsRead (table_of table.now) text.now from out.old out.new
         lists.old lists.new result }
 {
-    let n = ledger::least(COLUMN_LIMIT, table.len());
+    let n = COLUMN_LIMIT.min(table.len());
     let mut no_values = [0u64; 0];
     let mut no_lists = [0u64; 0];
     walk_columns(text, from, &table[..n], &mut no_values, &mut no_lists)?;
@@ -155,7 +155,7 @@ pub fn walk_line(
     ensures { ColumnsWalked (table_of table.now) text.now from out.old out.new
         lists.old lists.new result }
 {
-    let n = ledger::least(COLUMN_LIMIT, table.len());
+    let n = COLUMN_LIMIT.min(table.len());
     walk_columns(text, from, &table[..n], out, lists)
 }
 
@@ -243,7 +243,7 @@ pub fn put_line(
     ensures { Put (fed_line (table_of table.now) sep text.now values.now
         lists.now) at buf.old buf.new result }
 {
-    let n = ledger::least(COLUMN_LIMIT, table.len());
+    let n = COLUMN_LIMIT.min(table.len());
     let p = put_columns(buf, at, &table[..n], sep, text, values, lists);
     writing::put_byte(buf, p, b'\n')
 }
@@ -293,7 +293,7 @@ pub fn walk_words(
     ensures { WordsWalked (table_of table.now) text.now out.old out.new
         lists.old lists.new result }
 {
-    let n = ledger::least(COLUMN_LIMIT, table.len());
+    let n = COLUMN_LIMIT.min(table.len());
     match walk_line(text, 0, table, out, lists) {
         Err(x) => count_first(text, n, Err(x)),
         Ok(e) => {
@@ -444,7 +444,7 @@ pub fn quick_words(
     ensures { QuickWalked (table_of table.now) text.now from out.old out.new
         lists.old lists.new result }
 {
-    let n = ledger::least(COLUMN_LIMIT, table.len());
+    let n = COLUMN_LIMIT.min(table.len());
     quick_columns(text, from, &table[..n], out, lists)
 }
 

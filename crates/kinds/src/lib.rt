@@ -68,16 +68,14 @@ pub fn most_of(r: Range) -> u64
     }
 }
 
-fn wide(b: u8) -> u64
-    ensures { result ≡ b }
-{
-    b as u64
-}
-
 fn first(word: &[u8]) -> u64
     ensures { result ≡ get_or word.now 0 0 }
 {
-    if 0 < word.len() { wide(word[0]) } else { 0 }
+    if 0 < word.len() {
+        u64::from(word[0])
+    } else {
+        0
+    }
 }
 
 // The letters of the strands.
@@ -186,7 +184,7 @@ fn list_word(
         word.now (good_values (least_of r) (most_of r) (items_of word.now)) base lists.old
         lists.new result }
 {
-    let b = ledger::least(base, lists.len());
+    let b = base.min(lists.len());
     let found = numbers::store_items(word, least_of(r), most_of(r), &mut lists[b..]);
     numbers::end_list(found, word, true, count)
 }
@@ -247,8 +245,8 @@ pub fn is_list(kind: Kind) -> bool
 fn put_name(buf: &mut [u8], at: usize, text: &[u8], start: usize, n: usize) -> usize
     ensures { Put (take n (drop start text.now)) at buf.old buf.new result }
 {
-    let a = ledger::least(start, text.len());
-    let m = ledger::least(n, text.len() - a);
+    let a = start.min(text.len());
+    let m = n.min(text.len() - a);
     writing::put_bytes(buf, at, &text[a..a + m])
 }
 
@@ -265,8 +263,8 @@ fn put_fixed(buf: &mut [u8], at: usize, f: Fixed) -> usize
 fn put_items(buf: &mut [u8], at: usize, lists: &[u64], base: usize, n: usize) -> usize
     ensures { Put (list_text (take n (drop base lists.now))) at buf.old buf.new result }
 {
-    let a = ledger::least(base, lists.len());
-    let m = ledger::least(n, lists.len() - a);
+    let a = base.min(lists.len());
+    let m = n.min(lists.len() - a);
     writing::put_list(buf, at, &lists[a..a + m])
 }
 
