@@ -14,8 +14,8 @@ use ledger::Strand;
 pub fn blocks_fill(starts: &[u64], sizes: &[u64], count: usize, first: u64, last: u64) -> bool
     ensures { result ≡ blocks_fill first last (take count starts.now) (take count sizes.now) }
 {
-    let n = ledger::least(count, starts.len());
-    if ledger::least(count, sizes.len()) != n {
+    let n = count.min(starts.len());
+    if count.min(sizes.len()) != n {
         return false;
     }
     if n == 0 {
@@ -46,8 +46,8 @@ pub fn blocks_fill(starts: &[u64], sizes: &[u64], count: usize, first: u64, last
 pub fn are_sums(queries: &[u64], sizes: &[u64], count: usize) -> bool
     ensures { result ≡ are_sums 0 (take count queries.now) (take count sizes.now) }
 {
-    let n = ledger::least(count, queries.len());
-    if ledger::least(count, sizes.len()) != n {
+    let n = count.min(queries.len());
+    if count.min(sizes.len()) != n {
         return false;
     }
     if n == 0 {
@@ -99,8 +99,8 @@ pub fn span_fits(start: u64, end: u64, size: u64) -> bool
 pub fn copy_numbers(from: &[u64], count: usize, to: &mut [u64])
     ensures { to.new ≡ sets to.old 0 (take count from.now) }
 {
-    let n = ledger::least(count, from.len());
-    let m = ledger::least(n, to.len());
+    let n = count.min(from.len());
+    let m = n.min(to.len());
     to[..m].copy_from_slice(&from[..m]);
 }
 
@@ -109,7 +109,7 @@ pub fn copy_numbers(from: &[u64], count: usize, to: &mut [u64])
 pub fn put_sums(sizes: &[u64], count: usize, to: &mut [u64])
     ensures { to.new ≡ sets to.old 0 (sums_within largest_number 0 (take count sizes.now)) }
 {
-    let n = ledger::least(count, sizes.len());
+    let n = count.min(sizes.len());
     let mut sum: u64 = 0;
     for (i, &z) in sizes[..n].iter().enumerate() {
         numbers::store(to, i, sum);
@@ -124,7 +124,7 @@ pub fn put_sums(sizes: &[u64], count: usize, to: &mut [u64])
 pub fn put_shifted(from: &[u64], count: usize, by: u64, to: &mut [u64])
     ensures { to.new ≡ sets to.old 0 (shifted_within largest_number by (take count from.now)) }
 {
-    let n = ledger::least(count, from.len());
+    let n = count.min(from.len());
     for (i, &x) in from[..n].iter().enumerate() {
         if ledger::LARGEST_NUMBER - by < x {
             return;
@@ -166,7 +166,7 @@ pub fn less(x: u64, by: u64) -> u64
 pub fn put_subtracted(from: &[u64], count: usize, by: u64, to: &mut [u64])
     ensures { to.new ≡ sets to.old 0 (subtracted by (take count from.now)) }
 {
-    let n = ledger::least(count, from.len());
+    let n = count.min(from.len());
     for (i, &x) in from[..n].iter().enumerate() {
         numbers::store(to, i, less(x, by));
     }
@@ -245,7 +245,7 @@ fn one(gap: u64) -> u64
 pub fn gap_count(starts: &[u64], sizes: &[u64], count: usize) -> u64
     ensures { result ≡ gap_count (take count starts.now) (take count sizes.now) }
 {
-    let n = ledger::least(ledger::least(count, sizes.len()), starts.len());
+    let n = (count.min(sizes.len())).min(starts.len());
     if n == 0 {
         return 0;
     }
@@ -264,7 +264,7 @@ pub fn gap_count(starts: &[u64], sizes: &[u64], count: usize) -> u64
 pub fn gap_bases(starts: &[u64], sizes: &[u64], count: usize) -> u64
     ensures { result ≡ capped (gap_bases (take count starts.now) (take count sizes.now)) }
 {
-    let n = ledger::least(ledger::least(count, sizes.len()), starts.len());
+    let n = (count.min(sizes.len())).min(starts.len());
     if n == 0 {
         return 0;
     }

@@ -132,5 +132,5 @@ pub fn unescape(s: &[u8], buf: &mut [u8]) -> usize
         n = put_times(buf, n, u.byte, u.times);
         i += u.width;
     }
-    ledger::least(n, buf.len())
+    n.min(buf.len())
 }

@@ -54,5 +54,5 @@ pub fn letter_of(line: &[u8]) -> u8
 pub fn payload_start(line: &[u8]) -> usize
     ensures { result ≡ min 2 (length line.now) }
 {
-    ledger::least(2, line.len())
+    2.min(line.len())
 }

@@ -137,7 +137,7 @@ pub fn put_text(out: &mut [u8], at: usize, buf: &[u8], written: Result<usize, Re
     match written {
         Err(x) => put_refusal(out, at, x),
         Ok(n) => {
-            let m = ledger::least(n, buf.len());
+            let m = n.min(buf.len());
             put_shown(out, at, &buf[..m])
         }
     }

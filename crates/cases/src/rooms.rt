@@ -28,7 +28,7 @@ pub fn row_mark() -> Row
 pub fn table_rows(column: &[u64]) -> usize
     ensures { result ≡ min (length column.now) table_rows }
 {
-    ledger::least(column.len(), TABLE)
+    column.len().min(TABLE)
 }
 
 // The contracts of rooms tell only their lengths.

@@ -56,5 +56,5 @@ pub fn row_numbers_at(line: &[u8], k: usize, j: usize, out: &mut [u64]) -> usize
         n += 1;
         w = text::next_word(line, w.end);
     }
-    ledger::least(n, out.len())
+    n.min(out.len())
 }

@@ -10,11 +10,12 @@ use Rattle.ledger.specs.Limits.{largest_place}
 use Rattle.writing.specs.Puts.{Put}
 use Rattle.writing.proofs.PutLaws.{put_then, put_none, Completes, completes_step, completes_done}
 use Rattle.kinds.specs.declared.Kind.{Kind}
-use Rattle.kinds.specs.Kinds.{kind_of, base_after}
+use Rattle.kinds.specs.declared.Kind.TheVariants.{Name}
+use Rattle.kinds.specs.Kinds.{base_after}
 use Rattle.kinds.specs.Words.{word_of}
 use Rattle.columns.specs.Columns.{column_limit, table_of, value_of, place_of}
 use Rattle.columns.specs.Lines.{gap_of, line_from, line_text, fed_line}
-use Rattle.columns.proofs.ReadLaws.{codes_in}
+use Rattle.columns.proofs.ReadLaws.{front_in}
 
 pub gap_none : (k sep at : ℕ) (b : List ℕ) → k ≡ 0 → at ≤ largest_place → length b ≤ largest_place → Put (gap_of k sep) at b b at
 gap_none k sep at b e h l = rw e (put_none b at h l)
@@ -27,26 +28,26 @@ pub value_none : (vs : List ℕ) (i : ℕ) → length vs ≤ i → 0 ≡ get_or 
 value_none vs i h = sym (get_or-eq_default vs 0 h)
 
 -- what is left of a line at column k
-abbrev pub rest : List ℕ → ℕ → ℕ → ℕ → List ℕ → List ℕ → List ℕ → List ℕ
-rest table k base sep t vs ls = line_from k base (map kind_of (drop k table)) sep t vs ls
+abbrev pub rest : List Kind → ℕ → ℕ → ℕ → List ℕ → List ℕ → List ℕ → List ℕ
+rest table k base sep t vs ls = line_from k base (drop k table) sep t vs ls
 
 -- a turn of the loop over a table, and its end
-module _ (table t vs ls : List ℕ) (sep at k base p : ℕ) (b b₀ : List ℕ) (inv : Completes (rest table k base sep t vs ls) p b (line_text (map kind_of table) sep t vs ls) at b₀) where
-  pub line_step : k < length table → (kind : Kind) → kind ≡ kind_of (get_or table k 0) → (v st : ℕ) → v ≡ get_or vs (2 * k) 0 → st ≡ get_or vs (2 * k + 1) 0 → (b₁ b₂ : List ℕ) (q r : ℕ) → Put (gap_of k sep) p b b₁ q
-      → Put (word_of kind t ls base v st) q b₁ b₂ r → (base' : ℕ) → base' ≡ base_after kind base → Completes (rest table (k + 1) base' sep t vs ls) r b₂ (line_text (map kind_of table) sep t vs ls) at b₀
+module _ (table : List Kind) (t vs ls : List ℕ) (sep at k base p : ℕ) (b b₀ : List ℕ) (inv : Completes (rest table k base sep t vs ls) p b (line_text table sep t vs ls) at b₀) where
+  pub line_step : k < length table → (kind : Kind) → kind ≡ get_or table k Name → (v st : ℕ) → v ≡ get_or vs (2 * k) 0 → st ≡ get_or vs (2 * k + 1) 0 → (b₁ b₂ : List ℕ) (q r : ℕ) → Put (gap_of k sep) p b b₁ q
+      → Put (word_of kind t ls base v st) q b₁ b₂ r → (base' : ℕ) → base' ≡ base_after kind base → Completes (rest table (k + 1) base' sep t vs ls) r b₂ (line_text table sep t vs ls) at b₀
   unfolding line_from
   line_step h kind ek v st ev es b₁ b₂ q r g w base' eb =
-      completes_step (rest table k base sep t vs ls) (gap_of k sep ++ word_of kind t ls base v st) (rest table (k + 1) base' sep t vs ls) (line_text (map kind_of table) sep t vs ls) p r at b b₂ b₀ inv
-      (rw (drop-cons table k 0 h, ← ek, ← ev, ← es, add-one k, eb, append_assoc)) (put_then g w)
+      completes_step (rest table k base sep t vs ls) (gap_of k sep ++ word_of kind t ls base v st) (rest table (k + 1) base' sep t vs ls) (line_text table sep t vs ls) p r at b b₂ b₀ inv
+      (rw (drop-cons table k Name h, ← ek, ← ev, ← es, add-one k, eb, append_assoc)) (put_then g w)
 
-  pub line_done : length table ≤ k → p ≤ largest_place → length b ≤ largest_place → Put (line_text (map kind_of table) sep t vs ls) at b₀ b p
+  pub line_done : length table ≤ k → p ≤ largest_place → length b ≤ largest_place → Put (line_text table sep t vs ls) at b₀ b p
   unfolding line_from
-  line_done h l m = completes_done (rest table k base sep t vs ls) (line_text (map kind_of table) sep t vs ls) p at b b₀ inv (rw (drop_of_length-le table h)) l m
+  line_done h l m = completes_done (rest table k base sep t vs ls) (line_text table sep t vs ls) p at b b₀ inv (rw (drop_of_length-le table h)) l m
 
-pub line_fed : (codes t vs ls : List ℕ) (n sep at p r : ℕ) (b b₁ b₂ : List ℕ) → n ≡ min column_limit (length codes) → Put (line_text (map kind_of (take n codes)) sep t vs ls) at b b₁ p → Put (10 ∷ []) p b₁ b₂ r
-    → Put (fed_line (table_of codes) sep t vs ls) at b b₂ r
+pub line_fed : (table : List Kind) (t vs ls : List ℕ) (n sep at p r : ℕ) (b b₁ b₂ : List ℕ) → n ≡ min column_limit (length table) → Put (line_text (take n table) sep t vs ls) at b b₁ p → Put (10 ∷ []) p b₁ b₂ r
+    → Put (fed_line (table_of table) sep t vs ls) at b b₂ r
 unfolding fed_line
-line_fed codes t vs ls n sep at p r b b₁ b₂ e f g = put_then (rw (codes_in n codes e) at f) g
+line_fed table t vs ls n sep at p r b b₁ b₂ e f g = put_then (rw (front_in n table e) at f) g
 
 -- the two numbers of a column, and where there is no such column
 module _ (vs : List ℕ) (k : ℕ) where

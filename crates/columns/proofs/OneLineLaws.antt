@@ -16,7 +16,6 @@ use Rattle.text.proofs.Laws.{last_as}
 use Rattle.text.proofs.PieceLaws.{count_none}
 use Rattle.text.proofs.CheckLaws.{words_good, words_hold, text_of_lem, text_is, one_of, one_is, some_text}
 use Rattle.kinds.specs.declared.Kind.{Kind}
-use Rattle.kinds.specs.Kinds.{kind_of}
 use Rattle.columns.specs.Columns.{column_limit, table_of, columns_from, values_from, ColumnsWalked}
 use Rattle.columns.specs.Spells.{firsts}
 use Rattle.columns.specs.OneLine.{count_check, then_last, line_read, OneLine, WordsWalked, LineWalked}
@@ -48,43 +47,39 @@ module _ (s : List ℕ) (n : ℕ) (found : Result ℕ Fault) (c : Result ⊤ Fau
   pub first_good : c ≡ (Ok tt) → found ≡ then_check Err (count_check s 0 n) found
   first_good q = rw (← ec, q)
 
--- as many columns as codes
-table_length : (codes : List ℕ) (n : ℕ) → n ≡ min column_limit (length codes) → n ≡ length (table_of codes)
+-- as many columns as are read
+table_length : (table : List Kind) (n : ℕ) → n ≡ min column_limit (length table) → n ≡ length (table_of table)
 unfolding table_of
-table_length codes n e = e ∙ sym (map_length (take column_limit codes) ∙ length-take column_limit codes)
-  where
-    map_length : (xs : List ℕ) → length (map kind_of xs) ≡ length xs
-    map_length [] = refl
-    map_length (x ∷ xs) = ap suc (map_length xs)
+table_length table n e = e ∙ sym (length-take column_limit table)
 
 -- a stage before the columns that went on
 line_then : (c : Result ⊤ Fault) (rest : Result ℕ Fault) (e : ℕ) → then_check Err c rest ≡ Ok e → (c ≡ (Ok tt)) × (rest ≡ Ok e)
 line_then c rest e = went Err c rest (Ok e) (λ x q. let z : ◌≡◌ {A = ℕ} 0 1 = cc in omega arith)
 
 -- the number of words and the columns in one walk
-module _ (codes s out out' lists lists' : List ℕ) (n : ℕ) (en : n ≡ min column_limit (length codes)) (x : Result ℕ Fault) (walk : ColumnsWalked (table_of codes) s 0 out out' lists lists' x) where
-  words_counted : (r : Result ℕ Fault) → r ≡ then_check Err (count_check s 0 n) x → WordsWalked (table_of codes) s out out' lists lists' r
+module _ (table : List Kind) (s out out' lists lists' : List ℕ) (n : ℕ) (en : n ≡ min column_limit (length table)) (x : Result ℕ Fault) (walk : ColumnsWalked (table_of table) s 0 out out' lists lists' x) where
+  words_counted : (r : Result ℕ Fault) → r ≡ then_check Err (count_check s 0 n) x → WordsWalked (table_of table) s out out' lists lists' r
   words_counted r er =
       let good : (e : ℕ) → r ≡ Ok e → x ≡ Ok e = λ e p. (line_then (count_check s 0 n) x e (sym er ∙ p)).1 in
       record {
-        result = rw (← table_length codes n en, ← walk.result) er;
+        result = rw (← table_length table n en, ← walk.result) er;
         stored = λ e p. walk.stored e (good e p);
         held = λ e p. walk.held e (good e p);
-        line = λ e p. (walk_through (table_of codes) 0 s 0 e (sym walk.result ∙ good e p)).line;
+        line = λ e p. (walk_through (table_of table) 0 s 0 e (sym walk.result ∙ good e p)).line;
       }
 
-  pub words_refused : (y : Fault) → x ≡ Err y → (r : Result ℕ Fault) → r ≡ then_check Err (count_check s 0 n) (Err y) → WordsWalked (table_of codes) s out out' lists lists' r
+  pub words_refused : (y : Fault) → x ≡ Err y → (r : Result ℕ Fault) → r ≡ then_check Err (count_check s 0 n) (Err y) → WordsWalked (table_of table) s out out' lists lists' r
   words_refused y q r er = words_counted r (rw q er)
 
   module _ (e : ℕ) (q : x ≡ Ok e) (w : Extent) (ew : w ≡ next_word s e) where
-    pub words_more : (r : Result ℕ Fault) → r ≡ then_check Err (count_check s 0 n) (Ok e) → WordsWalked (table_of codes) s out out' lists lists' r
+    pub words_more : (r : Result ℕ Fault) → r ≡ then_check Err (count_check s 0 n) (Ok e) → WordsWalked (table_of table) s out out' lists lists' r
     words_more r er = words_counted r (rw q er)
 
-    pub words_all : w.start ≡ w.end → WordsWalked (table_of codes) s out out' lists lists' (Ok e)
+    pub words_all : w.start ≡ w.end → WordsWalked (table_of table) s out out' lists lists' (Ok e)
     words_all h =
-        let t = walk_through (table_of codes) 0 s 0 e (sym walk.result ∙ q) in
+        let t = walk_through (table_of table) 0 s 0 e (sym walk.result ∙ q) in
         let k : (next_word s e).start ≡ (next_word s e).end = rw ew at h in
-        let c : word_count s 0 ≡ n = omega (arith, t.count, count_none s e k, table_length codes n en) in
+        let c : word_count s 0 ≡ n = omega (arith, t.count, count_none s e k, table_length table n en) in
         words_counted (Ok e) (rw (count_is s 0 n c, q))
 
 pub ruleset words = (words_refused, words_more, words_all)

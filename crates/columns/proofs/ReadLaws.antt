@@ -13,7 +13,8 @@ use Rattle.text.specs.declared.Extent.{Extent}
 use Rattle.text.specs.Words.{next_word, bytes_of}
 use Rattle.text.proofs.Laws.{cut_bytes, either}
 use Rattle.kinds.specs.declared.Kind.{Kind}
-use Rattle.kinds.specs.Kinds.{kind_of, spelt, items_in, count_after, is_list, base_by, base_after, Spelled}
+use Rattle.kinds.specs.declared.Kind.TheVariants.{Name}
+use Rattle.kinds.specs.Kinds.{spelt, items_in, count_after, is_list, base_by, base_after, Spelled}
 use Rattle.columns.specs.Columns.{column_limit, table_of, field_of, field_from, columns_from, values_from, lists_by, lists_from, FieldRead, ColumnsWalked, ColumnsRead}
 use Rattle.std.specs.Prelude.{Ok, Err, Result}
 use Rattle.ledger.specs.Refusals.{fault_at}
@@ -63,78 +64,78 @@ unfolding field_from
 field_word k n s at v w e = good_word (spelt k n (bytes_of s (next_word s at))) (next_word s at) w v e
 
 -- a turn of the loop over a table, and its ends
-module _ (table s : List ℕ) (from at n k : ℕ) where
-  pub columns_done : columns_from (map kind_of (drop k table)) n s at ≡ columns_from (map kind_of table) 0 s from → length table ≤ k → Ok at ≡ columns_from (map kind_of table) 0 s from
+module _ (table : List Kind) (s : List ℕ) (from at n k : ℕ) where
+  pub columns_done : columns_from (drop k table) n s at ≡ columns_from table 0 s from → length table ≤ k → Ok at ≡ columns_from table 0 s from
   unfolding columns_from
   columns_done inv h = rw (drop_of_length-le table h) at inv
 
-  pub values_done : (b₀ b : List ℕ) → sets b (2 * k) (values_from (map kind_of (drop k table)) n s at) ≡ sets b₀ 0 (values_from (map kind_of table) 0 s from) → length table ≤ k
-      → b ≡ sets b₀ 0 (values_from (map kind_of table) 0 s from)
+  pub values_done : (b₀ b : List ℕ) → sets b (2 * k) (values_from (drop k table) n s at) ≡ sets b₀ 0 (values_from table 0 s from) → length table ≤ k
+      → b ≡ sets b₀ 0 (values_from table 0 s from)
   unfolding values_from
   values_done b₀ b inv h = rw (drop_of_length-le table h) at inv
 
-  pub lists_done : (base : ℕ) (d₀ d : List ℕ) → lists_from (map kind_of (drop k table)) n s at base d ≡ lists_from (map kind_of table) 0 s from 0 d₀ → length table ≤ k
-      → d ≡ lists_from (map kind_of table) 0 s from 0 d₀
+  pub lists_done : (base : ℕ) (d₀ d : List ℕ) → lists_from (drop k table) n s at base d ≡ lists_from table 0 s from 0 d₀ → length table ≤ k
+      → d ≡ lists_from table 0 s from 0 d₀
   unfolding lists_by
   lists_done base d₀ d inv h = rw (drop_of_length-le table h) at inv
 
-  module _ (h : k < length table) (kind : Kind) (ek : kind ≡ kind_of (get_or table k 0)) (f : Result (ℕ × Extent) Fault) (ef : f ≡ field_from kind n s at) where
-    pub columns_bad : columns_from (map kind_of (drop k table)) n s at ≡ columns_from (map kind_of table) 0 s from → (x : Fault) → f ≡ Err x → Err x ≡ columns_from (map kind_of table) 0 s from
+  module _ (h : k < length table) (kind : Kind) (ek : kind ≡ get_or table k Name) (f : Result (ℕ × Extent) Fault) (ef : f ≡ field_from kind n s at) where
+    pub columns_bad : columns_from (drop k table) n s at ≡ columns_from table 0 s from → (x : Fault) → f ≡ Err x → Err x ≡ columns_from table 0 s from
     unfolding columns_from
-    columns_bad inv x q = rw (drop-cons table k 0 h, ← ek, ← ef, q) at inv
+    columns_bad inv x q = rw (drop-cons table k Name h, ← ek, ← ef, q) at inv
 
     module _ (v : ℕ) (w : Extent) (q : f ≡ Ok (v, w)) (n' : ℕ) (en : n' ≡ count_after kind v n) where
-      pub columns_more : columns_from (map kind_of (drop k table)) n s at ≡ columns_from (map kind_of table) 0 s from
-          → columns_from (map kind_of (drop (k + 1) table)) n' s w.end ≡ columns_from (map kind_of table) 0 s from
+      pub columns_more : columns_from (drop k table) n s at ≡ columns_from table 0 s from
+          → columns_from (drop (k + 1) table) n' s w.end ≡ columns_from table 0 s from
       unfolding columns_from
-      columns_more inv = rw (add-one k, en) (rw (drop-cons table k 0 h, ← ek, ← ef, q) at inv)
+      columns_more inv = rw (add-one k, en) (rw (drop-cons table k Name h, ← ek, ← ef, q) at inv)
 
       pub values_more : (b₀ b b₁ : List ℕ) → b₁ ≡ set (set b (2 * k) v) (2 * k + 1) w.start
-          → sets b (2 * k) (values_from (map kind_of (drop k table)) n s at) ≡ sets b₀ 0 (values_from (map kind_of table) 0 s from)
-          → sets b₁ (2 * (k + 1)) (values_from (map kind_of (drop (k + 1) table)) n' s w.end) ≡ sets b₀ 0 (values_from (map kind_of table) 0 s from)
+          → sets b (2 * k) (values_from (drop k table) n s at) ≡ sets b₀ 0 (values_from table 0 s from)
+          → sets b₁ (2 * (k + 1)) (values_from (drop (k + 1) table) n' s w.end) ≡ sets b₀ 0 (values_from table 0 s from)
       unfolding values_from
       values_more b₀ b b₁ e inv =
           let p : 2 * (k + 1) ≡ suc (suc (2 * k)) = omega arith in
-          rw (p, e, add-one k, add-one (2 * k), en) (rw (drop-cons table k 0 h, ← ek, ← ef, q) at inv)
+          rw (p, e, add-one k, add-one (2 * k), en) (rw (drop-cons table k Name h, ← ek, ← ef, q) at inv)
 
       pub lists_more : (base base' : ℕ) (d₀ d d' : List ℕ) → base' ≡ base_after kind base → d' ≡ sets d base (items_in kind (bytes_of s (next_word s at)))
-          → lists_from (map kind_of (drop k table)) n s at base d ≡ lists_from (map kind_of table) 0 s from 0 d₀
-          → lists_from (map kind_of (drop (k + 1) table)) n' s w.end base' d' ≡ lists_from (map kind_of table) 0 s from 0 d₀
+          → lists_from (drop k table) n s at base d ≡ lists_from table 0 s from 0 d₀
+          → lists_from (drop (k + 1) table) n' s w.end base' d' ≡ lists_from table 0 s from 0 d₀
       unfolding lists_by
       lists_more base base' d₀ d d' eb st inv =
           let st' : d' ≡ sets d base (items_in kind (bytes_of s w)) = rw (field_word kind n s at v w (sym ef ∙ q)) st in
-          rw (add-one k, en, eb, st') (rw (drop-cons table k 0 h, ← ek, ← ef, q) at inv)
+          rw (add-one k, en, eb, st') (rw (drop-cons table k Name h, ← ek, ← ef, q) at inv)
 
--- the first so many codes of a table
-pub codes_in : (n : ℕ) (codes : List ℕ) → n ≡ min column_limit (length codes) → map kind_of (take n codes) ≡ table_of codes
+-- the first so many table of a table
+pub front_in : (n : ℕ) (table : List Kind) → n ≡ min column_limit (length table) → take n table ≡ table_of table
 unfolding table_of
-codes_in n codes e =
+front_in n table e =
     rw e
-    (either column_limit (length codes) _ (λ h. let q : min column_limit (length codes) ≡ column_limit = omega arith in rw q)
+    (either column_limit (length table) _ (λ h. let q : min column_limit (length table) ≡ column_limit = omega arith in rw q)
     (λ h.
-    let q : min column_limit (length codes) ≡ length codes = omega arith in
-    let l : length codes ≤ column_limit = omega arith in
-    rw (q, take_all (length codes) codes (omega arith), take_all column_limit codes l)))
+    let q : min column_limit (length table) ≡ length table = omega arith in
+    let l : length table ≤ column_limit = omega arith in
+    rw (q, take_all (length table) table (omega arith), take_all column_limit table l)))
 
-pub codes_length : (n : ℕ) (codes : List ℕ) → n ≡ min column_limit (length codes) → n ≡ length (take n codes)
-codes_length n codes e = rw length-take (omega arith)
+pub front_length : (n : ℕ) (table : List Kind) → n ≡ min column_limit (length table) → n ≡ length (take n table)
+front_length n table e = rw length-take (omega arith)
 
-pub codes_few : (n : ℕ) (codes : List ℕ) → n ≡ min column_limit (length codes) → length (take n codes) ≤ column_limit
-codes_few n codes e = rw length-take (omega arith)
+pub front_few : (n : ℕ) (table : List Kind) → n ≡ min column_limit (length table) → length (take n table) ≤ column_limit
+front_few n table e = rw length-take (omega arith)
 
-pub walked_line : (codes s : List ℕ) (from n : ℕ) (b b' d d' : List ℕ) (r : Result ℕ Fault) → n ≡ min column_limit (length codes) → ColumnsWalked (map kind_of (take n codes)) s from b b' d d' r → ColumnsWalked (table_of codes) s from b b' d d' r
-walked_line codes s from n b b' d d' r en h = rw (codes_in n codes en) at h
+pub walked_line : (table : List Kind) (s : List ℕ) (from n : ℕ) (b b' d d' : List ℕ) (r : Result ℕ Fault) → n ≡ min column_limit (length table) → ColumnsWalked (take n table) s from b b' d d' r → ColumnsWalked (table_of table) s from b b' d d' r
+walked_line table s from n b b' d d' r en h = rw (front_in n table en) at h
 
 -- a walk that stores nothing, and the walk that stores
-module _ (codes s : List ℕ) (from n : ℕ) (en : n ≡ min column_limit (length codes)) (o o' l l' : List ℕ) (x : Result ℕ Fault) (first : ColumnsWalked (map kind_of (take n codes)) s from o o' l l' x) where
-  first_is : x ≡ columns_from (table_of codes) 0 s from
-  first_is = rw (codes_in n codes en) at first.result
+module _ (table : List Kind) (s : List ℕ) (from n : ℕ) (en : n ≡ min column_limit (length table)) (o o' l l' : List ℕ) (x : Result ℕ Fault) (first : ColumnsWalked (take n table) s from o o' l l' x) where
+  first_is : x ≡ columns_from (table_of table) 0 s from
+  first_is = rw (front_in n table en) at first.result
 
-  pub read_refused : (b d : List ℕ) (y : Fault) → x ≡ Err y → ColumnsRead (table_of codes) s from b b d d (Err y)
+  pub read_refused : (b d : List ℕ) (y : Fault) → x ≡ Err y → ColumnsRead (table_of table) s from b b d d (Err y)
   read_refused b d y q = record { result = sym q ∙ first_is; stored = refl; held = refl }
 
-  pub read_walked : (e : ℕ) (b b' d d' : List ℕ) (r : Result ℕ Fault) → x ≡ Ok e → ColumnsWalked (map kind_of (take n codes)) s from b b' d d' r → ColumnsRead (table_of codes) s from b b' d d' r
+  pub read_walked : (e : ℕ) (b b' d d' : List ℕ) (r : Result ℕ Fault) → x ≡ Ok e → ColumnsWalked (take n table) s from b b' d d' r → ColumnsRead (table_of table) s from b b' d d' r
   read_walked e b b' d d' r q h =
-      let g : ColumnsWalked (table_of codes) s from b b' d d' r = rw (codes_in n codes en) at h in
+      let g : ColumnsWalked (table_of table) s from b b' d d' r = rw (front_in n table en) at h in
       let z : r ≡ Ok e = g.result ∙ sym first_is ∙ q in
       record { result = g.result; stored = rw z (g.stored e z); held = rw z (g.held e z) }

@@ -1,5 +1,5 @@
 -- What a walk over columns passes: as many words as there are columns, and no line feed. Assumes nothing.
-use mathlib.Core.Path.{◌≡◌, refl, sym, ◌∙◌}
+use mathlib.Core.Path.{◌≡◌, refl, sym, ap, ◌∙◌}
 use mathlib.Core.Bool.{true, false}
 use mathlib.Core.List.{List, [], ◌∷◌}
 use Prim.Native.Nat.{ℕ, ◌+◌, ◌-◌, ◌<◌}
@@ -20,9 +20,9 @@ use Rattle.kinds.specs.declared.Range.{Range}
 use Rattle.kinds.specs.declared.Kind.{Kind}
 use Rattle.kinds.specs.declared.Kind.TheVariants.{Name, Number, Count, Items, Stranded, Word, Colour}
 use Rattle.kinds.specs.Kinds.{least_of, most_of, same_bytes, name_of, strand_of, fixed_of, colour_of, spelt, count_after}
-use Rattle.columns.specs.declared.Got.{Got}
 use Rattle.columns.specs.Columns.{field_from, then_columns, columns_from, values_from, FieldRead, FieldTaken}
-use Rattle.std.specs.Prelude.{Ok, Err, Result}
+use Rattle.std.specs.Prelude.{Ok, Err, Result, Some, Option}
+use Rattle.std.specs.Result.{result_ok}
 use Rattle.ledger.specs.declared.Fault.{Fault}
 use Rattle.ledger.specs.Refusals.{fault_at}
 
@@ -73,16 +73,15 @@ walk_through (c ∷ cs) n s at e q = go (spelt c n (bytes_of s (next_word s at))
         absurd (let y : ◌≡◌ {A = ℕ} 0 1 = cc in omega arith)
 
 -- a field taken alone
-pub taken_good : (k : Kind) (s : List ℕ) (at base : ℕ) (d d' : List ℕ) (r : Result (ℕ × Extent) Fault) → FieldRead k 0 s at base d d' r → (v : ℕ) (w : Extent) → r ≡ Ok (v, w) → FieldTaken k s at (record { good = true; value = v; start = w.start; end = w.end })
-taken_good k s at base d d' r h v w q = record { is = λ g. sym h.result ∙ q }
+pub taken_as : (k : Kind) (s : List ℕ) (at base : ℕ) (d d' : List ℕ) (r : Result (ℕ × Extent) Fault) → FieldRead k 0 s at base d d' r → FieldTaken k s at (result_ok r)
+taken_as k s at base d d' (Ok y) h = record { is = λ x g. let e : y ≡ x = cc in sym h.result ∙ ap Ok e }
+taken_as k s at base d d' (Err y) h = record { is = λ x g. absurd (let z : ◌≡◌ {A = ℕ} 0 1 = cc in omega arith) }
 
-pub taken_bad : (k : Kind) (s : List ℕ) (at v a e : ℕ) → FieldTaken k s at (record { good = false; value = v; start = a; end = e })
-taken_bad k s at v a e = record { is = λ g. absurd (let z : ◌≡◌ {A = ℕ} 0 1 = cc in omega arith) }
-
-pub taken_number : (range : Range) (s : List ℕ) (at a least most : ℕ) (x : Taken) → least ≡ least_of range → most ≡ most_of range → Scanned Blank s at a → NumberTaken least most s a x
-    → FieldTaken (Number range) s at (record { good = x.good; value = x.value; start = a; end = x.end })
+pub taken_number : (range : Range) (s : List ℕ) (at a least most : ℕ) (r : Option Taken) → least ≡ least_of range → most ≡ most_of range → Scanned Blank s at a → NumberTaken least most s a r
+    → (x : Taken) → r ≡ Some x → FieldTaken (Number range) s at (Some (x.value, (record { start = a; end = x.end })))
 unfolding field_from spelt next_word bytes_of
-taken_number range s at a least most x el em sc t = record { is = λ g. rw (← sc.is, ← el, ← em, t.means g, t.ends g) }
+taken_number range s at a least most r el em sc t x g =
+    record { is = λ y h. let e : (x.value, (record { start = a; end = x.end })) ≡ y = cc in rw (← sc.is, ← el, ← em, t.means x g, ← (t.ends x g)) (ap Ok e) }
 
 -- fields taken one after the other
 pub record Run (cs : List Kind) (s : List ℕ) (at : ℕ) (vs : List ℕ) (e : ℕ) : Type 0 where
@@ -93,6 +92,6 @@ pub run_none : (s : List ℕ) (at : ℕ) → Run [] s at [] at
 unfolding columns_from values_from
 run_none s at = record { read = refl; values = refl }
 
-pub run_more : (k : Kind) (cs : List Kind) (s : List ℕ) (at e : ℕ) (vs : List ℕ) (r : Got) → count_after k r.value 0 ≡ 0 → FieldTaken k s at r → r.good ≡ true → Run cs s r.end vs e → Run (k ∷ cs) s at (r.value ∷ r.start ∷ vs) e
+pub run_more : (k : Kind) (cs : List Kind) (s : List ℕ) (at e : ℕ) (vs : List ℕ) (r : Option (ℕ × Extent)) (x : ℕ × Extent) → count_after k x.0 0 ≡ 0 → FieldTaken k s at r → r ≡ Some x → Run cs s x.1.end vs e → Run (k ∷ cs) s at (x.0 ∷ x.1.start ∷ vs) e
 unfolding columns_from values_from
-run_more k cs s at e vs r n t g h = record { read = rw (t.is g, n) h.read; values = rw (t.is g, n, h.values) }
+run_more k cs s at e vs r x n t g h = record { read = rw (t.is x g, n) h.read; values = rw (t.is x g, n, h.values) }

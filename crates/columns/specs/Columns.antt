@@ -1,5 +1,5 @@
 -- A line read by its table of columns.
-use Rattle.std.specs.Prelude.{ℕ, ◌+◌, ◌*◌, ◌≤◌, ◌≡◌, Bool, true, ◌||◌, List, [], ◌∷◌, map, length, take, get_or, leb, eqb, Ok, Err, Result}
+use Rattle.std.specs.Prelude.{ℕ, ◌+◌, ◌*◌, ◌≤◌, ◌≡◌, Bool, true, ◌||◌, List, [], ◌∷◌, length, take, get_or, leb, eqb, Ok, Err, Result, Option, Some}
 use Rattle.std.proofs.lemmas.List.Edits.{sets}
 use Rattle.ledger.specs.declared.Fault.{Fault}
 use Rattle.ledger.specs.Limits.{block_limit}
@@ -9,18 +9,17 @@ use Rattle.text.specs.Scan.{end_of}
 use Rattle.text.specs.Words.{next_word, word_count, bytes_of, line_end}
 use Rattle.numbers.specs.declared.Taken.{Taken}
 use Rattle.kinds.specs.declared.Kind.{Kind}
-use Rattle.columns.specs.declared.Got.{Got}
 use Rattle.columns.specs.declared.Quick.{Quick}
-use Rattle.kinds.specs.Kinds.{kind_of, spelt, items_in, count_after, base_by}
+use Rattle.kinds.specs.Kinds.{spelt, items_in, count_after, base_by}
 use Rattle.ledger.specs.Refusals.{fault_at}
 
 -- a table has at most so many columns; what stands past them is not read
 abbrev pub column_limit : ℕ
 column_limit = 64
 
--- the columns that a table of codes names
-unfoldable pub table_of : List ℕ → List Kind
-table_of codes = map kind_of (take column_limit codes)
+-- the columns of a table that are read
+unfoldable pub table_of : List Kind → List Kind
+table_of table = take column_limit table
 
 abbrev pub field_of : Result ℕ Fault → Extent → Result (ℕ × Extent) Fault
 field_of (Ok v) w = Ok (v, w)
@@ -63,9 +62,9 @@ pub record FieldRead (k : Kind) (n : ℕ) (s : List ℕ) (at base : ℕ) (before
   pub result : r ≡ field_from k n s at
   pub stored : after ≡ sets before base (items_in k (bytes_of s (next_word s at)))
 
--- what taking one field alone promises: where it is good, it is the field that is no list's
-pub record FieldTaken (k : Kind) (s : List ℕ) (at : ℕ) (r : Got) : Type 0 where
-  pub is : r.good ≡ true → field_from k 0 s at ≡ Ok (r.value, (record { start = r.start; end = r.end }))
+-- what taking one field alone promises: where one is taken, it is the field that is no list's
+pub record FieldTaken (k : Kind) (s : List ℕ) (at : ℕ) (r : Option (ℕ × Extent)) : Type 0 where
+  pub is : (x : ℕ × Extent) → r ≡ Some x → field_from k 0 s at ≡ Ok x
 
 -- what one walk over the columns promises
 pub record ColumnsWalked (table : List Kind) (s : List ℕ) (from : ℕ) (out out' lists lists' : List ℕ) (r : Result ℕ Fault) : Type 0 where
@@ -96,7 +95,7 @@ pub record ColumnsRead (table : List Kind) (s : List ℕ) (from : ℕ) (out out'
   pub stored : out' ≡ table_after r (sets out 0 (values_from table 0 s from)) out
   pub held : lists' ≡ table_after r (lists_from table 0 s from 0 lists) lists
 
--- ---- the quick way: an answer that is good says what the line holds, any other says nothing
+-- ---- the quick way: what it takes says what the line holds, and taking nothing says nothing
 -- a short line's lists: so many numbers each
 abbrev pub few_blocks : ℕ
 few_blocks = 64
@@ -105,18 +104,18 @@ few_blocks = 64
 abbrev pub is_line_end : List ℕ → ℕ → Bool
 is_line_end s i = leb (length s) i || eqb (get_or s i 0) 10
 
--- what taking the word that begins at a place promises, where it is good: what it spells by its kind, its end, and its numbers where it is a list
-pub record WordTaken (k : Kind) (n : ℕ) (s : List ℕ) (start base : ℕ) (before after : List ℕ) (r : Taken) : Type 0 where
-  pub ends : r.good ≡ true → r.end ≡ end_of Word s start
-  pub means : r.good ≡ true → spelt k n (bytes_of s (record { start = start; end = r.end })) ≡ Ok r.value
-  pub stored : r.good ≡ true → after ≡ sets before base (items_in k (bytes_of s (record { start = start; end = r.end })))
+-- what taking the word that begins at a place promises, where one is taken: what it spells by its kind, its end, and its numbers where it is a list
+pub record WordTaken (k : Kind) (n : ℕ) (s : List ℕ) (start base : ℕ) (before after : List ℕ) (r : Option Taken) : Type 0 where
+  pub ends : (x : Taken) → r ≡ Some x → x.end ≡ end_of Word s start
+  pub means : (x : Taken) → r ≡ Some x → spelt k n (bytes_of s (record { start = start; end = x.end })) ≡ Ok x.value
+  pub stored : (x : Taken) → r ≡ Some x → after ≡ sets before base (items_in k (bytes_of s (record { start = start; end = x.end })))
   pub long : length after ≡ length before
 
--- what taking a line's words promises, where it is good: they are those of so many columns, what they hold is stored, the line ends after them
-pub record QuickWalked (table : List Kind) (s : List ℕ) (from : ℕ) (out out' lists lists' : List ℕ) (r : Quick) : Type 0 where
-  pub few : r.good ≡ true → r.count ≤ length table
-  pub read : r.good ≡ true → columns_from (take r.count table) 0 s from ≡ Ok r.last
-  pub words : r.good ≡ true → word_count s from ≡ r.count
-  pub line : r.good ≡ true → line_end s from ≡ r.end
-  pub stored : r.good ≡ true → out' ≡ sets out 0 (values_from (take r.count table) 0 s from)
-  pub held : r.good ≡ true → lists' ≡ lists_by few_blocks (take r.count table) 0 s from 0 lists
+-- what taking a line's words promises, where they are taken: they are those of so many columns, what they hold is stored, the line ends after them
+pub record QuickWalked (table : List Kind) (s : List ℕ) (from : ℕ) (out out' lists lists' : List ℕ) (r : Option Quick) : Type 0 where
+  pub few : (x : Quick) → r ≡ Some x → x.count ≤ length table
+  pub read : (x : Quick) → r ≡ Some x → columns_from (take x.count table) 0 s from ≡ Ok x.last
+  pub words : (x : Quick) → r ≡ Some x → word_count s from ≡ x.count
+  pub line : (x : Quick) → r ≡ Some x → line_end s from ≡ x.end
+  pub stored : (x : Quick) → r ≡ Some x → out' ≡ sets out 0 (values_from (take x.count table) 0 s from)
+  pub held : (x : Quick) → r ≡ Some x → lists' ≡ lists_by few_blocks (take x.count table) 0 s from 0 lists

@@ -10,7 +10,7 @@ ghost use Rattle.text.specs.Checks.{then_check};
 ghost use Rattle.writing.specs.Puts.{Put};
 ghost use Rattle.writing.specs.Answers.{Wrote};
 ghost use Rattle.kinds.specs.declared.Kind.TheVariants.{Number};
-ghost use Rattle.kinds.specs.Kinds.{kind_of, spelt, items_in, base_by, base_after, Spelled};
+ghost use Rattle.kinds.specs.Kinds.{spelt, items_in, base_by, base_after, Spelled};
 ghost use Rattle.columns.specs.Columns.{column_limit, table_of, value_of, place_of, FieldRead, FieldTaken, ColumnsWalked, ColumnsRead, few_blocks, is_line_end, WordTaken, QuickWalked};
 ghost use Rattle.columns.specs.OneLine.{count_check, WordsWalked, LineWalked};
 ghost use Rattle.columns.specs.Names.{names_in, length_fits, all_graphic};
@@ -37,8 +37,8 @@ fn spell_in(
         text.now word) (items_in kind (bytes_of text.now word)) base lists.old
         lists.new result }
 {
-    let e = ledger::least(word.end, text.len());
-    let a = ledger::least(word.start, e);
+    let e = word.end.min(text.len());
+    let a = word.start.min(e);
     kinds::spell(kind, count, &text[a..e], base, lists)
 }
 
@@ -56,56 +56,28 @@ fn read_field(
     let w = text::next_word(text, at);
     match spell_in(kind, count, text, w, base, lists) {
         Ok(v) => Ok((v, w)),
-        Err(Fault { reason: reason, place: off }) => Err(Fault {
-            reason,
-            place: w.start + off,
+        Err(x) => Err(Fault {
+            reason: x.reason,
+            place: w.start + x.place,
         }),
     }
 }
 
-// A column taken alone: whether it is good, then its value, and where its word stands.
-#[derive(Clone, Copy)]
-pub struct Got {
-    pub good: bool,
-    pub value: u64,
-    pub start: usize,
-    pub end: usize,
-}
-
 // The word at or after a place, read as a column that is no list.
-pub fn take_field(kind: Kind, text: &[u8], at: usize) -> Got
+pub fn take_field(kind: Kind, text: &[u8], at: usize) -> Option<(u64, Extent)>
     ensures { FieldTaken kind text.now at result }
 {
-    let mut none = [0u64; 0];
-    match read_field(kind, 0, text, at, 0, &mut none) {
-        Ok((v, w)) => Got {
-            good: true,
-            value: v,
-            start: w.start,
-            end: w.end,
-        },
-        Err(x) => Got {
-            good: false,
-            value: 0,
-            start: x.place,
-            end: x.place,
-        },
-    }
+    read_field(kind, 0, text, at, 0, &mut []).ok()
 }
 
-// The same of a number, in one pass over its digits; a number that is not good here may be one that has to be read with
-// more care.
-pub fn take_number(range: Range, text: &[u8], at: usize) -> Got
+// The same of a number, in one pass over its digits. Where none is taken, the word may be one that has to be read with more
+// care.
+pub fn take_number(range: Range, text: &[u8], at: usize) -> Option<(u64, Extent)>
     ensures { FieldTaken (Number range) text.now at result }
 {
     let start = text::scan(text, at, Class::Blank);
-    let x = numbers::number_at(text, start, kinds::least_of(range), kinds::most_of(range));
-    Got {
-        good: x.good,
-        value: x.value,
-        start,
-        end: x.end,
-    }
+    let x = numbers::number_at(text, start, kinds::least_of(range), kinds::most_of(range))?;
+    Some((x.value, Extent { start, end: x.end }))
 }
 
 // Where the next list is stored.
@@ -132,19 +104,18 @@ fn store_pair(out: &mut [u64], k: usize, v: u64, p: u64)
 fn walk_columns(
     text: &[u8],
     from: usize,
-    table: &[u8],
+    table: &[Kind],
     out: &mut [u64],
     lists: &mut [u64],
 ) -> Result<usize, Fault>
     requires { length table.now ≤ column_limit }
-    ensures { ColumnsWalked (map kind_of table.now) text.now from out.old out.new
+    ensures { ColumnsWalked table.now text.now from out.old out.new
         lists.old lists.new result }
 {
     let mut at = from;
     let mut count = 0;
     let mut base = 0;
-    for (k, code) in table.iter().enumerate() {
-        let kind = kinds::kind_of(*code);
+    for (k, &kind) in table.iter().enumerate() {
         let (v, w) = read_field(kind, count, text, at, base, lists)?;
         store_pair(out, k, v, w.start as u64);
         count = kinds::count_after(kind, v, count);
@@ -159,14 +130,14 @@ fn walk_columns(
 pub fn read_columns(
     text: &[u8],
     from: usize,
-    table: &[u8],
+    table: &[Kind],
     out: &mut [u64],
     lists: &mut [u64],
 ) -> Result<usize, Fault>
     ensures { ColumnsRead (table_of table.now) text.now from out.old out.new
         lists.old lists.new result }
 {
-    let n = ledger::least(COLUMN_LIMIT, table.len());
+    let n = COLUMN_LIMIT.min(table.len());
     let mut no_values = [0u64; 0];
     let mut no_lists = [0u64; 0];
     walk_columns(text, from, &table[..n], &mut no_values, &mut no_lists)?;
@@ -177,14 +148,14 @@ pub fn read_columns(
 pub fn walk_line(
     text: &[u8],
     from: usize,
-    table: &[u8],
+    table: &[Kind],
     out: &mut [u64],
     lists: &mut [u64],
 ) -> Result<usize, Fault>
     ensures { ColumnsWalked (table_of table.now) text.now from out.old out.new
         lists.old lists.new result }
 {
-    let n = ledger::least(COLUMN_LIMIT, table.len());
+    let n = COLUMN_LIMIT.min(table.len());
     walk_columns(text, from, &table[..n], out, lists)
 }
 
@@ -237,20 +208,19 @@ pub fn place_of(values: &[u64], k: usize) -> u64
 fn put_columns(
     buf: &mut [u8],
     at: usize,
-    table: &[u8],
+    table: &[Kind],
     sep: u8,
     text: &[u8],
     values: &[u64],
     lists: &[u64],
 ) -> usize
     requires { length table.now ≤ column_limit }
-    ensures { Put (line_text (map kind_of table.now) sep text.now values.now
+    ensures { Put (line_text table.now sep text.now values.now
         lists.now) at buf.old buf.new result }
 {
     let mut p = at;
     let mut base = 0;
-    for (k, code) in table.iter().enumerate() {
-        let kind = kinds::kind_of(*code);
+    for (k, &kind) in table.iter().enumerate() {
         let v = value_of(values, k);
         let start = place_of(values, k);
         let q = put_gap(buf, p, k, sep);
@@ -264,7 +234,7 @@ fn put_columns(
 pub fn put_line(
     buf: &mut [u8],
     at: usize,
-    table: &[u8],
+    table: &[Kind],
     sep: u8,
     text: &[u8],
     values: &[u64],
@@ -273,7 +243,7 @@ pub fn put_line(
     ensures { Put (fed_line (table_of table.now) sep text.now values.now
         lists.now) at buf.old buf.new result }
 {
-    let n = ledger::least(COLUMN_LIMIT, table.len());
+    let n = COLUMN_LIMIT.min(table.len());
     let p = put_columns(buf, at, &table[..n], sep, text, values, lists);
     writing::put_byte(buf, p, b'\n')
 }
@@ -281,7 +251,7 @@ pub fn put_line(
 // Writes a whole line to the front of a buffer: a line over the text limit is refused (1), then one over the room (11).
 pub fn write_line(
     buf: &mut [u8],
-    table: &[u8],
+    table: &[Kind],
     sep: u8,
     text: &[u8],
     values: &[u64],
@@ -314,11 +284,16 @@ fn count_first(text: &[u8], n: usize, found: Result<usize, Fault>) -> Result<usi
 
 // The number of words and the columns of a text's first line in one walk, for a caller's own working room. A good walk
 // that no word follows has passed as many words as there are columns, so the words are counted in other cases only.
-pub fn walk_words(text: &[u8], table: &[u8], out: &mut [u64], lists: &mut [u64]) -> Result<usize, Fault>
+pub fn walk_words(
+    text: &[u8],
+    table: &[Kind],
+    out: &mut [u64],
+    lists: &mut [u64],
+) -> Result<usize, Fault>
     ensures { WordsWalked (table_of table.now) text.now out.old out.new
         lists.old lists.new result }
 {
-    let n = ledger::least(COLUMN_LIMIT, table.len());
+    let n = COLUMN_LIMIT.min(table.len());
     match walk_line(text, 0, table, out, lists) {
         Err(x) => count_first(text, n, Err(x)),
         Ok(e) => {
@@ -333,7 +308,12 @@ pub fn walk_words(text: &[u8], table: &[u8], out: &mut [u64], lists: &mut [u64])
 
 // Reads a text of one line by its table in one walk, for a caller's own working room: a refusal may leave anything in
 // both tables.
-pub fn walk_text(text: &[u8], table: &[u8], out: &mut [u64], lists: &mut [u64]) -> Result<usize, Fault>
+pub fn walk_text(
+    text: &[u8],
+    table: &[Kind],
+    out: &mut [u64],
+    lists: &mut [u64],
+) -> Result<usize, Fault>
     ensures { LineWalked (table_of table.now) text.now out.old out.new
         lists.old lists.new result }
 {
@@ -343,10 +323,9 @@ pub fn walk_text(text: &[u8], table: &[u8], out: &mut [u64], lists: &mut [u64]) 
     Ok(e)
 }
 
-// A line's words taken in one walk. Where they are good: how many there are, where the last of them ends, and where the line does.
+// A line's words taken in one walk: how many there are, where the last of them ends, and where the line does.
 #[derive(Clone, Copy)]
 pub struct Quick {
-    pub good: bool,
     pub count: usize,
     pub last: usize,
     pub end: usize,
@@ -363,22 +342,12 @@ fn quick_word(
     at: usize,
     base: usize,
     lists: &mut [u64],
-) -> Taken
+) -> Option<Taken>
     ensures { WordTaken kind count text.now (end_of Blank text.now at) base lists.old
         lists.new result }
 {
-    match read_field(kind, count, text, at, base, lists) {
-        Ok((value, w)) => Taken {
-            good: true,
-            value,
-            end: w.end,
-        },
-        Err(_) => Taken {
-            good: false,
-            value: 0,
-            end: at,
-        },
-    }
+    let (value, w) = read_field(kind, count, text, at, base, lists).ok()?;
+    Some(Taken { value, end: w.end })
 }
 
 // The same, a number in one pass over its digits; the word begins at a place.
@@ -390,7 +359,7 @@ fn quick_field(
     start: usize,
     base: usize,
     lists: &mut [u64],
-) -> Taken
+) -> Option<Taken>
     requires { start ≡ end_of Blank text.now at }
     ensures { WordTaken kind count text.now start base lists.old lists.new result }
 {
@@ -398,12 +367,7 @@ fn quick_field(
         Kind::Number(r) => {
             numbers::number_at(text, start, kinds::least_of(r), kinds::most_of(r))
         }
-        Kind::Name => quick_word(kind, count, text, at, base, lists),
-        Kind::Count => quick_word(kind, count, text, at, base, lists),
-        Kind::Items(_) => quick_word(kind, count, text, at, base, lists),
-        Kind::Stranded(_) => quick_word(kind, count, text, at, base, lists),
-        Kind::Word(_) => quick_word(kind, count, text, at, base, lists),
-        Kind::Colour => quick_word(kind, count, text, at, base, lists),
+        _ => quick_word(kind, count, text, at, base, lists),
     }
 }
 
@@ -433,37 +397,27 @@ fn few_after(kind: Kind, base: usize) -> usize
 fn quick_columns(
     text: &[u8],
     from: usize,
-    table: &[u8],
+    table: &[Kind],
     out: &mut [u64],
     lists: &mut [u64],
-) -> Quick
+) -> Option<Quick>
     requires { length table.now ≤ column_limit }
-    ensures { QuickWalked (map kind_of table.now) text.now from out.old out.new
+    ensures { QuickWalked table.now text.now from out.old out.new
         lists.old lists.new result }
 {
     let mut at = from;
     let mut count = 0;
     let mut base = 0;
-    for (k, code) in table.iter().enumerate() {
+    for (k, &kind) in table.iter().enumerate() {
         let start = text::scan(text, at, Class::Blank);
         if is_line_end(text, start) {
-            return Quick {
-                good: true,
+            return Some(Quick {
                 count: k,
                 last: at,
                 end: start,
-            };
+            });
         }
-        let kind = kinds::kind_of(*code);
-        let x = quick_field(kind, count, text, at, start, base, lists);
-        if !x.good {
-            return Quick {
-                good: false,
-                count: k,
-                last: at,
-                end: start,
-            };
-        }
+        let x = quick_field(kind, count, text, at, start, base, lists)?;
         let v = x.value;
         store_pair(out, k, v, start as u64);
         count = kinds::count_after(kind, v, count);
@@ -471,12 +425,11 @@ fn quick_columns(
         at = x.end;
     }
     let end = text::scan(text, at, Class::Blank);
-    Quick {
-        good: is_line_end(text, end),
+    is_line_end(text, end).then_some(Quick {
         count: table.len(),
         last: at,
         end,
-    }
+    })
 }
 
 // THE QUICK WAY through a line by a table of columns, of which the last may be left out: it may say yes, and then all of its words
@@ -484,14 +437,14 @@ fn quick_columns(
 pub fn quick_words(
     text: &[u8],
     from: usize,
-    table: &[u8],
+    table: &[Kind],
     out: &mut [u64],
     lists: &mut [u64],
-) -> Quick
+) -> Option<Quick>
     ensures { QuickWalked (table_of table.now) text.now from out.old out.new
         lists.old lists.new result }
 {
-    let n = ledger::least(COLUMN_LIMIT, table.len());
+    let n = COLUMN_LIMIT.min(table.len());
     quick_columns(text, from, &table[..n], out, lists)
 }
 

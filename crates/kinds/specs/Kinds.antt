@@ -9,7 +9,6 @@ use Rattle.ledger.specs.Refusals.{require, fault_at}
 use Rattle.numbers.specs.Spelling.{fault_in}
 use Rattle.numbers.specs.Numbers.{number_of}
 use Rattle.numbers.specs.Lists.{items_of, list_of, values_of, good_values, then_count}
-use Rattle.kinds.specs.Codes as code
 use Rattle.kinds.specs.declared.Range.{Range}
 use Rattle.kinds.specs.declared.Range.TheVariants.{Coordinate, Size, BedScore, ChainScore, ChainId, BlockCount}
 use Rattle.kinds.specs.declared.Fixed.{Fixed}
@@ -39,23 +38,6 @@ most_of BlockCount = block_limit
 abbrev pub fixed_text : Fixed → List ℕ
 fixed_text fixed.Chain = 99 ∷ 104 ∷ 97 ∷ 105 ∷ 110 ∷ []
 fixed_text fixed.Plus = 43 ∷ []
-
--- the codes by which a table in the code names its kinds
-unfoldable pub kind_of : ℕ → Kind
-kind_of c =
-    cond (eqb c code.name) Name
-    (cond (eqb c code.coordinate) (Number Coordinate)
-    (cond (eqb c code.size) (Number Size)
-    (cond (eqb c code.bed_score) (Number BedScore)
-    (cond (eqb c code.chain_score) (Number ChainScore)
-    (cond (eqb c code.chain_id) (Number ChainId)
-    (cond (eqb c code.count) Count
-    (cond (eqb c code.sizes) (Items Size)
-    (cond (eqb c code.starts) (Items Coordinate)
-    (cond (eqb c code.strand) (Stranded false)
-    (cond (eqb c code.strand_or_dot) (Stranded true)
-    (cond (eqb c code.word_chain) (Word fixed.Chain)
-    (cond (eqb c code.word_plus) (Word fixed.Plus) Colour))))))))))))
 
 -- a strand is one letter; `.` is one where three are allowed
 abbrev pub is_strand : Bool → List ℕ → Bool

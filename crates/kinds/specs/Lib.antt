@@ -1,4 +1,3 @@
-pub mod Codes
 pub mod Kinds
 pub mod Words
 pub mod Ranges

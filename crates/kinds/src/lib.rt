@@ -8,7 +8,7 @@ ghost use Rattle.numbers.specs.Numbers.{number_of};
 ghost use Rattle.writing.specs.Puts.{Put};
 ghost use Rattle.writing.specs.Digits.{list_text};
 ghost use Rattle.kinds.specs.Words.{colour_text, word_of};
-ghost use Rattle.kinds.specs.Kinds.{least_of, most_of, kind_of, is_strand, same_bytes, fixed_text, name_of, strand_of, fixed_of, colour_of, whole_of, packed, spelt, items_in, count_after, is_list, WordRead, Spelled};
+ghost use Rattle.kinds.specs.Kinds.{least_of, most_of, is_strand, same_bytes, fixed_text, name_of, strand_of, fixed_of, colour_of, whole_of, packed, spelt, items_in, count_after, is_list, WordRead, Spelled};
 
 use ledger::{Fault, Reason};
 
@@ -68,67 +68,14 @@ pub fn most_of(r: Range) -> u64
     }
 }
 
-// The codes by which a format's table names its kinds.
-pub const NAME: u8 = 0;
-
-pub const COORDINATE: u8 = 1;
-
-pub const SIZE: u8 = 2;
-
-pub const BED_SCORE: u8 = 3;
-
-pub const CHAIN_SCORE: u8 = 4;
-
-pub const CHAIN_ID: u8 = 5;
-
-pub const COUNT: u8 = 6;
-
-pub const SIZES: u8 = 7;
-
-pub const STARTS: u8 = 8;
-
-pub const STRAND: u8 = 9;
-
-pub const STRAND_OR_DOT: u8 = 10;
-
-pub const WORD_CHAIN: u8 = 11;
-
-pub const WORD_PLUS: u8 = 12;
-
-pub const COLOUR: u8 = 13;
-
-// The kind that a code of a table names.
-pub fn kind_of(c: u8) -> Kind
-    ensures { result ≡ kind_of c }
-{
-    match c {
-        NAME => Kind::Name,
-        COORDINATE => Kind::Number(Range::Coordinate),
-        SIZE => Kind::Number(Range::Size),
-        BED_SCORE => Kind::Number(Range::BedScore),
-        CHAIN_SCORE => Kind::Number(Range::ChainScore),
-        CHAIN_ID => Kind::Number(Range::ChainId),
-        COUNT => Kind::Count,
-        SIZES => Kind::Items(Range::Size),
-        STARTS => Kind::Items(Range::Coordinate),
-        STRAND => Kind::Stranded(false),
-        STRAND_OR_DOT => Kind::Stranded(true),
-        WORD_CHAIN => Kind::Word(Fixed::Chain),
-        WORD_PLUS => Kind::Word(Fixed::Plus),
-        _ => Kind::Colour,
-    }
-}
-
-fn wide(b: u8) -> u64
-    ensures { result ≡ b }
-{
-    b as u64
-}
-
 fn first(word: &[u8]) -> u64
     ensures { result ≡ get_or word.now 0 0 }
 {
-    if 0 < word.len() { wide(word[0]) } else { 0 }
+    if 0 < word.len() {
+        u64::from(word[0])
+    } else {
+        0
+    }
 }
 
 // The letters of the strands.
@@ -167,7 +114,10 @@ fn whole(good: bool, v: u64) -> Result<u64, Fault>
     if good {
         Ok(v)
     } else {
-        Err(Fault { reason: Reason::BadWord, place: 0 })
+        Err(Fault {
+            reason: Reason::BadWord,
+            place: 0,
+        })
     }
 }
 
@@ -223,18 +173,30 @@ pub fn read_colour(word: &[u8]) -> Result<u64, Fault>
 }
 
 // A comma list of so many numbers, stored in a table from a base on.
-fn list_word(r: Range, count: u64, word: &[u8], base: usize, lists: &mut [u64]) -> Result<u64, Fault>
+fn list_word(
+    r: Range,
+    count: u64,
+    word: &[u8],
+    base: usize,
+    lists: &mut [u64],
+) -> Result<u64, Fault>
     ensures { Spelled (list_of (least_of r) (most_of r) true count word.now)
         word.now (good_values (least_of r) (most_of r) (items_of word.now)) base lists.old
         lists.new result }
 {
-    let b = ledger::least(base, lists.len());
+    let b = base.min(lists.len());
     let found = numbers::store_items(word, least_of(r), most_of(r), &mut lists[b..]);
     numbers::end_list(found, word, true, count)
 }
 
 // What a word of a kind spells; the numbers of a list are stored from a base on, up to its first bad item.
-pub fn spell(kind: Kind, count: u64, word: &[u8], base: usize, lists: &mut [u64]) -> Result<u64, Fault>
+pub fn spell(
+    kind: Kind,
+    count: u64,
+    word: &[u8],
+    base: usize,
+    lists: &mut [u64],
+) -> Result<u64, Fault>
     ensures { Spelled (spelt kind count word.now) word.now (items_in kind word.now) base
         lists.old lists.new result }
 {
@@ -283,8 +245,8 @@ pub fn is_list(kind: Kind) -> bool
 fn put_name(buf: &mut [u8], at: usize, text: &[u8], start: usize, n: usize) -> usize
     ensures { Put (take n (drop start text.now)) at buf.old buf.new result }
 {
-    let a = ledger::least(start, text.len());
-    let m = ledger::least(n, text.len() - a);
+    let a = start.min(text.len());
+    let m = n.min(text.len() - a);
     writing::put_bytes(buf, at, &text[a..a + m])
 }
 
@@ -301,8 +263,8 @@ fn put_fixed(buf: &mut [u8], at: usize, f: Fixed) -> usize
 fn put_items(buf: &mut [u8], at: usize, lists: &[u64], base: usize, n: usize) -> usize
     ensures { Put (list_text (take n (drop base lists.now))) at buf.old buf.new result }
 {
-    let a = ledger::least(base, lists.len());
-    let m = ledger::least(n, lists.len() - a);
+    let a = base.min(lists.len());
+    let m = n.min(lists.len() - a);
     writing::put_list(buf, at, &lists[a..a + m])
 }
 

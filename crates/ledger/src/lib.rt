@@ -1,7 +1,7 @@
 // What every layer shares: the reasons of a refusal with their numbers, strands, positions, rows, parts of a text, and the limits by name.
 #![tactic(auto)]
 
-ghost use Rattle.std.specs.Prelude.{◌≡◌, min};
+ghost use Rattle.std.specs.Prelude.{◌≡◌};
 ghost use Rattle.ledger.specs.Reasons.{reason_number};
 ghost use Rattle.ledger.specs.Refusals.{refusal_at, without_text};
 ghost use Rattle.ledger.specs.Strands.{strand_opposite, strand_letter, strand_of, strand_is, is_told};
@@ -37,13 +37,6 @@ pub const LARGEST_PLACE: usize = 18446744073709551615;
 
 // The largest number that a word of the machine holds.
 pub const LARGEST_NUMBER: u64 = 18446744073709551615;
-
-// The smaller of two lengths.
-pub fn least(a: usize, b: usize) -> usize
-    ensures { result ≡ min a b }
-{
-    if a < b { a } else { b }
-}
 
 // A position in a sequence, a size or a count: 01's coordinate.
 #[derive(Clone, Copy)]
@@ -112,7 +105,7 @@ pub struct Fault {
 }
 
 // What a caller is told: why, and the place: a byte offset in the text, 0 for a call without a text. Made in the
-// outermost functions alone, and only by the two functions below.
+// outermost functions alone, and only by the two functions below: `?` takes the one that is made of a fault.
 #[derive(Clone, Copy)]
 pub struct Refusal {
     pub reason: Reason,
@@ -120,22 +113,23 @@ pub struct Refusal {
 }
 
 impl Refusal {
-    // A fault of a text, as its caller is told.
-    pub fn at(x: Fault) -> Refusal
-        ensures { result ≡ refusal_at x }
-    {
-        let reason = x.reason;
-        Refusal {
-            reason,
-            place: x.place,
-        }
-    }
-
     // A refusal of a call without a text.
     pub fn without_text(reason: Reason) -> Refusal
         ensures { result ≡ without_text reason }
     {
         Refusal { reason, place: 0 }
+    }
+}
+
+// A fault of a text, as its caller is told.
+impl From<Fault> for Refusal {
+    ghost from_gives = { λ x r. r ≡ refusal_at x };
+
+    fn from(x: Fault) -> Refusal {
+        Refusal {
+            reason: x.reason,
+            place: x.place,
+        }
     }
 }
 

@@ -15,7 +15,9 @@ use Rattle.numbers.specs.declared.Digits.{Digits}
 use Rattle.numbers.specs.Numbers.{is_led, is_word_end, number_of, NumberRead, NumberTaken, Judged, DigitsRead}
 use Rattle.numbers.specs.Lists.{is_item_end, PieceRead}
 use Rattle.numbers.proofs.DigitLaws.{part_in_lem, part_led, digits_ended, judged_part}
-use Rattle.std.specs.Prelude.{Ok, Result}
+use Rattle.std.specs.Prelude.{Ok, Result, Some}
+use Rattle.numbers.specs.declared.Taken.{Taken}
+use Rattle.std.specs.Bool.{then_some}
 use Rattle.ledger.specs.declared.Fault.{Fault}
 
 -- found before it is read
@@ -73,17 +75,25 @@ module _ (least most : ℕ) (s : List ℕ) (i : ℕ) (d : Digits) (read : Digits
         let h = part_led s i d.end read.low high (part_in_lem Digit s i d.end read.low passed) in
         rw (← (word_ends e), ← h, ← ef, led, ← read.means, fits)
 
+  -- where the tests hold the number is taken, else none
   pub number_taken : (first : ℕ) (led ended : Bool) → first ≡ get_or s i 0 → led ≡ is_led (d.end - i) first → ended ≡ is_word_end s d.end
-      → NumberTaken least most s i (record { good = ended && (led && (leb least d.value && leb d.value most)); value = d.value; end = d.end })
+      → NumberTaken least most s i (then_some (ended && (led && (leb least d.value && leb d.value most))) (record { value = d.value; end = d.end }))
   number_taken first led ended ef el ee =
       record {
-        means = λ q. word_spells (more q) first ef (leads q) (fits q) (ends q);
-        ends = λ q. word_ends (more q) (ends q);
-        some = more;
-        inside = λ q. high (more q);
-        small = λ q. leb-true d.value most (both (leb least d.value) (leb d.value most) (fits q)).1;
+        means = λ x e. rw (← (same _ x e).1) (word_spells (more (same _ x e).0) first ef (leads (same _ x e).0) (fits (same _ x e).0) (ends (same _ x e).0));
+        ends = λ x e. rw (← (same _ x e).1) (word_ends (more (same _ x e).0) (ends (same _ x e).0));
+        some = λ x e. rw (← (same _ x e).1) (more (same _ x e).0);
+        inside = λ x e. rw (← (same _ x e).1) (high (more (same _ x e).0));
+        small = λ x e. rw (← (same _ x e).1) (leb-true d.value most (both (leb least d.value) (leb d.value most) (fits (same _ x e).0)).1);
       }
     where
+      here : Taken
+      here = record { value = d.value; end = d.end }
+
+      same : (t : Bool) (x : Taken) → then_some t here ≡ Some x → (t ≡ true) × (here ≡ x)
+      same true x e = (refl, cc)
+      same false x e = absurd (let z : ◌≡◌ {A = ℕ} 0 1 = cc in omega arith)
+
       inner : Bool
       inner = leb least d.value && leb d.value most
 

@@ -1,5 +1,5 @@
 -- A number: digits only, no leading zero but in `0` itself, within a least and a greatest value.
-use Rattle.std.specs.Prelude.{ℕ, ◌+◌, ◌-◌, ◌*◌, ◌≤◌, ◌<◌, min, max, ◌≡◌, Bool, true, not, ◌&&◌, ◌||◌, List, [], ◌∷◌, length, get_or, take, drop, leb, eqb, Ok, Err, Result}
+use Rattle.std.specs.Prelude.{ℕ, ◌+◌, ◌-◌, ◌*◌, ◌≤◌, ◌<◌, min, max, ◌≡◌, Bool, true, not, ◌&&◌, ◌||◌, List, [], ◌∷◌, length, get_or, take, drop, leb, eqb, Ok, Err, Result, Option, Some}
 use Rattle.ledger.specs.declared.Reason.TheVariants.{NumberMisspelt, NumberOutOfRange}
 use Rattle.text.specs.declared.Class.TheVariants.{Digit, Word}
 use Rattle.text.specs.Scan.{is_in, end_of}
@@ -57,11 +57,11 @@ pub record NumberRead (least most : ℕ) (w : List ℕ) (r : Result ℕ Fault) :
 abbrev pub is_word_end : List ℕ → ℕ → Bool
 is_word_end s i = leb (length s) i || not (is_in Word (get_or s i 0))
 
--- what taking the number at a place promises: where it is good, it is what the word there spells, and ends with the
+-- what taking the number at a place promises: where one is taken, it is what the word there spells, and ends with the
 -- word
-pub record NumberTaken (least most : ℕ) (s : List ℕ) (i : ℕ) (r : Taken) : Type 0 where
-  pub means : r.good ≡ true → number_of least most (take (end_of Word s i - i) (drop i s)) ≡ Ok r.value
-  pub ends : r.good ≡ true → r.end ≡ end_of Word s i
-  pub some : r.good ≡ true → i < r.end
-  pub inside : r.good ≡ true → r.end ≤ length s
-  pub small : r.good ≡ true → r.value ≤ most
+pub record NumberTaken (least most : ℕ) (s : List ℕ) (i : ℕ) (r : Option Taken) : Type 0 where
+  pub means : (x : Taken) → r ≡ Some x → number_of least most (take (end_of Word s i - i) (drop i s)) ≡ Ok x.value
+  pub ends : (x : Taken) → r ≡ Some x → x.end ≡ end_of Word s i
+  pub some : (x : Taken) → r ≡ Some x → i < x.end
+  pub inside : (x : Taken) → r ≡ Some x → x.end ≤ length s
+  pub small : (x : Taken) → r ≡ Some x → x.value ≤ most

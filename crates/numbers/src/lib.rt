@@ -13,13 +13,6 @@ use text::Class;
 // So many digits have a value below 2^64, whatever they are.
 const SHORT: usize = 19;
 
-// A byte as a number.
-fn wide(b: u8) -> u64
-    ensures { result ≡ b }
-{
-    b as u64
-}
-
 fn is_digit(b: u64) -> bool
     ensures { result ≡ is_in Digit b }
 {
@@ -49,7 +42,7 @@ fn digits_in(text: &[u8], from: usize, most: usize) -> Digits
 {
     let mut value: u64 = 0;
     for k in 0..most {
-        let b = wide(text[from + k]);
+        let b = u64::from(text[from + k]);
         if !is_digit(b) {
             return Digits {
                 value,
@@ -75,7 +68,7 @@ pub fn digits_at(text: &[u8], from: usize, most: usize) -> Digits
         };
     }
     let left = text.len() - from;
-    let short = ledger::least(most, SHORT);
+    let short = most.min(SHORT);
     if short <= left {
         return digits_in(text, from, short);
     }
@@ -229,11 +222,9 @@ fn read_item(word: &[u8], from: usize, least: u64, most: u64) -> Piece
     Piece { spelt, end }
 }
 
-// A number taken from a text. Where it is not good, a word that is no number may stand there, or one that has to be
-// read with more care.
+// A number taken from a text, and where its word ends.
 #[derive(Clone, Copy)]
 pub struct Taken {
-    pub good: bool,
     pub value: u64,
     pub end: usize,
 }
@@ -256,11 +247,12 @@ fn short_digits(text: &[u8], from: usize) -> Digits
             end: from,
         };
     }
-    digits_in(text, from, ledger::least(SHORT, text.len() - from))
+    digits_in(text, from, SHORT.min(text.len() - from))
 }
 
-// The number that the word at a place spells, and the word's end, in one pass over its digits.
-pub fn number_at(text: &[u8], from: usize, least: u64, most: u64) -> Taken
+// The number that the word at a place spells, and the word's end, in one pass over its digits. Where none is taken, a word
+// that is no number may stand there, or one that has to be read with more care.
+pub fn number_at(text: &[u8], from: usize, least: u64, most: u64) -> Option<Taken>
     ensures { NumberTaken least most text.now from result }
 {
     let d = short_digits(text, from);
@@ -270,7 +262,7 @@ pub fn number_at(text: &[u8], from: usize, least: u64, most: u64) -> Taken
     let led = leads(end - from, byte_at(text, from));
     let ended = is_word_end(text, end);
     let good = ended & (led & fits);
-    Taken { good, value, end }
+    good.then_some(Taken { value, end })
 }
 
 // Stores a number at a place of a table, where the table has that place.

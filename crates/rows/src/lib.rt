@@ -11,27 +11,18 @@ use ledger::Row;
 // A column has room for so many rows: no record has more blocks.
 pub const ROOM: usize = ledger::BLOCK_LIMIT as usize;
 
-fn lesser(a: usize, b: usize) -> usize
-    ensures { result ≡ min a b }
-{
-    if a < b {
-        return a;
-    }
-    b
-}
-
 // How many rows of a table of so many rows are staged.
 pub fn staged_rows(rows: usize) -> usize
     ensures { result ≡ min rows block_limit }
 {
-    lesser(rows, ROOM)
+    rows.min(ROOM)
 }
 
 // How many rows a table and three columns all have.
 fn reach(rows: usize, targets: usize, queries: usize, sizes: usize) -> usize
     ensures { result ≡ min rows (min targets (min queries sizes)) }
 {
-    lesser(rows, lesser(targets, lesser(queries, sizes)))
+    rows.min(targets.min(queries.min(sizes)))
 }
 
 // The first n rows into the fronts of three columns.
@@ -76,9 +67,6 @@ pub fn store_rows(rows: &mut [Row], count: usize, targets: &[u64], queries: &[u6
     ensures { rows.new ≡ stored_rows count targets.now queries.now sizes.now
         rows.old }
 {
-    let n = lesser(
-        count,
-        reach(rows.len(), targets.len(), queries.len(), sizes.len()),
-    );
+    let n = count.min(reach(rows.len(), targets.len(), queries.len(), sizes.len()));
     store(rows, n, targets, queries, sizes)
 }

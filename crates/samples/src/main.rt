@@ -89,7 +89,7 @@ fn put_written(out: &mut [u8], at: usize, buf: &[u8], written: Result<usize, Ref
     match written {
         Err(x) => cases::put_refusal(out, at, x),
         Ok(n) => {
-            let m = ledger::least(n, buf.len());
+            let m = n.min(buf.len());
             writing::put_bytes(out, at, &buf[0..m])
         }
     }
@@ -227,7 +227,7 @@ fn items_wanted(letter: u8, word: &[u8], low: u64) -> u64 {
 fn put_items(out: &mut [u8], at: usize, vs: &[u64], n: u64) -> usize {
     let a = cases::put_labelled(out, at, b"count ", n);
     let b = writing::put_byte(out, a, b':');
-    let m = ledger::least(n as usize, vs.len());
+    let m = (n as usize).min(vs.len());
     cases::put_spaced(out, b, &vs[0..m])
 }
 
@@ -286,7 +286,7 @@ fn listed_room() -> [u8; 8 * LISTED]
 
 // The first numbers of a buffer, 8 bytes each.
 fn put_listed(out: &mut [u8], at: usize, bytes: &[u8], n: usize) -> usize {
-    let m = ledger::least(n, LISTED);
+    let m = n.min(LISTED);
     let a = cases::put_labelled(out, at, b"count ", n as u64);
     let mut p = writing::put_byte(out, a, b':');
     for i in 0..m {
@@ -306,7 +306,7 @@ fn numbers_case(s: &[u8], out: &mut [u8], at: usize) -> usize {
 
 // The first line of a buffer, without its line feed.
 fn put_first_line(out: &mut [u8], at: usize, buf: &[u8], n: usize) -> usize {
-    let m = ledger::least(n, buf.len());
+    let m = n.min(buf.len());
     let e = text::line_end(&buf[0..m], 0);
     cases::put_shown(out, at, &buf[0..e])
 }
@@ -396,6 +396,6 @@ fn main(rt: HostRuntime) -> io::Result<()> {
     let mut input = cases::page();
     let n = cases::read_full(&mut rt.stdin(), &mut input)?;
     let mut out = cases::page();
-    let m = ledger::least(answer_lines(&input[..n], &mut out), out.len());
+    let m = answer_lines(&input[..n], &mut out).min(out.len());
     rt.stdout().write_all(&out[0..m])
 }

@@ -38,7 +38,7 @@ fn write_within(
     buf: &mut [u8],
     room: usize,
 ) -> Result<usize, Refusal> {
-    let m = ledger::least(room, buf.len());
+    let m = room.min(buf.len());
     bed::write_bed(r, chrom, name, targets, queries, sizes, &mut buf[0..m])
 }
 

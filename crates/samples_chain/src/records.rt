@@ -39,7 +39,7 @@ fn write_within(
     buf: &mut [u8],
     room: usize,
 ) -> Result<usize, Refusal> {
-    let m = ledger::least(room, buf.len());
+    let m = room.min(buf.len());
     cases_chain::write_chain(r, target, query, targets, queries, sizes, &mut buf[0..m])
 }
 

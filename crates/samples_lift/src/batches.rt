@@ -16,13 +16,13 @@ const MARK: u64 = 7;
 fn region_count(line: &[u8]) -> usize
     ensures { result ≤ 16 }
 {
-    ledger::least(cases::number_at(line, 1) as usize, MOST_REGIONS)
+    (cases::number_at(line, 1) as usize).min(MOST_REGIONS)
 }
 
 fn answer_room(line: &[u8]) -> usize
     ensures { result ≤ 20 }
 {
-    ledger::least(cases::number_at(line, 0) as usize, MOST_ANSWERS)
+    (cases::number_at(line, 0) as usize).min(MOST_ANSWERS)
 }
 
 // How many words the question has.
@@ -89,7 +89,7 @@ fn put_batch(
     count: usize,
     answers: &[[u64; 5]],
 ) -> usize {
-    let n = answered(check, ledger::least(count, answers.len()));
+    let n = answered(check, count.min(answers.len()));
     let a = cases::put_check(out, at, check);
     let b = put_answers(out, a, &answers[..n]);
     cases::put_kept(out, b, answers_kept(&answers[n..]))

@@ -85,7 +85,7 @@ pub(crate) fn chain_at(
     sizes: &mut [u64],
 ) -> Given {
     let w = text::word_at(line, 0, k);
-    let a = ledger::least(w.start, line.len());
+    let a = w.start.min(line.len());
     if cases::byte_at(line, a) == b'c' {
         return from_text(&line[a..], page, targets, queries, sizes);
     }

@@ -45,9 +45,9 @@ fn ask(
             cases::put_refusal(out, a, x)
         }
         Given::Chain(c, rows) => {
-            let t = ledger::least(rows, targets.len());
-            let q = ledger::least(rows, queries.len());
-            let z = ledger::least(rows, sizes.len());
+            let t = rows.min(targets.len());
+            let q = rows.min(queries.len());
+            let z = rows.min(sizes.len());
             answers::answer(
                 letter,
                 line,
@@ -119,6 +119,6 @@ fn main(rt: HostRuntime) -> io::Result<()> {
     let n = cases::read_full(&mut rt.stdin(), &mut input)?;
     let mut out = cases::page();
     let mut tally = [0u64; 3];
-    let m = ledger::least(answer_lines(&input[..n], &mut tally, &mut out), out.len());
+    let m = answer_lines(&input[..n], &mut tally, &mut out).min(out.len());
     rt.stdout().write_all(&out[0..m])
 }

@@ -145,9 +145,9 @@ fn read_with(
     queries: &mut [u64],
     sizes: &mut [u64],
 ) -> Result<Psl, Refusal> {
-    let t = ledger::least(room, targets.len());
-    let q = ledger::least(room, queries.len());
-    let z = ledger::least(room, sizes.len());
+    let t = room.min(targets.len());
+    let q = room.min(queries.len());
+    let z = room.min(sizes.len());
     psl::read_psl(s, &mut targets[..t], &mut queries[..q], &mut sizes[..z])
 }
 

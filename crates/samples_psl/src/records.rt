@@ -53,7 +53,7 @@ fn write_within(
     buf: &mut [u8],
     room: usize,
 ) -> Result<usize, Refusal> {
-    let m = ledger::least(room, buf.len());
+    let m = room.min(buf.len());
     psl::write_psl(r, query, target, targets, queries, sizes, &mut buf[0..m])
 }
 

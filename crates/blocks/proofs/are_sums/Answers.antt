@@ -21,9 +21,9 @@ returns-then-q-ne0 c = search sums_off
 pub loop-x-init : goal.loop-x-init
 loop-x-init c =
     let o = c.args in
-    let a : iter_rest (zip_first c.into_iter-x-iterator.result) ≡ take (c.least-n.result - 1) (drop 1 o.queries.now) = search rules in
-    let b : iter_rest (zip_second c.into_iter-x-iterator.result) ≡ take (c.least-n.result - 1) (drop 1 o.sizes.now) = search rules in
-    sums_start o.queries.now o.sizes.now o.count _ _ c.least-n.ensures c.least.ensures c.if-least-n.false c.if-n-eq0.false _ _ a b c.if-q-ne0.false
+    let a : iter_rest (zip_first c.into_iter-x-iterator.result) ≡ take (c.min-n.result - 1) (drop 1 o.queries.now) = search rules in
+    let b : iter_rest (zip_second c.into_iter-x-iterator.result) ≡ take (c.min-n.result - 1) (drop 1 o.sizes.now) = search rules in
+    sums_start o.queries.now o.sizes.now o.count _ _ c.min-n.ensures c.min.ensures c.if-min-n.false c.if-n-eq0.false _ _ a b c.if-q-ne0.false
 
 pub returns-then-x-q : goal.returns-then-x-q
 returns-then-x-q c = sums_before _ _ _ _ _ c.loop-x.invariant.1 _ _ _ _ c.in-Some.ensures.steps c.if-x-q.true

@@ -22,9 +22,9 @@ returns-then-s-first c = search fill_off
 pub loop-x-init : goal.loop-x-init
 loop-x-init c =
     let o = c.args in
-    let a : iter_rest (zip_first c.into_iter-x-iterator.result) ≡ take (c.least-n.result - 1) (drop 1 o.starts.now) = search rules in
-    let b : iter_rest (zip_second c.into_iter-x-iterator.result) ≡ take (c.least-n.result - 1) (drop 1 o.sizes.now) = search rules in
-    fill_start o.starts.now o.sizes.now o.count _ _ c.least-n.ensures c.least.ensures o.first o.last c.if-least-n.false c.if-n-eq0.false _ _ a b c.if-s-first.false
+    let a : iter_rest (zip_first c.into_iter-x-iterator.result) ≡ take (c.min-n.result - 1) (drop 1 o.starts.now) = search rules in
+    let b : iter_rest (zip_second c.into_iter-x-iterator.result) ≡ take (c.min-n.result - 1) (drop 1 o.sizes.now) = search rules in
+    fill_start o.starts.now o.sizes.now o.count _ _ c.min-n.ensures c.min.ensures o.first o.last c.if-min-n.false c.if-n-eq0.false _ _ a b c.if-s-first.false
 
 pub returns-then-x-s : goal.returns-then-x-s
 returns-then-x-s c = fill_before _ _ _ _ _ _ c.loop-x.invariant.1 _ _ _ _ c.in-Some.ensures.steps c.if-x-s.true

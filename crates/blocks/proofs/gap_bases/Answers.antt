@@ -15,9 +15,9 @@ returns-then-n-eq0 c = search bases_none
 pub loop-x-init : goal.loop-x-init
 loop-x-init c =
     let o = c.args in
-    let a : iter_rest (zip_first c.into_iter-x-iterator.result) ≡ take (c.least-n.result - 1) (drop 1 o.starts.now) = search rules in
-    let b : iter_rest (zip_second c.into_iter-x-iterator.result) ≡ take (c.least-n.result - 1) (drop 1 o.sizes.now) = search rules in
-    (search rules, bases_start o.starts.now o.sizes.now o.count _ _ c.least.ensures c.least-n.ensures c.if-n-eq0.false _ _ a b)
+    let a : iter_rest (zip_first c.into_iter-x-iterator.result) ≡ take (c.min-n.result - 1) (drop 1 o.starts.now) = search rules in
+    let b : iter_rest (zip_second c.into_iter-x-iterator.result) ≡ take (c.min-n.result - 1) (drop 1 o.sizes.now) = search rules in
+    (search rules, bases_start o.starts.now o.sizes.now o.count _ _ c.min.ensures c.min-n.ensures c.if-n-eq0.false _ _ a b)
 
 pub loop-x-preserved : goal.loop-x-preserved
 loop-x-preserved c = (search rules, bases_more _ _ _ _ _ _ c.loop-x.invariant.1 _ _ _ _ c.in-Some.ensures.steps _ _ c.gap_after.ensures c.add-bases.ensures)

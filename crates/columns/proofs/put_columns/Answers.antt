@@ -1,4 +1,5 @@
 -- Whatever stores the columns from here on completes the line. Assumes nothing.
+use mathlib.Core.Path.{refl}
 use borrow.Author.Rules.{rules}
 use Rattle.writing.proofs.PutLaws.{completes_all}
 use Rattle.columns.specs.Lines.{line_text}
@@ -14,7 +15,7 @@ loop-k-preserved c = (
   search rules,
   search rules,
   search rules,
-  line_step _ _ _ _ _ _ _ _ _ _ _ c.loop-k.invariant.3 c.loop-k-test.true _ c.kind_of-kind.ensures _ _ c.value_of-v.ensures c.place_of-start.ensures _ _ _ _ c.put_gap-q.ensures c.put_word-p.ensures _ c.base_after-base.ensures.0,
+  line_step _ _ _ _ _ _ _ _ _ _ _ c.loop-k.invariant.3 c.loop-k-test.true _ refl _ _ c.value_of-v.ensures c.place_of-start.ensures _ _ _ _ c.put_gap-q.ensures c.put_word-p.ensures _ c.base_after-base.ensures.0,
 )
 
 pub returns : goal.returns

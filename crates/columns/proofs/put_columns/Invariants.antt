@@ -3,7 +3,6 @@ use Prim.Native.Nat.{◌*◌, ◌≤◌}
 use mathlib.Core.List.{map}
 use lib.ListN.{length}
 use Rattle.ledger.specs.Limits.{block_limit, largest_place}
-use Rattle.kinds.specs.Kinds.{kind_of}
 use Rattle.writing.proofs.PutLaws.{Completes}
 use Rattle.columns.specs.Lines.{line_text}
 use Rattle.columns.proofs.LineLaws.{rest}
@@ -11,4 +10,4 @@ use Rattle.columns.proofs.put_columns.Given as goal
 
 abbrev pub invariant-loop-k : goal.invariant-loop-k
 invariant-loop-k l = (l.base ≤ block_limit * l.k) × (length l.buf ≤ largest_place) × (l.p ≤ largest_place)
-    × Completes (rest l.table l.k l.base l.sep l.text l.values l.lists) l.p l.buf (line_text (map kind_of l.table) l.sep l.text l.values l.lists) l.at l.initial.buf
+    × Completes (rest l.table l.k l.base l.sep l.text l.values l.lists) l.p l.buf (line_text l.table l.sep l.text l.values l.lists) l.at l.initial.buf

@@ -3,4 +3,4 @@ use Rattle.numbers.proofs.ItemLaws.{number_taken}
 use Rattle.numbers.proofs.number_at.Goals as goal
 
 pub returns : goal.returns
-returns c = search number_taken
+returns c = rw c.then_some.ensures (search number_taken)
