@@ -3,8 +3,6 @@ use mathlib.Core.Path.{◌≡◌, refl}
 use Prim.Native.Nat.{ℕ}
 use native.Mathlib.Omega.{arith}
 use Rattle.ledger.specs.declared.Fault.{Fault}
-use Rattle.ledger.specs.declared.Refusal.{Refusal}
-use Rattle.ledger.specs.Refusals.{refusal_at}
 use Rattle.psl.specs.declared.Psl.{Psl}
 use Rattle.psl.specs.Read.{psl_answer, on_reading, on_answer}
 use Rattle.std.specs.Prelude.{Ok, Err, Result}
@@ -21,11 +19,3 @@ told_read (Err x) r e = absurd (let z : ◌≡◌ {A = ℕ} 0 1 = cc in omega ar
 pub told_same : (X : Type 0) (a : Result Psl Fault) (some : Psl → X) (none : X) → on_answer X (psl_answer a) some none ≡ on_reading X a some none
 told_same X (Ok r) some none = refl
 told_same X (Err x) some none = refl
-
--- each reading by its case
-module _ (a : Result Psl Fault) where
-  pub answered_read : (r : Psl) → a ≡ Ok r → Ok r ≡ psl_answer a
-  answered_read r e = rw e
-
-  pub answered_fault : (x : Fault) (y : Refusal) → a ≡ Err x → y ≡ refusal_at x → Err y ≡ psl_answer a
-  answered_fault x y e q = rw (e, q)

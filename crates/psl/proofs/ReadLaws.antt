@@ -72,12 +72,12 @@ module _ (s vs : List ℕ) (r : Psl) (er : r ≡ psl_record vs) (c : Result ⊤ 
   unfolding after_line
   spans_stop x q = rw (← er, ← ec, q)
 
-  module _ (q : c ≡ (Ok tt)) (d : Result ⊤ Fault) (ed : d ≡ row_check s r) where
+  module _ (q : c ≡ Ok tt) (d : Result ⊤ Fault) (ed : d ≡ row_check s r) where
     pub rows_stop : (x : Fault) → d ≡ Err x → Err x ≡ after_line s vs
     unfolding after_line
     rows_stop x k = rw (← er, ← ec, q, ← ed, k)
 
-    pub line_reads : d ≡ (Ok tt) → Ok r ≡ after_line s vs
+    pub line_reads : d ≡ Ok tt → Ok r ≡ after_line s vs
     unfolding after_line
     line_reads k = rw (← er, ← ec, q, ← ed, k)
 

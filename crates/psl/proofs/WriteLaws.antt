@@ -88,7 +88,7 @@ module _ (r : Psl) (query target ts qs zs : List ℕ) (w : Writable r query targ
   rows_there l e = record { long = e; few = w.few; targets = w.targets; queries = w.queries; sizes = w.sizes }
 
 -- a record that passes the checks can be written
-check_writable : (r : Psl) (query target ts qs zs : List ℕ) → write_check r query target ts qs zs ≡ (Ok tt) → Writable r query target ts qs zs
+check_writable : (r : Psl) (query target ts qs zs : List ℕ) → write_check r query target ts qs zs ≡ Ok tt → Writable r query target ts qs zs
 unfolding write_check words_show
 check_writable r query target ts qs zs e =
     let a = require_holds _ _ _ e in
@@ -114,9 +114,9 @@ module _ (r : Psl) (query target ts qs zs b : List ℕ) (c : Result ⊤ Refusal)
   unfolding psl_write
   write_refused x q = record { is = rw (← ec, q); left = refl }
 
-  pub write_ready : c ≡ (Ok tt) → Writable r query target ts qs zs
+  pub write_ready : c ≡ Ok tt → Writable r query target ts qs zs
   write_ready q = check_writable r query target ts qs zs (sym ec ∙ q)
 
-  pub write_wrote : (b' : List ℕ) (x : Result ℕ Refusal) → c ≡ (Ok tt) → Wrote (psl_text r query target ts qs zs) b b' x → PslWrote r query target ts qs zs b b' x
+  pub write_wrote : (b' : List ℕ) (x : Result ℕ Refusal) → c ≡ Ok tt → Wrote (psl_text r query target ts qs zs) b b' x → PslWrote r query target ts qs zs b b' x
   unfolding psl_write
   write_wrote b' x q h = record { is = rw (← ec, q) h.is; left = h.left }

@@ -30,7 +30,7 @@ numbers_check r ts qs zs =
     (require (spans_fit r) (refused SpanDisagrees)
     (require (rows_fit r (take r.blockCount ts) (take r.blockCount qs) (take r.blockCount zs)) (refused BlockRules)
     (require (counts_fit r.counts (take r.blockCount ts) (take r.blockCount qs) (take r.blockCount zs)) (refused CountsDisagree)
-    Ok tt)))
+    (Ok tt))))
 
 -- all refusals: a bad row count (9); names and strand (6); then those from the numbers on
 unfoldable pub write_check : Psl → List ℕ → List ℕ → List ℕ → List ℕ → List ℕ → Result ⊤ Refusal

@@ -253,10 +253,7 @@ fn stage(text: &[u8], lists: &mut [u64]) -> Result<Psl, Fault>
 fn answered(x: Result<Psl, Fault>) -> Result<Psl, Refusal>
     ensures { result ≡ psl_answer x }
 {
-    match x {
-        Ok(r) => Ok(r),
-        Err(f) => Err(Refusal::at(f)),
-    }
+    x.map_err(Refusal::at)
 }
 
 // THE TEXT CHECKER: what the reader answers, given room.
@@ -310,7 +307,12 @@ fn store_rows(
 }
 
 // All checks of a text, the room last, and the rows of a good line.
-fn read_rows(text: &[u8], targets: &mut [u64], queries: &mut [u64], sizes: &mut [u64]) -> Result<Psl, Fault>
+fn read_rows(
+    text: &[u8],
+    targets: &mut [u64],
+    queries: &mut [u64],
+    sizes: &mut [u64],
+) -> Result<Psl, Fault>
     ensures { RowsStored (room_stages text.now (rows_of targets.old
         queries.old sizes.old)) text.now
         targets.old targets.new queries.old queries.new sizes.old

@@ -114,7 +114,7 @@ module _ (r : Psl) (qName tName ts qs zs : List ℕ) (ok : MayWrite r qName tNam
       }
 
 -- THE ROUND TRIP: the writer's checks hold, and the text is short enough
-module _ (r : Psl) (qName tName ts qs zs : List ℕ) (ok : write_check r qName tName ts qs zs ≡ (Ok tt)) (short : length (psl_text r qName tName ts qs zs) ≤ text_limit) where
+module _ (r : Psl) (qName tName ts qs zs : List ℕ) (ok : write_check r qName tName ts qs zs ≡ Ok tt) (short : length (psl_text r qName tName ts qs zs) ≤ text_limit) where
   abbrev text : List ℕ
   text = psl_text r qName tName ts qs zs
 

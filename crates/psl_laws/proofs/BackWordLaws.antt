@@ -45,7 +45,7 @@ pub record MayWrite (r : Psl) (qName tName ts qs zs : List ℕ) : Type 0 where
   pub sizes : all_between 1 largest_position (take r.blockCount zs) ≡ true
 
 -- THE WRITER'S CHECKS, ONE BY ONE
-pub may_write : (r : Psl) (qName tName ts qs zs : List ℕ) → write_check r qName tName ts qs zs ≡ (Ok tt) → MayWrite r qName tName ts qs zs
+pub may_write : (r : Psl) (qName tName ts qs zs : List ℕ) → write_check r qName tName ts qs zs ≡ Ok tt → MayWrite r qName tName ts qs zs
 unfolding write_check words_show psl_valid fields_fit row_numbers_fit spans_fit rows_fit
 may_write r qName tName ts qs zs e =
     let n = r.blockCount in

@@ -57,8 +57,8 @@ pub record Accepts (s : List ℕ) (r : Psl) : Type 0 where
   pub end : ℕ
   pub read : line_read psl_columns s ≡ Ok end
   pub is : r ≡ psl_record (line_values s)
-  pub spans : span_check r (line_values s) ≡ (Ok tt)
-  pub rows : row_check s r ≡ (Ok tt)
+  pub spans : span_check r (line_values s) ≡ Ok tt
+  pub rows : row_check s r ≡ Ok tt
 
 record Went (c : Result ℕ Fault) (rest : Result Psl Fault) (r : Psl) : Type 0 where
   end : ℕ
@@ -89,14 +89,14 @@ module _ (s : List ℕ) (r : Psl) where
 
 -- the checks one by one
 module _ (r : Psl) (vs : List ℕ) where
-  spans_of : span_check r vs ≡ (Ok tt) → SpanIn r.query × SpanIn r.target
+  spans_of : span_check r vs ≡ Ok tt → SpanIn r.query × SpanIn r.target
   unfolding span_check
   spans_of e =
       let a = require_passes (span_fits r.query.start r.query.end r.query.size) _ _ e in
       let b = require_passes (span_fits r.target.start r.target.end r.target.size) _ _ a.1 in
       (span_of r.query a.0, span_of r.target b.0)
 
-  spans_is : SpanIn r.query → SpanIn r.target → span_check r vs ≡ (Ok tt)
+  spans_is : SpanIn r.query → SpanIn r.target → span_check r vs ≡ Ok tt
   unfolding span_check
   spans_is a b = rw (span_is r.query a, span_is r.target b)
 
@@ -107,7 +107,7 @@ record RowsHold (s : List ℕ) (r : Psl) : Type 0 where
   counts : CountRules r.counts (psl_targets s) (psl_queries s) (psl_sizes s)
 
 module _ (s : List ℕ) (r : Psl) (lt : length (psl_targets s) ≡ r.blockCount) (lq : length (psl_queries s) ≡ r.blockCount) (lz : length (psl_sizes s) ≡ r.blockCount) where
-  rows_of : row_check s r ≡ (Ok tt) → RowsHold s r
+  rows_of : row_check s r ≡ Ok tt → RowsHold s r
   unfolding row_check rows_fit
   rows_of e =
       let a = require_passes (rows_fit r (psl_targets s) (psl_queries s) (psl_sizes s)) _ _ e in
@@ -123,7 +123,7 @@ module _ (s : List ℕ) (r : Psl) (lt : length (psl_targets s) ≡ r.blockCount)
   unfolding rows_fit
   rows_fit_lem h = and_i _ _ (fills_is _ _ r.blockCount (psl_targets s) (psl_sizes s) lt lz h.targets) (fills_is _ _ r.blockCount (psl_queries s) (psl_sizes s) lq lz h.queries)
 
-  rows_is : RowsHold s r → row_check s r ≡ (Ok tt)
+  rows_is : RowsHold s r → row_check s r ≡ Ok tt
   unfolding row_check
   rows_is h = rw (rows_fit_lem h, counts_is r.counts (psl_targets s) (psl_queries s) (psl_sizes s) h.counts)
 

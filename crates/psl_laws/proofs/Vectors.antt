@@ -61,7 +61,7 @@ line =
     ∷ 49 ∷ 48 ∷ 44 ∷ 50 ∷ 51 ∷ 44 ∷ 51 ∷ 49 ∷ 44 ∷ 10 ∷ []
 
 -- it may be written
-pub sample_written : write_check sample q_b t_a targets queries sizes_lem ≡ (Ok tt)
+pub sample_written : write_check sample q_b t_a targets queries sizes_lem ≡ Ok tt
 unfolding write_check words_show count_numbers_fit fields_fit row_numbers_fit spans_fit rows_fit counts_fit end_of run order_from blocks_fill sum_of all_between gaps_from bases_from gap_count gap_bases
 sample_written = refl
 

@@ -25,7 +25,7 @@ pub refused_rows_lem : (s : List ℕ) (y : Refusal) (before after : List Row) �
 refused_rows_lem s y before after h = h.rows
 
 -- WHAT A READER LEFT IS VALID: the record checker accepts the record with the table
-pub left_valid : (s : List ℕ) (r : Psl) (before after : List Row) → RowsRead s before after (Ok r) → record_check r (targets_of after) (queries_of after) (sizes_of after) ≡ (Ok tt)
+pub left_valid : (s : List ℕ) (r : Psl) (before after : List Row) → RowsRead s before after (Ok r) → record_check r (targets_of after) (queries_of after) (sizes_of after) ≡ Ok tt
 unfolding record_check psl_valid
 left_valid s r before after h =
     let l = psl_reads s in
@@ -36,7 +36,7 @@ left_valid s r before after h =
 
 -- THE ROUND TRIP: the standard text of a record with the rows of a table is read as the same record, and those rows go to the front of any table that has rows
 -- enough
-module _ (r : Psl) (qName tName : List ℕ) (rows : List Row) (ok : write_check r qName tName (targets_of rows) (queries_of rows) (sizes_of rows) ≡ (Ok tt))
+module _ (r : Psl) (qName tName : List ℕ) (rows : List Row) (ok : write_check r qName tName (targets_of rows) (queries_of rows) (sizes_of rows) ≡ Ok tt)
     (short : length (psl_text r qName tName (targets_of rows) (queries_of rows) (sizes_of rows)) ≤ text_limit) where
   abbrev text : List ℕ
   text = psl_text r qName tName (targets_of rows) (queries_of rows) (sizes_of rows)

@@ -1,12 +1,15 @@
 -- The checks, then the rows. Assumes nothing.
+use Rattle.std.proofs.lemmas.Result.{err_from_is_err_and}
 use Rattle.psl.proofs.StoreLaws.{read_stops, read_held, read_stored}
 use Rattle.psl.proofs.read_rows.Goals as goal
 
 pub store_rows-requires : goal.store_rows-requires
-store_rows-requires c = search read_held
+store_rows-requires c = search (read_held, c.in_ok-r.was)
 
-pub returns-in-Err : goal.returns-in-Err
-returns-in-Err c = search (read_stops, read_stored)
+pub returns-in_err-r : goal.returns-in_err-r
+returns-in_err-r c =
+    let p = err_from_is_err_and c.from_residual.result c.from_residual.ensures.1 in
+    rw (p.1, p.2) (search (read_stops, c.in_err-r.was))
 
-pub returns-in-Ok : goal.returns-in-Ok
-returns-in-Ok c = search (read_stops, read_stored)
+pub returns : goal.returns
+returns c = search (read_stored, c.in_ok-r.was)
