@@ -1,5 +1,5 @@
 -- The answers' bytes one after the other, marks one by one, and the words of a line. Assumes nothing.
-use mathlib.Core.Path.{◌≡◌, sym, ap, ◌∙◌}
+use mathlib.Core.Path.{◌≡◌, refl, ap, ◌∙◌}
 use mathlib.Core.Bool.{Bool, true, false, not, ◌&&◌, ◌||◌}
 use mathlib.Core.List.{List, [], ◌∷◌, ◌++◌}
 use Prim.Native.Nat.{ℕ, suc, ◌+◌, ◌-◌, ◌≤◌, ◌<◌, min}
@@ -9,24 +9,22 @@ use lib.ListN.{length, get_or, take, drop, length-take, drop_of_length-le}
 use lib.Seq.{drop-cons}
 use lib.Dec.{ltb, eqb}
 use borrow.Author.Tests.{eq-eqb, ne_eqb}
-use Rattle.ledger.specs.declared.Reason.{Reason}
 use Rattle.ledger.specs.declared.Refusal.{Refusal}
 use Rattle.ledger.specs.Reasons.{reason_number}
 use Rattle.ledger.specs.declared.Strand.{Strand}
-use Rattle.ledger.specs.declared.Strand.TheVariants.{Dot}
 use Rattle.ledger.specs.Limits.{largest_number, largest_place}
-use Rattle.ledger.specs.Strands.{strand_of, strand_is, strand_letter}
+use Rattle.ledger.specs.Strands.{strand_letter}
 use Rattle.numbers.specs.Numbers.{number_of, NumberRead}
 use Rattle.text.specs.declared.Extent.{Extent}
 use Rattle.text.specs.Words.{word_at, bytes_of, Found}
 use Rattle.writing.specs.Puts.{Put}
 use Rattle.writing.proofs.PutLaws.{Completes, completes_all, completes_step, completes_done, put_then}
-use Rattle.cases.specs.Lines.{is_case, case_letter, meant, number_at, strand_at}
+use Rattle.cases.specs.Lines.{is_case, case_letter, meant, number_at}
 use Rattle.cases.specs.Marks.{all_marked}
 use Rattle.cases.specs.Texts.{labelled, refused_label, reason_text, refusal_text, check_text, strand_text, written_text, row_text, rows_text, spaced_text, shown_byte, shown_text, kept_text}
-use Rattle.std.specs.Prelude.{Ok, Err, Some, None, Result, Option, ⊤}
+use Rattle.std.specs.Prelude.{Ok, Err, Result, ⊤}
+use Rattle.std.specs.Result.{result_unwrap_or}
 use Rattle.ledger.specs.declared.Fault.{Fault}
-use Rattle.ledger.specs.Refusals.{fault_at}
 
 -- the first byte of a case, and what follows it
 module _ (s : List ℕ) (b : ℕ) where
@@ -42,27 +40,17 @@ module _ (s : List ℕ) (b : ℕ) where
   letter_none e h = rw (rw e at h)
 
 -- the number of a word
+meant_is : (x : Result ℕ Fault) → result_unwrap_or x 0 ≡ meant x
+meant_is (Ok v) = refl
+meant_is (Err bad) = refl
+
 module _ (s : List ℕ) (k : ℕ) (w : Extent) (x : Result ℕ Fault) (f : Found (word_at s 0 k) s 0 w) (n : NumberRead 0 largest_number (take (w.end - w.start) (drop w.start s)) x) where
   number_is : x ≡ number_of 0 largest_number (bytes_of s (word_at s 0 k))
   unfolding bytes_of
   number_is = rw f.is at n.is
 
-  pub number_means : (v : ℕ) → x ≡ Ok v → v ≡ number_at s k
-  number_means v e = ap meant (sym e ∙ number_is)
-
-  pub number_faulty : (bad : Fault) → x ≡ Err bad → 0 ≡ number_at s k
-  number_faulty bad e = ap meant (sym e ∙ number_is)
-
--- the strand of a word
-module _ (s : List ℕ) (k : ℕ) (w : Extent) (x : Option Strand) (f : Found (word_at s 0 k) s 0 w) (b : ℕ) (eb : b ≡ get_or s w.start 0) (is : x ≡ strand_of b) where
-  strand_known : x ≡ strand_of (get_or s (word_at s 0 k).start 0)
-  strand_known = rw (eb, f.is) at is
-
-  pub strand_is_lem : (y : Strand) → x ≡ Some y → y ≡ strand_at s k
-  strand_is_lem y e = ap strand_is (sym e ∙ strand_known)
-
-  pub strand_none : x ≡ None → Dot ≡ strand_at s k
-  strand_none e = ap strand_is (sym e ∙ strand_known)
+  pub number_known : (v : ℕ) → v ≡ result_unwrap_or x 0 → v ≡ number_at s k
+  number_known v e = e ∙ (meant_is x ∙ ap meant number_is)
 
 -- marks one by one
 module _ (vs : List ℕ) (i : ℕ) (t : Bool) (k : all_marked (drop i vs) ≡ t) where
@@ -99,7 +87,7 @@ module _ (at r : ℕ) (o o' : List ℕ) where
   pub reason_put : (x : Refusal) (n : ℕ) → n ≡ reason_number x.reason → Put (labelled refused_label n) at o o' r → Put (reason_text x) at o o' r
   reason_put x n e f = rw (← e) f
 
-  pub check_holds : (c : Result ⊤ Refusal) → c ≡ (Ok tt) → Put (check_text (Ok tt)) at o o' r → Put (check_text c) at o o' r
+  pub check_holds : (c : Result ⊤ Refusal) → c ≡ Ok tt → Put (check_text (Ok tt)) at o o' r → Put (check_text c) at o o' r
   check_holds c e f = rw e f
 
   pub check_refused : (c : Result ⊤ Refusal) (x : Refusal) → c ≡ Err x → Put (refusal_text x) at o o' r → Put (check_text c) at o o' r

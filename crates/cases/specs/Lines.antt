@@ -6,7 +6,6 @@ use Rattle.ledger.specs.Strands.{strand_of, strand_is}
 use Rattle.numbers.specs.Numbers.{number_of}
 use Rattle.text.specs.Words.{word_at, bytes_of}
 use Rattle.ledger.specs.declared.Fault.{Fault}
-use Rattle.ledger.specs.Refusals.{fault_at}
 
 -- a line that is neither empty nor a comment
 abbrev pub is_case : List ℕ → Bool

@@ -101,8 +101,5 @@ pub fn rows_kept(targets: &[u64], queries: &[u64], sizes: &[u64], from: usize) -
 pub fn length_of(written: Result<usize, Refusal>) -> usize
     ensures { result ≡ wrote_length written }
 {
-    match written {
-        Err(_) => 0,
-        Ok(n) => n,
-    }
+    written.unwrap_or(0)
 }

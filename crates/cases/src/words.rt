@@ -12,10 +12,7 @@ pub fn number_at(line: &[u8], k: usize) -> u64
     let w = text::word_at(line, 0, k);
     let a = w.start;
     let e = w.end;
-    match numbers::read_number(&line[a..e], 0, ledger::LARGEST_NUMBER) {
-        Ok(v) => v,
-        Err(_) => 0,
-    }
+    numbers::read_number(&line[a..e], 0, ledger::LARGEST_NUMBER).unwrap_or(0)
 }
 
 // The strand that a word of a line begins with, else none.
@@ -23,10 +20,7 @@ pub fn strand_at(line: &[u8], k: usize) -> Strand
     ensures { result ≡ strand_at line.now k }
 {
     let w = text::word_at(line, 0, k);
-    match Strand::of_letter(byte_at(line, w.start)) {
-        Some(strand) => strand,
-        None => Strand::Dot,
-    }
+    Strand::of_letter(byte_at(line, w.start)).unwrap_or(Strand::Dot)
 }
 
 // Stores the name that an escaped word spells after its first byte: the name's length.
@@ -45,7 +39,7 @@ pub fn name_at(line: &[u8], k: usize, buf: &mut [u8]) -> usize
 // One of the three numbers of a row's word.
 fn item_of(word: &[u8], j: usize) -> u64 {
     let mut row = [0u64; 3];
-    numbers::read_list(word, 0, ledger::LARGEST_NUMBER, true, 3, &mut row);
+    let _ = numbers::read_list(word, 0, ledger::LARGEST_NUMBER, true, 3, &mut row);
     columns::value_at(&row, j)
 }
 

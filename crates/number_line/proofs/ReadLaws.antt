@@ -13,7 +13,6 @@ use Rattle.ledger.specs.Limits.{text_limit}
 use Rattle.ledger.specs.declared.Reason.TheVariants.{NoRoom}
 use Rattle.ledger.specs.declared.Fault.{Fault}
 use Rattle.ledger.specs.declared.Refusal.{Refusal}
-use Rattle.ledger.specs.Refusals.{refusal_at}
 use Rattle.text.specs.declared.Class.TheVariants.{Blank, Line, Allowed}
 use Rattle.text.specs.Scan.{is_in, run, end_of}
 use Rattle.text.specs.Checks.{then_check, text_check, last_line_check}
@@ -71,10 +70,10 @@ feedless_count s m e = sym (length-take-le m s (omega (arith, e, feedless_few s)
 
 -- ---- the checks one after the other
 module _ (s before after : List ℕ) (r : Result ℕ Fault) (walked : Walked s before after r) where
-  words_hold : (n : ℕ) → r ≡ Ok n → (words_from s 0 (words_of (line_of s)) ≡ (Ok tt)) × (n ≡ word_count s 0)
+  words_hold : (n : ℕ) → r ≡ Ok n → (words_from s 0 (words_of (line_of s)) ≡ Ok tt) × (n ≡ word_count s 0)
   words_hold n e = go (words_from s 0 (words_of (line_of s))) refl (sym e ∙ walked.is)
     where
-      go : (c : Result ⊤ Fault) → words_from s 0 (words_of (line_of s)) ≡ c → Ok n ≡ then_check Err c (Ok (word_count s 0)) → (words_from s 0 (words_of (line_of s)) ≡ (Ok tt)) × (n ≡ word_count s 0)
+      go : (c : Result ⊤ Fault) → words_from s 0 (words_of (line_of s)) ≡ c → Ok n ≡ then_check Err c (Ok (word_count s 0)) → (words_from s 0 (words_of (line_of s)) ≡ Ok tt) × (n ≡ word_count s 0)
       go (Ok tt) p k = (p, cc)
       go (Err x) p k = absurd (let o : ◌≡◌ {A = ℕ} 0 1 = cc in omega arith)
 
@@ -95,7 +94,7 @@ module _ (s before after : List ℕ) (r : Result ℕ Fault) (walked : Walked s b
     unfolding line_check
     line_surplus x q = rw ((words_hold n e).0, ← ec, q)
 
-    pub line_good : c ≡ (Ok tt) → Ok n ≡ line_check s
+    pub line_good : c ≡ Ok tt → Ok n ≡ line_check s
     unfolding line_check
     line_good q = rw ((words_hold n e).0, ← ec, q, (words_hold n e).1, count_is)
 
@@ -117,7 +116,7 @@ module _ (s : List ℕ) (c : Result ⊤ Fault) (ec : c ≡ text_check s) where
   unfolding numbers_stages
   text_bad x q = rw (← ec, q)
 
-  pub text_good : (r : Result ℕ Fault) → c ≡ (Ok tt) → r ≡ line_check s → r ≡ numbers_stages s
+  pub text_good : (r : Result ℕ Fault) → c ≡ Ok tt → r ≡ line_check s → r ≡ numbers_stages s
   unfolding numbers_stages line_check
   text_good r q e = rw (← ec, q) e
 
@@ -155,7 +154,7 @@ fed_or_not (b ∷ s) = go (eqb (get_or (b ∷ s) (length (b ∷ s) - 1) 0) 10) r
 record Lined (s line : List ℕ) : Type 0 where
   pub allowed : run Allowed s ≡ length s
   pub first : line_of s ≡ line
-  pub last : last_line_check s 0 ≡ (Ok tt)
+  pub last : last_line_check s 0 ≡ Ok tt
 
 feed_lined : (t line : List ℕ) → t ≡ line ++ (10 ∷ []) → run Allowed line ≡ length line → run Line line ≡ length line → Lined t line
 unfolding line_end end_of run
@@ -197,10 +196,10 @@ module _ (s room : List ℕ) (m : ℕ) (em : m ≡ feedless s) (short : length s
       whole : r.good ≡ true → Lined s (take m s)
       whole g = lined s (take m s) (rw em (fed_or_not s)) (q.plain g).allowed (q.plain g).in_line
 
-      good_line : r.good ≡ true → words_from s 0 (words_of (take m s)) ≡ (Ok tt)
+      good_line : r.good ≡ true → words_from s 0 (words_of (take m s)) ≡ Ok tt
       good_line g = all_good s 0 (words_of (take m s)) (ap length (q.plain g).values ∙ length-take-le r.count room q.few ∙ sym (q.plain g).count)
 
-      good : r.good ≡ true → words_from s 0 (words_of (line_of s)) ≡ (Ok tt)
+      good : r.good ≡ true → words_from s 0 (words_of (line_of s)) ≡ Ok tt
       good g = rw (whole g).first (good_line g)
 
       count_is : r.good ≡ true → r.count ≡ length (map value (words_of (line_of s)))
@@ -244,9 +243,3 @@ numbers_told s before after x r h e = record {
 pub check_told : (s : List ℕ) (x : Result ℕ Fault) (r : Result ℕ Refusal) → x ≡ numbers_stages s → r ≡ numbers_answer x → r ≡ numbers_check s
 unfolding numbers_check
 check_told s x r e q = q ∙ ap numbers_answer e
-
-pub counted_told : (n : ℕ) (x : Result ℕ Fault) → x ≡ Ok n → Ok n ≡ numbers_answer x
-counted_told n x e = rw e
-
-pub faulty_told : (f : Fault) (y : Refusal) (x : Result ℕ Fault) → x ≡ Err f → y ≡ refusal_at f → Err y ≡ numbers_answer x
-faulty_told f y x e q = rw (e, q)

@@ -5,7 +5,6 @@ use Prim.Native.Nat.{ℕ, ◌+◌, ◌-◌, ◌≤◌, ◌<◌}
 use native.Mathlib.Omega.{arith}
 use lib.ListN.{length, take, drop}
 use Rattle.ledger.specs.Limits.{largest_place}
-use Rattle.ledger.specs.declared.Reason.{Reason}
 use Rattle.text.specs.Checks.{then_check}
 use Rattle.text.specs.declared.Extent.{Extent}
 use Rattle.text.specs.Pieces.{line_of, words_of}
@@ -20,7 +19,6 @@ use Rattle.number_line.specs.Numbers.{largest_listed, words_from}
 use Rattle.number_line.specs.Walks.{Walked}
 use Rattle.std.specs.Prelude.{Ok, Err, Result, ⊤}
 use Rattle.ledger.specs.declared.Fault.{Fault}
-use Rattle.ledger.specs.Refusals.{fault_at}
 
 -- the words from a place on
 abbrev pub rest_of : List ℕ → ℕ → List (List ℕ)
@@ -59,7 +57,7 @@ module _ (s : List ℕ) (w : Extent) (is : w ≡ next_word s w.start) where
 
   -- tested alike
   module _ (all : Result ⊤ Fault) (tested : words_from s w.start (rest_of s w.start) ≡ all) where
-    tested_done : w.start ≤ w.end → w.end ≤ w.start → (Ok tt) ≡ all
+    tested_done : w.start ≤ w.end → w.end ≤ w.start → Ok tt ≡ all
     unfolding words_from
     tested_done l h = rw (words_over l h) at tested
 

@@ -22,7 +22,7 @@ or_word (Err x) at rest = Err (fault_at x.reason at)
 
 -- the words from a place on, from the left: misspelt (4), or out of range (5)
 unfoldable pub words_from : List ℕ → ℕ → List (List ℕ) → Result ⊤ Fault
-words_from s at [] = (Ok tt)
+words_from s at [] = Ok tt
 words_from s at (w ∷ ws) = or_word (number_of 0 largest_listed w) (next_word s at).start (words_from s (next_word s at).end ws)
 
 -- the numbers that the words spell; a text of no line has no word

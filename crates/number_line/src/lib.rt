@@ -13,10 +13,7 @@ use text::Class;
 fn answered(x: Result<usize, Fault>) -> Result<usize, Refusal>
     ensures { result ≡ numbers_answer x }
 {
-    match x {
-        Ok(n) => Ok(n),
-        Err(f) => Err(Refusal::at(f)),
-    }
+    x.map_err(Refusal::at)
 }
 
 // The greatest number, and how many digits it has.
@@ -38,8 +35,11 @@ fn walk_numbers(text: &[u8], out: &mut [u8]) -> Result<usize, Fault>
             Ok(v) => {
                 p = binary::put_low(out, p, v, binary::WORD_SIZE);
             }
-            Err(Fault { reason: reason, place: _ }) => {
-                return Err(Fault { reason, place: a });
+            Err(bad) => {
+                return Err(Fault {
+                    reason: bad.reason,
+                    place: a,
+                });
             }
         }
         w = text::next_word(text, e);

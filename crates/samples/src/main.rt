@@ -6,7 +6,7 @@
 ghost use Rattle.std.specs.Prelude.{◌≡◌, length, ◌*◌};
 ghost use Rattle.ledger.specs.Limits.{block_limit};
 
-use ledger::{Fault, Position, Reason, Refusal};
+use ledger::{Fault, Position, Refusal};
 use std::io;
 use std::io::Write;
 
@@ -95,16 +95,16 @@ fn put_written(out: &mut [u8], at: usize, buf: &[u8], written: Result<usize, Ref
     }
 }
 
-// A fault at its place in a word.
-fn put_fault(out: &mut [u8], at: usize, reason: Reason, place: usize) -> usize {
-    cases::put_refusal(out, at, Refusal::at(Fault { reason, place }))
+// A fault at its place in a text or a word.
+fn put_fault(out: &mut [u8], at: usize, x: Fault) -> usize {
+    cases::put_refusal(out, at, Refusal::at(x))
 }
 
 // Case `t`: the checks of a text.
 fn text_case(s: &[u8], out: &mut [u8], at: usize) -> usize {
     match text::check_text(s) {
         Ok(()) => writing::put_bytes(out, at, b"fine"),
-        Err(x) => cases::put_refusal(out, at, Refusal::at(x)),
+        Err(x) => put_fault(out, at, x),
     }
 }
 
@@ -211,7 +211,7 @@ fn word_case(letter: u8, word: &[u8], out: &mut [u8], at: usize) -> usize {
     let mut none = [0u64; 0];
     match kinds::spell(kinds::kind_of(code), 0, word, 0, &mut none) {
         Ok(v) => put_meaning(out, at, letter, v),
-        Err(Fault { reason: reason, place: place }) => put_fault(out, at, reason, place),
+        Err(x) => put_fault(out, at, x),
     }
 }
 
@@ -221,10 +221,7 @@ fn items_wanted(letter: u8, word: &[u8], low: u64) -> u64 {
         return 2;
     }
     let mut none = [0u64; 0];
-    match numbers::store_items(word, low, Position::LARGEST, &mut none) {
-        Ok(n) => n,
-        Err(_) => 0,
-    }
+    numbers::store_items(word, low, Position::LARGEST, &mut none).unwrap_or(0)
 }
 
 fn put_items(out: &mut [u8], at: usize, vs: &[u64], n: u64) -> usize {
@@ -241,7 +238,7 @@ fn list_case(letter: u8, word: &[u8], out: &mut [u8], at: usize) -> usize {
     let mut items = list_table();
     match numbers::read_list(word, low, Position::LARGEST, true, wanted, &mut items) {
         Ok(n) => put_items(out, at, &items, n),
-        Err(Fault { reason: reason, place: place }) => put_fault(out, at, reason, place),
+        Err(x) => put_fault(out, at, x),
     }
 }
 
@@ -274,7 +271,7 @@ fn digits_case(word: &[u8], out: &mut [u8], at: usize) -> usize {
 fn number_case(word: &[u8], out: &mut [u8], at: usize) -> usize {
     match numbers::read_number(word, 0, ledger::LARGEST_NUMBER) {
         Ok(v) => cases::put_labelled(out, at, b"value ", v),
-        Err(Fault { reason: reason, place: place }) => put_fault(out, at, reason, place),
+        Err(x) => put_fault(out, at, x),
     }
 }
 
@@ -343,7 +340,7 @@ fn columns_case(line: &[u8], table: &[u8], sep: u8, out: &mut [u8], at: usize) -
     let mut values = value_table();
     let mut lists = list_table();
     match columns::read_columns(line, 0, table, &mut values, &mut lists) {
-        Err(x) => cases::put_refusal(out, at, Refusal::at(x)),
+        Err(x) => put_fault(out, at, x),
         Ok(_) => put_standard(out, at, table, sep, line, &values, &lists),
     }
 }
