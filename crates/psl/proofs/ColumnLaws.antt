@@ -1,6 +1,6 @@
 -- From PSL's table of columns to its record and rows. Assumes nothing.
 use mathlib.Core.Path.{◌≡◌, refl, sym, ap, ◌∙◌}
-use mathlib.Core.List.{List, [], ◌∷◌, ◌++◌, append-nil}
+use mathlib.Core.List.{List, [], ◌++◌, append-nil}
 use Prim.Native.Nat.{ℕ, ◌+◌, ◌*◌, ◌≤◌, ◌<◌}
 use native.Mathlib.Omega.{arith}
 use lib.ListN.{length, replicate, get_or, take, drop, drop_of_length-le}
@@ -17,8 +17,7 @@ use Rattle.numbers.specs.Lists.{values_of}
 use Rattle.kinds.specs.declared.Range.{Range}
 use Rattle.kinds.specs.declared.Range.TheVariants.{Coordinate, Size}
 use Rattle.kinds.specs.declared.Kind.TheVariants.{Number, Items}
-use Rattle.kinds.specs.Codes as code
-use Rattle.kinds.specs.Kinds.{kind_of, spelt, items_in}
+use Rattle.kinds.specs.Kinds.{spelt, items_in}
 use Rattle.kinds.proofs.RangeLaws.{number_spelt, count_spelt, items_spelt}
 use Rattle.columns.specs.Columns.{table_of, columns_from, values_from, lists_from, value_of}
 use Rattle.columns.specs.Spells.{firsts}
@@ -37,14 +36,8 @@ use Rattle.psl.specs.Steps.{CountsRange, Ready}
 use Rattle.psl.proofs.AnswerLaws.{read_apart}
 use Rattle.std.specs.Prelude.{Ok, Err, Result}
 
--- the codes of the table in the code
-abbrev pub psl_codes : List ℕ
-psl_codes =
-    code.coordinate ∷ code.coordinate ∷ code.coordinate ∷ code.coordinate ∷ code.coordinate ∷ code.coordinate ∷ code.coordinate ∷ code.coordinate ∷ code.strand
-    ∷ code.name ∷ code.size ∷ code.coordinate ∷ code.coordinate ∷ code.name ∷ code.size ∷ code.coordinate ∷ code.coordinate ∷ code.count ∷ code.sizes ∷ code.starts ∷ code.starts ∷ []
-
-pub table_is : table_of psl_codes ≡ psl_columns
-unfolding table_of kind_of psl_columns
+pub table_is : table_of psl_columns ≡ psl_columns
+unfolding table_of psl_columns
 table_is = refl
 
 -- what is read is the columns' record
@@ -151,7 +144,7 @@ module _ (s : List ℕ) (e : ℕ) (found : line_read psl_columns s ≡ Ok e) whe
       x ∙ rw (y, append-nil)
 
 -- the line read, and on
-module _ (s b' d d' : List ℕ) (long : length d ≡ 3 * block_limit) (x : Result ℕ Fault) (read : LineWalked (table_of psl_codes) s (replicate (2 * column.count) 0) b' d d' x) where
+module _ (s b' d d' : List ℕ) (long : length d ≡ 3 * block_limit) (x : Result ℕ Fault) (read : LineWalked (table_of psl_columns) s (replicate (2 * column.count) 0) b' d d' x) where
   read_is : x ≡ line_read psl_columns s
   read_is = rw table_is at read.result
 

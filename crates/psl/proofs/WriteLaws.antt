@@ -27,7 +27,7 @@ use Rattle.columns.proofs.PlaceLaws.{sets_keep, sets_there}
 use Rattle.blocks.specs.Blocks.{rows_of}
 use Rattle.psl.specs.declared.Psl.{Psl}
 use Rattle.psl.specs.Table.{psl_columns}
-use Rattle.psl.proofs.ColumnLaws.{psl_codes, table_is}
+use Rattle.psl.proofs.ColumnLaws.{table_is}
 use Rattle.psl.specs.Write.{words_show, write_check, psl_words, psl_text, psl_write, PslWrote}
 use Rattle.psl.specs.Steps.{values_put, psl_values, RowsThere, ListsPut, Writable}
 use Rattle.columns.proofs.WordLaws.{letter_byte}
@@ -72,11 +72,11 @@ module _ (r : Psl) (query target ts qs zs t l : List ℕ) (names : NamesPut quer
   unfolding words_from psl_columns values_put psl_values psl_words
   words_are = rw (names.first_at, names.second_at, letter_byte r.strand, lists.sizes, lists.queries, lists.targets)
 
-  text_is : fed_line (table_of psl_codes) 9 t (psl_values r (length query) (length target)) l ≡ psl_text r query target ts qs zs
+  text_is : fed_line (table_of psl_columns) 9 t (psl_values r (length query) (length target)) l ≡ psl_text r query target ts qs zs
   unfolding fed_line line_text psl_text
   text_is = rw (table_is, line_joins 9 t (psl_values r (length query) (length target)) l psl_columns, words_are)
 
-  pub text_wrote : (vs b b' : List ℕ) (x : Result ℕ Refusal) → vs ≡ psl_values r (length query) (length target) → Wrote (fed_line (table_of psl_codes) 9 t vs l) b b' x → Wrote (psl_text r query target ts qs zs) b b' x
+  pub text_wrote : (vs b b' : List ℕ) (x : Result ℕ Refusal) → vs ≡ psl_values r (length query) (length target) → Wrote (fed_line (table_of psl_columns) 9 t vs l) b b' x → Wrote (psl_text r query target ts qs zs) b b' x
   text_wrote vs b b' x ev w = rw (ev, text_is) at w
 
 -- what the stages ask of a record that passed the checks

@@ -15,6 +15,7 @@ ghost use Rattle.psl.specs.Write.{words_show, numbers_check, write_check, psl_te
 ghost use Rattle.psl.specs.Read.{span_check, row_check, after_line, psl_stages, room_stages, psl_answer, psl_check, Listed, InRoom, PslRead};
 ghost use Rattle.psl.specs.Steps.{CountsRange, Ready, RowsStored, head_fits, values_put, psl_values, RowsThere, ListsPut, Writable};
 
+use kinds::{Kind, Range};
 use ledger::{Fault, Part, Reason, Refusal, Strand};
 
 // The eight counts of a PSL line.
@@ -82,28 +83,28 @@ const BLOCK_COUNT: usize = 17;
 const COLUMNS: usize = 21;
 
 // Their kinds, as specs/Table.antt has them.
-const PSL: [u8; COLUMNS] = [
-    kinds::COORDINATE,
-    kinds::COORDINATE,
-    kinds::COORDINATE,
-    kinds::COORDINATE,
-    kinds::COORDINATE,
-    kinds::COORDINATE,
-    kinds::COORDINATE,
-    kinds::COORDINATE,
-    kinds::STRAND,
-    kinds::NAME,
-    kinds::SIZE,
-    kinds::COORDINATE,
-    kinds::COORDINATE,
-    kinds::NAME,
-    kinds::SIZE,
-    kinds::COORDINATE,
-    kinds::COORDINATE,
-    kinds::COUNT,
-    kinds::SIZES,
-    kinds::STARTS,
-    kinds::STARTS,
+const PSL: [Kind; COLUMNS] = [
+    Kind::Number(Range::Coordinate),
+    Kind::Number(Range::Coordinate),
+    Kind::Number(Range::Coordinate),
+    Kind::Number(Range::Coordinate),
+    Kind::Number(Range::Coordinate),
+    Kind::Number(Range::Coordinate),
+    Kind::Number(Range::Coordinate),
+    Kind::Number(Range::Coordinate),
+    Kind::Stranded(false),
+    Kind::Name,
+    Kind::Number(Range::Size),
+    Kind::Number(Range::Coordinate),
+    Kind::Number(Range::Coordinate),
+    Kind::Name,
+    Kind::Number(Range::Size),
+    Kind::Number(Range::Coordinate),
+    Kind::Number(Range::Coordinate),
+    Kind::Count,
+    Kind::Items(Range::Size),
+    Kind::Items(Range::Coordinate),
+    Kind::Items(Range::Coordinate),
 ];
 
 // The eight counts, from the columns' values.

@@ -6,68 +6,66 @@
 ghost use Rattle.std.specs.Prelude.{◌≡◌, length, ◌*◌};
 ghost use Rattle.ledger.specs.Limits.{block_limit};
 
+use kinds::{Fixed, Kind, Range};
 use ledger::{Fault, Position, Refusal};
 use std::io;
 use std::io::Write;
 
-// The columns of a BED line, a PSL line and a chain's header, by the codes of their kinds.
-const BED: [u8; 12] = [
-    kinds::NAME,
-    kinds::COORDINATE,
-    kinds::COORDINATE,
-    kinds::NAME,
-    kinds::BED_SCORE,
-    kinds::STRAND_OR_DOT,
-    kinds::COORDINATE,
-    kinds::COORDINATE,
-    kinds::COLOUR,
-    kinds::COUNT,
-    kinds::SIZES,
-    kinds::STARTS,
+// The columns of a BED line, a PSL line and a chain's header, by their kinds.
+const BED: [Kind; 12] = [
+    Kind::Name,
+    Kind::Number(Range::Coordinate),
+    Kind::Number(Range::Coordinate),
+    Kind::Name,
+    Kind::Number(Range::BedScore),
+    Kind::Stranded(true),
+    Kind::Number(Range::Coordinate),
+    Kind::Number(Range::Coordinate),
+    Kind::Colour,
+    Kind::Count,
+    Kind::Items(Range::Size),
+    Kind::Items(Range::Coordinate),
 ];
 
-const PSL: [u8; 21] = [
-    kinds::COORDINATE,
-    kinds::COORDINATE,
-    kinds::COORDINATE,
-    kinds::COORDINATE,
-    kinds::COORDINATE,
-    kinds::COORDINATE,
-    kinds::COORDINATE,
-    kinds::COORDINATE,
-    kinds::STRAND,
-    kinds::NAME,
-    kinds::SIZE,
-    kinds::COORDINATE,
-    kinds::COORDINATE,
-    kinds::NAME,
-    kinds::SIZE,
-    kinds::COORDINATE,
-    kinds::COORDINATE,
-    kinds::COUNT,
-    kinds::SIZES,
-    kinds::STARTS,
-    kinds::STARTS,
+const PSL: [Kind; 21] = [
+    Kind::Number(Range::Coordinate),
+    Kind::Number(Range::Coordinate),
+    Kind::Number(Range::Coordinate),
+    Kind::Number(Range::Coordinate),
+    Kind::Number(Range::Coordinate),
+    Kind::Number(Range::Coordinate),
+    Kind::Number(Range::Coordinate),
+    Kind::Number(Range::Coordinate),
+    Kind::Stranded(false),
+    Kind::Name,
+    Kind::Number(Range::Size),
+    Kind::Number(Range::Coordinate),
+    Kind::Number(Range::Coordinate),
+    Kind::Name,
+    Kind::Number(Range::Size),
+    Kind::Number(Range::Coordinate),
+    Kind::Number(Range::Coordinate),
+    Kind::Count,
+    Kind::Items(Range::Size),
+    Kind::Items(Range::Coordinate),
+    Kind::Items(Range::Coordinate),
 ];
 
-const CHAIN: [u8; 13] = [
-    kinds::WORD_CHAIN,
-    kinds::CHAIN_SCORE,
-    kinds::NAME,
-    kinds::SIZE,
-    kinds::WORD_PLUS,
-    kinds::COORDINATE,
-    kinds::COORDINATE,
-    kinds::NAME,
-    kinds::SIZE,
-    kinds::STRAND,
-    kinds::COORDINATE,
-    kinds::COORDINATE,
-    kinds::CHAIN_ID,
+const CHAIN: [Kind; 13] = [
+    Kind::Word(Fixed::Chain),
+    Kind::Number(Range::ChainScore),
+    Kind::Name,
+    Kind::Number(Range::Size),
+    Kind::Word(Fixed::Plus),
+    Kind::Number(Range::Coordinate),
+    Kind::Number(Range::Coordinate),
+    Kind::Name,
+    Kind::Number(Range::Size),
+    Kind::Stranded(false),
+    Kind::Number(Range::Coordinate),
+    Kind::Number(Range::Coordinate),
+    Kind::Number(Range::ChainId),
 ];
-
-// The code of a letter whose case is not that of one word.
-const NO_CODE: u8 = 255;
 
 // Room for the values of a line's columns, two numbers each, and for three lists of blocks. The contracts tell only the lengths.
 const VALUES: usize = 64;
@@ -161,21 +159,21 @@ fn lines_case(s: &[u8], out: &mut [u8], at: usize) -> usize {
     p
 }
 
-// The kind of word that a case reads, as a code of kinds::kind_of.
-fn code_of(letter: u8) -> u8 {
+// The kind of word that a case reads, by its letter.
+fn kind_of(letter: u8) -> Option<Kind> {
     match letter {
-        b'n' => kinds::NAME,
-        b'c' => kinds::COORDINATE,
-        b'z' => kinds::SIZE,
-        b'e' => kinds::BED_SCORE,
-        b's' => kinds::CHAIN_SCORE,
-        b'i' => kinds::CHAIN_ID,
-        b'b' => kinds::COUNT,
-        b'+' => kinds::STRAND,
-        b'.' => kinds::STRAND_OR_DOT,
-        b'k' => kinds::WORD_CHAIN,
-        b'r' => kinds::COLOUR,
-        _ => NO_CODE,
+        b'n' => Some(Kind::Name),
+        b'c' => Some(Kind::Number(Range::Coordinate)),
+        b'z' => Some(Kind::Number(Range::Size)),
+        b'e' => Some(Kind::Number(Range::BedScore)),
+        b's' => Some(Kind::Number(Range::ChainScore)),
+        b'i' => Some(Kind::Number(Range::ChainId)),
+        b'b' => Some(Kind::Count),
+        b'+' => Some(Kind::Stranded(false)),
+        b'.' => Some(Kind::Stranded(true)),
+        b'k' => Some(Kind::Word(Fixed::Chain)),
+        b'r' => Some(Kind::Colour),
+        _ => None,
     }
 }
 
@@ -204,12 +202,11 @@ fn put_meaning(out: &mut [u8], at: usize, letter: u8, v: u64) -> usize {
 
 // The cases of one word: its kind, and what it means.
 fn word_case(letter: u8, word: &[u8], out: &mut [u8], at: usize) -> usize {
-    let code = code_of(letter);
-    if code == NO_CODE {
+    let Some(kind) = kind_of(letter) else {
         return writing::put_bytes(out, at, b"unknown case");
-    }
+    };
     let mut none = [0u64; 0];
-    match kinds::spell(kinds::kind_of(code), 0, word, 0, &mut none) {
+    match kinds::spell(kind, 0, word, 0, &mut none) {
         Ok(v) => put_meaning(out, at, letter, v),
         Err(x) => put_fault(out, at, x),
     }
@@ -322,7 +319,7 @@ fn line_room() -> [u8; 65536]
 fn put_standard(
     out: &mut [u8],
     at: usize,
-    table: &[u8],
+    table: &[Kind],
     sep: u8,
     line: &[u8],
     values: &[u64],
@@ -336,7 +333,7 @@ fn put_standard(
 }
 
 // Cases `B`, `P` and `C`: a line read by its table of columns and written back.
-fn columns_case(line: &[u8], table: &[u8], sep: u8, out: &mut [u8], at: usize) -> usize {
+fn columns_case(line: &[u8], table: &[Kind], sep: u8, out: &mut [u8], at: usize) -> usize {
     let mut values = value_table();
     let mut lists = list_table();
     match columns::read_columns(line, 0, table, &mut values, &mut lists) {
