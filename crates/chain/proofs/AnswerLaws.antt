@@ -1,5 +1,5 @@
 -- What a caller is told of a reading, and what it shows of the reading. Assumes nothing.
-use mathlib.Core.Path.{◌≡◌, refl, sym, ap}
+use mathlib.Core.Path.{◌≡◌, refl, sym, ap, ◌∙◌}
 use mathlib.Core.List.{List}
 use Prim.Native.Nat.{ℕ}
 use native.Mathlib.Omega.{arith}
@@ -10,7 +10,8 @@ use Rattle.text.specs.Checks.{then_check, room_check}
 use Rattle.blocks.specs.Readers.{then_room}
 use Rattle.chain.specs.declared.Chain.{Chain}
 use Rattle.chain.specs.Read.{chain_stages, chain_answer, chain_check, on_reading, on_answer, chain_roomed, chain_read}
-use Rattle.std.specs.Prelude.{Ok, Err, Result, ⊤}
+use Rattle.std.specs.Prelude.{Ok, Err, Result, ⊤, MatchResult, IsErrAnd}
+use Rattle.std.proofs.lemmas.Result.{err_from_is_err_and}
 
 -- a fault is no record
 pub read_apart : (r : Chain) (x : Fault) → Err x ≡ Ok r → ⊥
@@ -20,11 +21,9 @@ pub accepted_apart : (r : Chain) (x : Refusal) → Err x ≡ Ok r → ⊥
 accepted_apart r x e = let z : ◌≡◌ {A = ℕ} 0 1 = cc in omega arith
 
 -- what is told of a reading
-pub told_faulty : (x : Result Chain Fault) (y : Fault) (z : Refusal) → x ≡ Err y → z ≡ refusal_at y → Err z ≡ chain_answer x
-told_faulty x y z e q = rw (e, q)
-
-pub told_accepted : (x : Result Chain Fault) (r : Chain) → x ≡ Ok r → Ok r ≡ chain_answer x
-told_accepted x r e = rw e
+pub told : (x : Result Chain Fault) (y : Result Chain Refusal) → MatchResult x (λ r. y ≡ Ok r) (λ f. IsErrAnd y (λ z. z ≡ refusal_at f)) → y ≡ chain_answer x
+told (Ok r) y h = h
+told (Err f) y h = let p = err_from_is_err_and y h in p.1 ∙ ap Err p.2
 
 pub told_same : (X : Type 0) (x : Result Chain Fault) (f : Chain → X) (y : X) → on_answer X (chain_answer x) f y ≡ on_reading X x f y
 told_same X (Ok r) f y = refl

@@ -27,7 +27,6 @@ use Rattle.columns.proofs.PlaceLaws.{spelt_at, value_first, values_length}
 use Rattle.columns.proofs.TableLaws as table
 use Rattle.chain.specs.declared.BlockLine.{BlockLine}
 use Rattle.chain.specs.declared.BlockLine.TheVariants.{Last, Gap}
-use Rattle.chain.specs.declared.BlockLine.TheVariants as block
 use Rattle.chain.specs.Columns as column
 use Rattle.chain.specs.Table.{block_columns}
 use Rattle.chain.specs.Records.{line_values, size_at, target_gap, query_gap}
@@ -173,7 +172,7 @@ module _ (s : List ℕ) (line n : ℕ) (counted : LineCounted s line n) (b' d d'
           query_gap = rw p (query_in (eqb n column.last_count) (query_low s line n e counted next));
         }
 
-pub words_good : (s : List ℕ) (line n : ℕ) → block_words s line n ≡ (Ok tt) → is_block_count n ≡ true
+pub words_good : (s : List ℕ) (line n : ℕ) → block_words s line n ≡ Ok tt → is_block_count n ≡ true
 unfolding block_words
 words_good s line n e = (words_hold s line n column.gap_count (is_block_count n) e).1
 
@@ -187,20 +186,20 @@ unfolding limit_check
 limit_ahead line zero y = absurd (y refl)
 limit_ahead line (suc k) y = refl
 
-some_left : (line k : ℕ) → limit_check line k ≡ (Ok tt) → 1 ≤ k
+some_left : (line k : ℕ) → limit_check line k ≡ Ok tt → 1 ≤ k
 unfolding limit_check
 some_left line zero e = absurd (let q : ◌≡◌ {A = ℕ} 0 1 = cc in omega arith)
 some_left line (suc k) e = omega arith
 
 -- two stages, the first fault of which counts
-both_pass : (a b : Result ⊤ Fault) → then_check Err a b ≡ (Ok tt) → (a ≡ (Ok tt)) × (b ≡ (Ok tt))
+both_pass : (a b : Result ⊤ Fault) → then_check Err a b ≡ Ok tt → (a ≡ Ok tt) × (b ≡ Ok tt)
 both_pass a b = went Err a b (Ok tt) (λ x e. let q : ◌≡◌ {A = ℕ} 0 1 = cc in omega arith)
 
 one_faulty : (a b : Result ⊤ Fault) (x : Fault) (rest : Result BlockLine Fault) → then_check Err a b ≡ Err x → Err x ≡ then_check Err a (then_check Err b rest)
 one_faulty (Ok tt) b x rest e = rw e
 one_faulty (Err y) b x rest e = cc
 
-pub first_passes : (a b : Result ⊤ Fault) → a ≡ (Ok tt) → b ≡ then_check Err a b
+pub first_passes : (a b : Result ⊤ Fault) → a ≡ Ok tt → b ≡ then_check Err a b
 first_passes a b e = goes Err a b b e refl
 
 pub line_checked : (s : List ℕ) (line n k : ℕ) (good : Bool) (a b r : Result ⊤ Fault) → a ≡ limit_check line k → good ≡ is_block_count n → b ≡ words_check s line n column.gap_count good → r ≡ then_check Err a b → r ≡ line_check s line n k
@@ -214,11 +213,11 @@ one_most (Err x) = omega arith
 
 -- the block line
 module _ (s : List ℕ) (line n k : ℕ) (en : n ≡ word_count s line) (c : Result ⊤ Fault) (ec : c ≡ line_check s line n k) where
-  held : c ≡ (Ok tt) → (limit_check line k ≡ (Ok tt)) × (block_words s line n ≡ (Ok tt))
+  held : c ≡ Ok tt → (limit_check line k ≡ Ok tt) × (block_words s line n ≡ Ok tt)
   unfolding line_check
   held q = both_pass (limit_check line k) (block_words s line n) (sym ec ∙ q)
 
-  pub line_counted : c ≡ (Ok tt) → LineCounted s line n
+  pub line_counted : c ≡ Ok tt → LineCounted s line n
   line_counted q = record { count = en; good = words_good s line n (held q).1 }
 
   pub line_refused : (x : Fault) → c ≡ Err x → BlockRead s line k (Err x)
@@ -231,7 +230,7 @@ module _ (s : List ℕ) (line n k : ℕ) (en : n ≡ word_count s line) (c : Res
     query_gap = omega arith;
   }
 
-  pub line_read_lem : (r : Result BlockLine Fault) → c ≡ (Ok tt) → NumbersRead s line n r → BlockRead s line k r
+  pub line_read_lem : (r : Result BlockLine Fault) → c ≡ Ok tt → NumbersRead s line n r → BlockRead s line k r
   unfolding block_line
   line_read_lem r q h = record {
     is = rw (← en, (held q).0, (held q).1) h.is;

@@ -168,13 +168,13 @@ module _ (s : List ℕ) (line k : ℕ) (some : 1 ≤ k) where
   not_none : k ≡ 0 → ⊥
   not_none e = absurd (omega arith)
 
-  pub step_gap : (x : Quick) → GapTaken s line x → x.good ≡ true → StepRead s line k (record { block = Ok (Gap x.size x.dt x.dq;) next = x.next })
+  pub step_gap : (x : Quick) → GapTaken s line x → x.good ≡ true → StepRead s line k (record { block = Ok (Gap x.size x.dt x.dq); next = x.next })
   step_gap x t g = record {
     read = record { is = rw (← limit_ahead line k not_none) (sym (t.is g)); room = some; size = t.size g; target_gap = t.target_gap g; query_gap = t.query_gap g };
     next = λ z dt dq q. t.next g;
   }
 
-  pub step_last : (y : Taken) (next : ℕ) → LastTaken s line y → y.good ≡ true → StepRead s line k (record { block = Ok (Last y.value;) next = next })
+  pub step_last : (y : Taken) (next : ℕ) → LastTaken s line y → y.good ≡ true → StepRead s line k (record { block = Ok (Last y.value); next = next })
   step_last y next t g = record {
     read = record { is = rw (← limit_ahead line k not_none) (sym (t.is g)); room = some; size = t.size g; target_gap = omega arith; query_gap = omega arith };
     next = λ z dt dq q. absurd (let w : ◌≡◌ {A = ℕ} 0 1 = cc in omega arith);

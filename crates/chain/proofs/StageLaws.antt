@@ -77,7 +77,7 @@ module _ (s vs : List ℕ) (e : Ending) (c : Result ⊤ Fault) where
     unfolding after_last
     last_faulty x q = rw (← er, ← ec, q)
 
-    pub last_read : c ≡ (Ok tt) → Ok r ≡ after_last s vs e
+    pub last_read : c ≡ Ok tt → Ok r ≡ after_last s vs e
     unfolding after_last
     last_read q = rw (← er, ← ec, q)
 
@@ -86,7 +86,7 @@ module _ (s vs : List ℕ) (e : Ending) (c : Result ⊤ Fault) where
     unfolding after_lines
     lines_faulty x q = rw (← ec, q)
 
-    pub lines_on : (a : Result Chain Fault) → c ≡ (Ok tt) → a ≡ after_last s vs e → a ≡ after_lines s vs e
+    pub lines_on : (a : Result Chain Fault) → c ≡ Ok tt → a ≡ after_last s vs e → a ≡ after_lines s vs e
     unfolding after_lines
     lines_on a q h = rw (← ec, q) h
 
@@ -132,7 +132,7 @@ module _ (s vs l : List ℕ) (c : Result ⊤ Fault) (r : Chain) (er : r ≡ chai
   unfolding after_columns
   columns_faulty x q = staged_stops Err read_apart x (rw (← er, ← ec, q))
 
-  pub columns_on : (a : Result Chain Fault) → c ≡ (Ok tt) → Staged Ok (Held s) (after_spans s vs) l a → Staged Ok (Held s) (after_columns s vs) l a
+  pub columns_on : (a : Result Chain Fault) → c ≡ Ok tt → Staged Ok (Held s) (after_spans s vs) l a → Staged Ok (Held s) (after_columns s vs) l a
   unfolding after_columns
   columns_on a q h = staged_goes a (rw (← er, ← ec, q)) h
 
@@ -188,7 +188,7 @@ module _ (s : List ℕ) (e : ℕ) (count : word_count s 0 ≡ column.header_coun
   query_low = rw (← value_first vs column.q_start) (number_spelt Coordinate _ _ _ (spelt_at head_spells column.q_start (omega arith))).1
 
 -- the number of words and the columns in one walk
-line_then : (c : Result ⊤ Fault) (rest : Result ℕ Fault) (e : ℕ) → then_check Err c rest ≡ Ok e → (c ≡ (Ok tt)) × (rest ≡ Ok e)
+line_then : (c : Result ⊤ Fault) (rest : Result ℕ Fault) (e : ℕ) → then_check Err c rest ≡ Ok e → (c ≡ Ok tt) × (rest ≡ Ok e)
 line_then c rest e = went Err c rest (Ok e) (λ x q. let z : ◌≡◌ {A = ℕ} 0 1 = cc in omega arith)
 
 line_faulty : (c : Result ⊤ Fault) (d : Result ℕ Fault) (y : Fault) (rest : Result Chain Fault) → then_check Err c d ≡ Err y → Err y ≡ then_check Err c (then_next Err d rest)
@@ -202,7 +202,7 @@ module _ (s rows b' d d' : List ℕ) (long : length rows ≡ 3 * block_limit) (x
   read_is = rw table_is at read.result
 
   module _ (e : ℕ) (q : x ≡ Ok e) where
-    both_read : (count_check s 0 column.header_count ≡ (Ok tt)) × (columns_from chain_columns 0 s 0 ≡ Ok e)
+    both_read : (count_check s 0 column.header_count ≡ Ok tt) × (columns_from chain_columns 0 s 0 ≡ Ok e)
     both_read = line_then (count_check s 0 column.header_count) (columns_from chain_columns 0 s 0) e (sym read_is ∙ q)
 
     walked : ColumnsWalked (table_of chain_codes) s 0 (replicate (2 * column.header_count) 0) b' d d' (Ok e)
@@ -253,7 +253,7 @@ module _ (s : List ℕ) (c : Result ⊤ Fault) (ec : c ≡ text_check s) where
   unfolding chain_stages
   text_faulty l x q = staged_stops Err read_apart x (rw (← ec, q))
 
-  pub text_on : (l : List ℕ) (a : Result Chain Fault) → c ≡ (Ok tt) → Staged Ok (Held s) (after_text s) l a → Staged Ok (Held s) (chain_stages s) l a
+  pub text_on : (l : List ℕ) (a : Result Chain Fault) → c ≡ Ok tt → Staged Ok (Held s) (after_text s) l a → Staged Ok (Held s) (chain_stages s) l a
   unfolding chain_stages
   text_on l a q h = staged_goes a (rw (← ec, q)) h
 

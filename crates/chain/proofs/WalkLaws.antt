@@ -14,7 +14,6 @@ use Rattle.text.specs.Checks.{then_check}
 use Rattle.text.specs.Words.{next_line}
 use Rattle.chain.specs.declared.BlockLine.{BlockLine}
 use Rattle.chain.specs.declared.BlockLine.TheVariants.{Last, Gap}
-use Rattle.chain.specs.declared.BlockLine.TheVariants as block
 use Rattle.chain.specs.declared.Ending.{Ending}
 use Rattle.chain.specs.Records.{size_at, target_gap, query_gap, targets_from, queries_from, sizes_from}
 use Rattle.chain.specs.Read.{limit_check, then_block, block_line, ends_early, lines_from, ending_at}

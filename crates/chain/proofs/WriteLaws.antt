@@ -108,7 +108,7 @@ pub names_there : (r : Chain) (tName qName ts qs zs t names : List ℕ) → Writ
 names_there r tName qName ts qs zs t names w e l = names_put tName qName t names e l w.t_short w.q_short
 
 -- a record that passes the checks can be written
-pub check_writable : (r : Chain) (tName qName ts qs zs : List ℕ) → write_check r tName qName ts qs zs ≡ (Ok tt) → Writable r tName qName ts qs zs
+pub check_writable : (r : Chain) (tName qName ts qs zs : List ℕ) → write_check r tName qName ts qs zs ≡ Ok tt → Writable r tName qName ts qs zs
 unfolding write_check names_show names_fit
 check_writable r tName qName ts qs zs e =
     let a = require_holds _ _ _ e in
@@ -129,9 +129,9 @@ module _ (r : Chain) (tName qName ts qs zs b : List ℕ) (c : Result ⊤ Refusal
   unfolding chain_write
   write_refused x q = record { is = rw (← ec, q); left = refl }
 
-  pub write_ready : c ≡ (Ok tt) → Writable r tName qName ts qs zs
+  pub write_ready : c ≡ Ok tt → Writable r tName qName ts qs zs
   write_ready q = check_writable r tName qName ts qs zs (sym ec ∙ q)
 
-  pub write_wrote : (b' : List ℕ) (x : Result ℕ Refusal) → c ≡ (Ok tt) → Wrote (chain_text r tName qName ts qs zs) b b' x → ChainWrote r tName qName ts qs zs b b' x
+  pub write_wrote : (b' : List ℕ) (x : Result ℕ Refusal) → c ≡ Ok tt → Wrote (chain_text r tName qName ts qs zs) b b' x → ChainWrote r tName qName ts qs zs b b' x
   unfolding chain_write
   write_wrote b' x q h = record { is = rw (← ec, q) h.is; left = h.left }

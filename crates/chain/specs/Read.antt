@@ -12,7 +12,6 @@ use Rattle.blocks.specs.Readers.{then_room, RowsRead}
 use Rattle.chain.specs.declared.Chain.{Chain}
 use Rattle.chain.specs.declared.BlockLine.{BlockLine}
 use Rattle.chain.specs.declared.BlockLine.TheVariants.{Last, Gap}
-use Rattle.chain.specs.declared.BlockLine.TheVariants as block
 use Rattle.chain.specs.declared.Ending.{Ending}
 use Rattle.chain.specs.Columns as column
 use Rattle.chain.specs.Table.{chain_columns, block_columns}
@@ -37,7 +36,7 @@ block_words s line n = words_check s line n column.gap_count (is_block_count n)
 -- where k blocks may still come, a line past the last allowed one is refused at its first byte (11)
 unfoldable pub limit_check : ℕ → ℕ → Result ⊤ Fault
 limit_check line zero = fault NoRoom line
-limit_check line (suc k) = (Ok tt)
+limit_check line (suc k) = Ok tt
 
 -- the block that the values vs of a line of n words say: a size alone is the last
 abbrev pub block_is : ℕ → List ℕ → Result BlockLine Fault

@@ -14,7 +14,6 @@ use Rattle.blocks.specs.Rules.{RowsInUse}
 use Rattle.chain.specs.declared.Chain.{Chain}
 use Rattle.chain.specs.declared.BlockLine.{BlockLine}
 use Rattle.chain.specs.declared.BlockLine.TheVariants.{Last, Gap}
-use Rattle.chain.specs.declared.BlockLine.TheVariants as block
 use Rattle.chain.specs.declared.Ending.{Ending}
 use Rattle.chain.specs.declared.Head.{Head}
 use Rattle.chain.specs.declared.Quick.{Quick}

@@ -28,7 +28,7 @@ write_check r tName qName ts qs zs =
     (require (fields_fit r && row_numbers_fit (take r.blockCount ts) (take r.blockCount qs) (take r.blockCount zs)) (refused NumberOutOfRange)
     (require (spans_fit r) (refused SpanDisagrees)
     (require (rows_fit r (take r.blockCount ts) (take r.blockCount qs) (take r.blockCount zs)) (refused BlockRules)
-    Ok tt))))
+    (Ok tt)))))
 
 -- the thirteen words of a header
 unfoldable pub head_words : Chain → List ℕ → List ℕ → List (List ℕ)

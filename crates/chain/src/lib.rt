@@ -77,7 +77,7 @@ pub struct Chain {
     pub blockCount: u64,
 }
 
-// One block line: the last one's size; or a size and the gaps after it on the target and on the query; or the fault.
+// One block line: the last one's size; or a size and the gaps after it on the target and on the query.
 #[derive(Clone, Copy)]
 pub enum BlockLine {
     Last(u64),
@@ -152,10 +152,7 @@ const BLOCK: [u8; GAP_COLUMNS] = [kinds::SIZE, kinds::COORDINATE, kinds::COORDIN
 fn answered(x: Result<Chain, Fault>) -> Result<Chain, Refusal>
     ensures { result ≡ chain_answer x }
 {
-    match x {
-        Err(y) => Err(Refusal::at(y)),
-        Ok(r) => Ok(r),
-    }
+    x.map_err(Refusal::at)
 }
 
 // The name that column k says: where its word starts, and its length.
@@ -398,7 +395,13 @@ fn put_row(rows: &mut [u64], i: u64, t: u64, q: u64, z: u64)
 }
 
 // The block lines from the one at a place on, the first block starting at target and query: their rows to the working room.
-fn walk_lines(text: &[u8], from: usize, target: u64, query: u64, rows: &mut [u64]) -> Result<Ending, Fault>
+fn walk_lines(
+    text: &[u8],
+    from: usize,
+    target: u64,
+    query: u64,
+    rows: &mut [u64],
+) -> Result<Ending, Fault>
     requires { Begins target query rows.old }
     ensures { Walked text.now from target query rows.old rows.new result }
 {
@@ -408,12 +411,9 @@ fn walk_lines(text: &[u8], from: usize, target: u64, query: u64, rows: &mut [u64
     let mut left = ledger::BLOCK_LIMIT;
     while line < text.len() {
         let step = take_step(text, line, left);
-        let block = step.block;
+        let block = step.block?;
         match block {
-            Err(x) => {
-                return Err(x);
-            }
-            Ok(BlockLine::Last(z)) => {
+            BlockLine::Last(z) => {
                 put_row(rows, ledger::BLOCK_LIMIT - left, t, q, z);
                 return Ok(Ending {
                     line,
@@ -422,7 +422,7 @@ fn walk_lines(text: &[u8], from: usize, target: u64, query: u64, rows: &mut [u64
                     query: q + z,
                 });
             }
-            Ok(BlockLine::Gap(z, dt, dq)) => {
+            BlockLine::Gap(z, dt, dq) => {
                 put_row(rows, ledger::BLOCK_LIMIT - left, t, q, z);
                 t = t + z + dt;
                 q = q + z + dq;
@@ -924,9 +924,7 @@ fn write_lines(
     let mut none = [0u8; 0];
     let n = put_text(&mut none, names, values, count, targets, queries, sizes);
     writing::room_for(n, buf.len())?;
-    Ok(put_text(
-        buf, names, values, count, targets, queries, sizes,
-    ))
+    Ok(put_text(buf, names, values, count, targets, queries, sizes))
 }
 
 // Writes the standard text of a record that passed the checks.

@@ -50,7 +50,7 @@ pub record MayWrite (r : Chain) (tName qName ts qs zs : List ℕ) : Type 0 where
   pub q_shows : All Graphic qName
 
 -- THE WRITER'S CHECKS, ONE BY ONE
-pub may_write : (r : Chain) (tName qName ts qs zs : List ℕ) → write_check r tName qName ts qs zs ≡ (Ok tt) → MayWrite r tName qName ts qs zs
+pub may_write : (r : Chain) (tName qName ts qs zs : List ℕ) → write_check r tName qName ts qs zs ≡ Ok tt → MayWrite r tName qName ts qs zs
 unfolding write_check names_show chain_valid fields_fit spans_fit rows_fit row_numbers_fit
 may_write r tName qName ts qs zs e =
     let n = r.blockCount in
@@ -272,7 +272,7 @@ module _ (r : Chain) (tName qName ts qs zs : List ℕ) (ok : MayWrite r tName qN
   q_name_read = part_bytes_lem s (word_at s 0 column.q_name) ∙ text_word column.q_name
 
 -- THE ROUND TRIP: the writer's checks hold, and the text is short enough
-module _ (r : Chain) (tName qName ts qs zs : List ℕ) (ok : write_check r tName qName ts qs zs ≡ (Ok tt)) (short : length (chain_text r tName qName ts qs zs) ≤ text_limit) where
+module _ (r : Chain) (tName qName ts qs zs : List ℕ) (ok : write_check r tName qName ts qs zs ≡ Ok tt) (short : length (chain_text r tName qName ts qs zs) ≤ text_limit) where
   abbrev text : List ℕ
   text = chain_text r tName qName ts qs zs
 

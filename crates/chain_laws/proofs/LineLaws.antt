@@ -24,7 +24,6 @@ use Rattle.columns.proofs.SpellsLaws.{columns_mean, Reads, meant_read}
 use Rattle.columns.proofs.PlaceLaws.{value_first}
 use Rattle.chain.specs.declared.BlockLine.{BlockLine}
 use Rattle.chain.specs.declared.BlockLine.TheVariants.{Last, Gap}
-use Rattle.chain.specs.declared.BlockLine.TheVariants as block
 use Rattle.chain.specs.declared.Ending.{Ending}
 use Rattle.chain.specs.Columns as column
 use Rattle.chain.specs.Table.{block_columns}
@@ -71,7 +70,7 @@ one_is (a ∷ b ∷ l) e = absurd (omega arith)
 
 -- a block line that is read
 record Good (s : List ℕ) (line : ℕ) (b : Result BlockLine Fault) : Type 0 where
-  count : block_words s line (word_count s line) ≡ (Ok tt)
+  count : block_words s line (word_count s line) ≡ Ok tt
   end : ℕ
   read : columns_from (take (word_count s line) block_columns) 0 s line ≡ Ok end
   is : b ≡ block_is (word_count s line) (values_from (take (word_count s line) block_columns) 0 s line)
@@ -153,7 +152,7 @@ pub record Ends (te qe : ℕ) (s : List ℕ) (k line t q count : ℕ) : Type 0 w
   pub says : BlockLines te qe (lines_of (drop line s)) t q (targets_from n s line t) (queries_from n s line q) (sizes_from n s line)
 
 module _ (te qe : ℕ) (s : List ℕ) (k line t q count : ℕ) (fits : suc k ≤ block_limit) (h : line < length s) where
-  last_ends : (z : ℕ) → block_line s line ≡ Ok (Last z) → last_line_check s line ≡ (Ok tt) → t + z ≡ te → q + z ≡ qe → count ≡ block_limit - k → Ends te qe s (suc k) line t q count
+  last_ends : (z : ℕ) → block_line s line ≡ Ok (Last z) → last_line_check s line ≡ Ok tt → t + z ≡ te → q + z ≡ qe → count ≡ block_limit - k → Ends te qe s (suc k) line t q count
   unfolding last_line_check targets_from queries_from sizes_from
   last_ends z g l et eq ec =
       let past : length s ≤ next_line s line = leb-true (length s) (next_line s line) (require_passes _ _ _ l).0 in
@@ -168,7 +167,7 @@ module _ (te qe : ℕ) (s : List ℕ) (k line t q count : ℕ) (fits : suc k ≤
       let b = r.is in
       record { n = suc r.n; some = omega arith; few = omega arith; is = omega arith; says = rw (lines_at s line h, v.0, v.1, v.2) (more_lines (meant_spells (gap_spells s line z dt dq g)) r.says) }
 
-pub walk_says : (s : List ℕ) (k : ℕ) → k ≤ block_limit → (line t q : ℕ) (e : Ending) → lines_from k s line t q ≡ Ok e → last_line_check s e.line ≡ (Ok tt) → Ends e.target e.query s k line t q e.count
+pub walk_says : (s : List ℕ) (k : ℕ) → k ≤ block_limit → (line t q : ℕ) (e : Ending) → lines_from k s line t q ≡ Ok e → last_line_check s e.line ≡ Ok tt → Ends e.target e.query s k line t q e.count
 unfolding lines_from limit_check
 walk_says s zero fits line t q e w l = absurd (go (ltb line (length s)) _ _ w)
   where
@@ -194,7 +193,7 @@ walk_says s (suc k) fits line t q e w l = go (ltb line (length s)) (block_line s
 pub record Ran (te qe : ℕ) (s : List ℕ) (k line t q : ℕ) (ts qs zs : List ℕ) : Type 0 where
   pub end : Ending
   pub ran : lines_from k s line t q ≡ Ok end
-  pub last : last_line_check s end.line ≡ (Ok tt)
+  pub last : last_line_check s end.line ≡ Ok tt
   pub target : end.target ≡ te
   pub query : end.query ≡ qe
   pub count : end.count ≡ block_limit - k + length zs

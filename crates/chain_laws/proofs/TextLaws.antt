@@ -50,15 +50,15 @@ head_values s = values_from chain_columns 0 s 0
 
 -- what the row of checks found of a text that is accepted with the record r
 record Accepts (s : List ℕ) (r : Chain) : Type 0 where
-  text : text_check s ≡ (Ok tt)
-  head : count_check s 0 column.header_count ≡ (Ok tt)
+  text : text_check s ≡ Ok tt
+  head : count_check s 0 column.header_count ≡ Ok tt
   end : ℕ
   read : columns_from chain_columns 0 s 0 ≡ Ok end
-  spans : span_check (chain_record (head_values s) 0) (head_values s) ≡ (Ok tt)
+  spans : span_check (chain_record (head_values s) 0) (head_values s) ≡ Ok tt
   ending : Ending
   walk : lines_from block_limit s (next_line s 0) (value_of (head_values s) column.t_start) (value_of (head_values s) column.q_start) ≡ Ok ending
-  line : last_line_check s ending.line ≡ (Ok tt)
-  fill : fill_check s (chain_record (head_values s) ending.count) ending ≡ (Ok tt)
+  line : last_line_check s ending.line ≡ Ok tt
+  fill : fill_check s (chain_record (head_values s) ending.count) ending ≡ Ok tt
   is : r ≡ chain_record (head_values s) ending.count
 
 -- columns that went on, and block lines
@@ -100,24 +100,24 @@ module _ (s : List ℕ) (r : Chain) where
   accepts_is a = rw (a.text, a.head, a.read, a.spans, a.walk, a.line, a.fill, a.is)
 
 -- the spans
-spans_hold : (r : Chain) (vs : List ℕ) → span_check r vs ≡ (Ok tt) → (span_fits r.tStart r.tEnd r.tSize ≡ true) × (span_fits r.qStart r.qEnd r.qSize ≡ true)
+spans_hold : (r : Chain) (vs : List ℕ) → span_check r vs ≡ Ok tt → (span_fits r.tStart r.tEnd r.tSize ≡ true) × (span_fits r.qStart r.qEnd r.qSize ≡ true)
 unfolding span_check
 spans_hold r vs e =
     let a = require_passes (span_fits r.tStart r.tEnd r.tSize) _ _ e in
     let b = require_passes (span_fits r.qStart r.qEnd r.qSize) _ _ a.1 in
     (a.0, b.0)
 
-hold_spans : (r : Chain) (vs : List ℕ) → span_fits r.tStart r.tEnd r.tSize ≡ true → span_fits r.qStart r.qEnd r.qSize ≡ true → span_check r vs ≡ (Ok tt)
+hold_spans : (r : Chain) (vs : List ℕ) → span_fits r.tStart r.tEnd r.tSize ≡ true → span_fits r.qStart r.qEnd r.qSize ≡ true → span_check r vs ≡ Ok tt
 unfolding span_check
 hold_spans r vs a b = rw (a, b)
 
-fill_holds : (s : List ℕ) (r : Chain) (e : Ending) → fill_check s r e ≡ (Ok tt) → (e.target ≡ r.tEnd) × (e.query ≡ r.qEnd)
+fill_holds : (s : List ℕ) (r : Chain) (e : Ending) → fill_check s r e ≡ Ok tt → (e.target ≡ r.tEnd) × (e.query ≡ r.qEnd)
 unfolding fill_check
 fill_holds s r e h =
     let a = both (eqb e.target r.tEnd) (eqb e.query r.qEnd) (require_passes _ _ _ h).0 in
     (eqb-true _ _ a.0, eqb-true _ _ a.1)
 
-hold_fill : (s : List ℕ) (r : Chain) (e : Ending) → e.target ≡ r.tEnd → e.query ≡ r.qEnd → fill_check s r e ≡ (Ok tt)
+hold_fill : (s : List ℕ) (r : Chain) (e : Ending) → e.target ≡ r.tEnd → e.query ≡ r.qEnd → fill_check s r e ≡ Ok tt
 unfolding fill_check
 hold_fill s r e a b = rw (eq-eqb e.target r.tEnd a, eq-eqb e.query r.qEnd b)
 
@@ -286,7 +286,7 @@ module _ (s vs : List ℕ) (ls : List (List ℕ)) (r : Chain) (ts qs zs : List �
       chain_same r (chain_record (head_values s) ran.end.count) (c.score ∙ value_at column.score) (c.tName ∙ part_at column.t_name (omega arith) refl) (c.tSize ∙ value_at column.t_size) t_start t_end
       (c.qName ∙ part_at column.q_name (omega arith) refl) (c.qSize ∙ value_at column.q_size) (strand_is_lem r.qStrand (value_of (head_values s) column.q_strand) (c.qStrand ∙ value_at column.q_strand)) q_start q_end (c.id ∙ value_at column.id) ran_count
 
-  spans_are : span_check (chain_record (head_values s) 0) (head_values s) ≡ (Ok tt)
+  spans_are : span_check (chain_record (head_values s) 0) (head_values s) ≡ Ok tt
   unfolding chain_record
   spans_are =
       let us = head_values s in
@@ -294,7 +294,7 @@ module _ (s vs : List ℕ) (ls : List (List ℕ)) (r : Chain) (ts qs zs : List �
       let q : span_fits (value_of us column.q_start) (value_of us column.q_end) (value_of us column.q_size) ≡ true = rw (q_start, q_end, c.qSize ∙ value_at column.q_size) at (span_is r.qStart r.qEnd r.qSize c.q_span c.q_inside) in
       hold_spans (chain_record us 0) us t q
 
-  filled : fill_check s (chain_record (head_values s) ran.end.count) ran.end ≡ (Ok tt)
+  filled : fill_check s (chain_record (head_values s) ran.end.count) ran.end ≡ Ok tt
   unfolding chain_record
   filled = hold_fill s (chain_record (head_values s) ran.end.count) ran.end (ran.target ∙ t_end) (ran.query ∙ q_end)
 

@@ -69,7 +69,7 @@ sample =
     ∷ 57 ∷ 10 ∷ []
 
 -- it may be written
-pub sample_written : write_check chain_a t_a q_b targets queries sizes_lem ≡ (Ok tt)
+pub sample_written : write_check chain_a t_a q_b targets queries sizes_lem ≡ Ok tt
 unfolding write_check names_show names_fit fields_fit row_numbers_fit spans_fit rows_fit end_of run order_from blocks_fill all_between
 sample_written = refl
 

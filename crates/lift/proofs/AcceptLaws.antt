@@ -197,7 +197,7 @@ pub ready_if : (c : Chain) (ts qs zs : List ℕ) (u : Bool) → u ≡ accepted c
 ready_if c ts qs zs u e h = ready c ts qs zs (accepted_true c (table_of ts qs zs) u e h)
 
 -- the record checker's answer as a flag
-pub accepted_if : (c : Chain) (ts qs zs : List ℕ) (x : Result ⊤ Refusal) → x ≡ record_check c ts qs zs → x ≡ (Ok tt) → true ≡ accepted c (table_of ts qs zs)
+pub accepted_if : (c : Chain) (ts qs zs : List ℕ) (x : Result ⊤ Refusal) → x ≡ record_check c ts qs zs → x ≡ Ok tt → true ≡ accepted c (table_of ts qs zs)
 unfolding record_check
 accepted_if c ts qs zs x e h = go (chain_valid c ts qs zs) refl (sym h ∙ e)
   where

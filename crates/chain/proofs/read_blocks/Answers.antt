@@ -1,12 +1,15 @@
 -- The checks, then the rows. Assumes nothing.
+use Rattle.std.proofs.lemmas.Result.{err_from_is_err_and}
 use Rattle.chain.proofs.StageLaws.{read_faulty, read_staged, read_stored}
 use Rattle.chain.proofs.read_blocks.Goals as goal
 
 pub store_rows-requires : goal.store_rows-requires
-store_rows-requires c = search read_staged
+store_rows-requires c = search (read_staged, c.in_ok-r.was)
 
-pub returns-in-Err : goal.returns-in-Err
-returns-in-Err c = search (read_faulty, read_stored)
+pub returns-in_err-r : goal.returns-in_err-r
+returns-in_err-r c =
+    let p = err_from_is_err_and c.from_residual.result c.from_residual.ensures.1 in
+    rw (p.1, p.2) (search (read_faulty, c.in_err-r.was))
 
-pub returns-in-Ok : goal.returns-in-Ok
-returns-in-Ok c = search (read_faulty, read_stored)
+pub returns : goal.returns
+returns c = search (read_stored, c.in_ok-r.was)
