@@ -1,7 +1,7 @@
 -- From the table of a block line's columns to its numbers. Assumes nothing.
 use mathlib.Core.Path.{◌≡◌, refl, sym, ◌∙◌}
 use mathlib.Core.Bool.{Bool, true, false, ◌||◌, cond}
-use mathlib.Core.List.{List, [], ◌∷◌, map}
+use mathlib.Core.List.{List, [], ◌∷◌}
 use Prim.Native.Nat.{ℕ, zero, suc, ◌*◌, ◌≤◌}
 use native.Mathlib.Omega.{arith}
 use lib.ListN.{length, replicate, get_or, take, drop, get_or-eq_default}
@@ -16,8 +16,8 @@ use Rattle.text.specs.Words.{word_count}
 use Rattle.text.proofs.CheckLaws.{words_hold}
 use Rattle.text.proofs.StageLaws.{goes, went}
 use Rattle.kinds.specs.declared.Range.TheVariants.{Coordinate, Size}
-use Rattle.kinds.specs.Codes as code
-use Rattle.kinds.specs.Kinds.{kind_of}
+use Rattle.kinds.specs.declared.Kind.{Kind}
+use Rattle.kinds.specs.declared.Kind.TheVariants.{Number}
 use Rattle.kinds.proofs.RangeLaws.{number_spelt}
 use Rattle.columns.specs.Columns.{table_of, columns_from, values_from, value_of, then_next, ColumnsWalked}
 use Rattle.columns.specs.Spells.{firsts}
@@ -34,19 +34,16 @@ use Rattle.chain.specs.Read.{is_block_count, block_words, limit_check, block_is,
 use Rattle.chain.specs.Steps.{line_check, block_one, block_size, block_target_gap, block_query_gap, LineCounted, NumbersRead, BlockRead}
 use Rattle.std.specs.Prelude.{Ok, Err, Result, ⊤}
 
--- the codes of a block line's table in the code, and what the first n of them are
-abbrev pub block_codes : List ℕ
-block_codes = code.size ∷ code.coordinate ∷ code.coordinate ∷ []
+-- the kinds of a block line's table in the code, and what the first n of them are
+abbrev pub block_kinds : List Kind
+block_kinds = Number Size ∷ Number Coordinate ∷ Number Coordinate ∷ []
 
-pub codes_same : map kind_of block_codes ≡ block_columns
-unfolding kind_of block_columns
-codes_same = refl
+pub front_length : (n : ℕ) → n ≤ column.gap_count → n ≡ length (take n block_kinds)
+front_length n h = table.front_length block_kinds (omega arith) n h
 
-pub codes_length : (n : ℕ) → n ≤ column.gap_count → n ≡ length (take n block_codes)
-codes_length n h = table.codes_length block_codes block_columns codes_same (omega arith) n h
-
-pub table_is : (n : ℕ) → n ≤ column.gap_count → table_of (take n block_codes) ≡ take n block_columns
-table_is n h = table.table_is block_codes block_columns codes_same (omega arith) n h
+pub table_is : (n : ℕ) → n ≤ column.gap_count → table_of (take n block_kinds) ≡ take n block_columns
+unfolding block_columns
+table_is n h = table.table_is block_kinds (omega arith) n h
 
 -- a good number of words is 1 or 3
 pub count_split : (n : ℕ) → is_block_count n ≡ true → (P : Type 0) → (n ≡ column.last_count → P) → (n ≡ column.gap_count → P) → P
@@ -120,15 +117,16 @@ module _ (s : List ℕ) (line n : ℕ) (counted : LineCounted s line n) where
   pub numbers_few : n ≤ column.gap_count
   numbers_few = count_most n counted.good
 
-  pub numbers_length : n ≡ length (take n block_codes)
-  numbers_length = codes_length n numbers_few
+  pub numbers_length : n ≡ length (take n block_kinds)
+  numbers_length = front_length n numbers_few
 
-module _ (s : List ℕ) (line n : ℕ) (counted : LineCounted s line n) (b' d d' : List ℕ) (x : Result ℕ Fault) (read : ColumnsWalked (table_of (take n block_codes)) s line (replicate (2 * column.gap_count) 0) b' d d' x) where
+module _ (s : List ℕ) (line n : ℕ) (counted : LineCounted s line n) (b' d d' : List ℕ) (x : Result ℕ Fault) (read : ColumnsWalked (table_of (take n block_kinds)) s line (replicate (2 * column.gap_count) 0) b' d d' x) where
   few : n ≤ column.gap_count
   few = count_most n counted.good
 
   read_is : x ≡ columns_from (take n block_columns) 0 s line
-  read_is = table.read_is block_codes block_columns codes_same (omega arith) n few s line (2 * column.gap_count) (omega (arith, few)) b' d d' x read
+  unfolding block_columns
+  read_is = table.read_is block_kinds (omega arith) n few s line (2 * column.gap_count) (omega (arith, few)) b' d d' x read
 
   pub numbers_refused : (y : Fault) → x ≡ Err y → NumbersRead s line n (Err y)
   unfolding block_numbers
@@ -141,7 +139,8 @@ module _ (s : List ℕ) (line n : ℕ) (counted : LineCounted s line n) (b' d d'
     next = sym read_is ∙ q
 
     values_same : (i : ℕ) → get_or b' i 0 ≡ get_or (values_from (take n block_columns) 0 s line) i 0
-    values_same = table.values_same block_codes block_columns codes_same (omega arith) n few s line (2 * column.gap_count) (omega (arith, few)) b' d d' x read e q
+    unfolding block_columns
+    values_same = table.values_same block_kinds (omega arith) n few s line (2 * column.gap_count) (omega (arith, few)) b' d d' x read e q
 
     block_same : block_is n b' ≡ block_is n (values_from (take n block_columns) 0 s line)
     block_same = rw (values_same (2 * column.size), values_same (2 * column.dt), values_same (2 * column.dq))

@@ -1,7 +1,7 @@
 -- The stages of reading a chain: one that stops at a fault, and one that goes on. Assumes nothing.
 use mathlib.Core.Path.{◌≡◌, refl, sym, ap, ◌∙◌}
-use mathlib.Core.Bool.{true}
-use mathlib.Core.List.{List, [], ◌∷◌, map}
+use mathlib.Core.Bool.{false}
+use mathlib.Core.List.{List, [], ◌∷◌}
 use Prim.Native.Nat.{ℕ, ◌-◌, ◌*◌, ◌+◌, ◌≤◌, ◌<◌}
 use native.Mathlib.Omega.{arith}
 use lib.ListN.{length, replicate, get_or, take, drop}
@@ -16,9 +16,10 @@ use Rattle.text.specs.Steps.{Staged}
 use Rattle.text.specs.Words.{next_line, word_count}
 use Rattle.text.proofs.Laws.{next_as}
 use Rattle.text.proofs.StageLaws.{went, staged_stops, staged_goes}
-use Rattle.kinds.specs.declared.Range.TheVariants.{Coordinate}
-use Rattle.kinds.specs.Codes as code
-use Rattle.kinds.specs.Kinds.{kind_of}
+use Rattle.kinds.specs.declared.Range.TheVariants.{Coordinate, Size, ChainScore, ChainId}
+use Rattle.kinds.specs.declared.Fixed.TheVariants as fixed
+use Rattle.kinds.specs.declared.Kind.{Kind}
+use Rattle.kinds.specs.declared.Kind.TheVariants.{Name, Number, Stranded, Word}
 use Rattle.kinds.proofs.RangeLaws.{number_spelt}
 use Rattle.columns.specs.Columns.{table_of, columns_from, values_from, value_of, place_of, then_next, ColumnsWalked}
 use Rattle.columns.specs.OneLine.{count_check, WordsWalked}
@@ -39,36 +40,32 @@ use Rattle.chain.specs.Columns as column
 use Rattle.chain.specs.Table.{chain_columns}
 use Rattle.chain.specs.Records.{chain_record, chain_targets, chain_queries, chain_sizes}
 use Rattle.chain.specs.Read.{span_check, fill_check, after_last, after_lines, after_spans, after_columns, after_words, after_text, chain_stages, chain_answer, chain_check, on_reading, on_answer, chain_roomed, chain_read, Held, InRoom, ChainRead}
-use Rattle.chain.specs.Steps.{Walked, Headed, head_values, HeadTaken, RowsStored, BlocksRead}
+use Rattle.chain.specs.Steps.{Walked, Headed, HeadTaken, RowsStored, BlocksRead}
 use Rattle.chain.proofs.AnswerLaws.{read_apart, told_read, told_same}
-use Rattle.std.specs.Prelude.{Ok, Err, Result, ⊤}
+use Rattle.std.specs.Prelude.{Ok, Err, Result, Option, Some, ⊤}
 use Rattle.ledger.specs.declared.Refusal.{Refusal}
 
--- the codes of the header's table in the code
-abbrev pub chain_codes : List ℕ
-chain_codes =
-    code.word_chain
-    ∷ code.chain_score
-    ∷ code.name
-    ∷ code.size
-    ∷ code.word_plus
-    ∷ code.coordinate
-    ∷ code.coordinate
-    ∷ code.name
-    ∷ code.size
-    ∷ code.strand
-    ∷ code.coordinate
-    ∷ code.coordinate
-    ∷ code.chain_id
+-- the kinds of the header's table in the code
+abbrev pub chain_kinds : List Kind
+chain_kinds =
+    Word fixed.Chain
+    ∷ Number ChainScore
+    ∷ Name
+    ∷ Number Size
+    ∷ Word fixed.Plus
+    ∷ Number Coordinate
+    ∷ Number Coordinate
+    ∷ Name
+    ∷ Number Size
+    ∷ Stranded false
+    ∷ Number Coordinate
+    ∷ Number Coordinate
+    ∷ Number ChainId
     ∷ []
 
-pub codes_same : map kind_of chain_codes ≡ chain_columns
-unfolding kind_of chain_columns
-codes_same = refl
-
-pub table_is : table_of chain_codes ≡ chain_columns
+pub table_is : table_of chain_kinds ≡ chain_columns
 unfolding chain_columns
-table_is = table.table_is chain_codes chain_columns codes_same (omega arith) column.header_count (omega arith)
+table_is = table.table_is chain_kinds (omega arith) column.header_count (omega arith)
 
 -- the blocks, and a surplus line
 module _ (s vs : List ℕ) (e : Ending) (c : Result ⊤ Fault) where
@@ -196,7 +193,7 @@ line_faulty (Ok tt) (Ok e) y rest q = absurd (let z : ◌≡◌ {A = ℕ} 0 1 = 
 line_faulty (Ok tt) (Err x) y rest q = cc
 line_faulty (Err x) d y rest q = cc
 
-module _ (s rows b' d d' : List ℕ) (long : length rows ≡ 3 * block_limit) (x : Result ℕ Fault) (read : WordsWalked (table_of chain_codes) s (replicate (2 * column.header_count) 0) b' d d' x) where
+module _ (s rows b' d d' : List ℕ) (long : length rows ≡ 3 * block_limit) (x : Result ℕ Fault) (read : WordsWalked (table_of chain_kinds) s (replicate (2 * column.header_count) 0) b' d d' x) where
   read_is : x ≡ then_check Err (count_check s 0 column.header_count) (columns_from chain_columns 0 s 0)
   unfolding chain_columns
   read_is = rw table_is at read.result
@@ -205,12 +202,12 @@ module _ (s rows b' d d' : List ℕ) (long : length rows ≡ 3 * block_limit) (x
     both_read : (count_check s 0 column.header_count ≡ Ok tt) × (columns_from chain_columns 0 s 0 ≡ Ok e)
     both_read = line_then (count_check s 0 column.header_count) (columns_from chain_columns 0 s 0) e (sym read_is ∙ q)
 
-    walked : ColumnsWalked (table_of chain_codes) s 0 (replicate (2 * column.header_count) 0) b' d d' (Ok e)
+    walked : ColumnsWalked (table_of chain_kinds) s 0 (replicate (2 * column.header_count) 0) b' d d' (Ok e)
     walked = record { result = rw table_is (sym both_read.1); stored = λ f p. read.stored e q; held = λ f p. read.held e q }
 
     values_same : (i : ℕ) → get_or b' i 0 ≡ get_or (values_from chain_columns 0 s 0) i 0
     unfolding chain_columns
-    values_same = table.values_same chain_codes chain_columns codes_same (omega arith) column.header_count (omega arith) s 0 (2 * column.header_count) (omega arith) b' d d' (Ok e) walked e refl
+    values_same = table.values_same chain_kinds (omega arith) column.header_count (omega arith) s 0 (2 * column.header_count) (omega arith) b' d d' (Ok e) walked e refl
 
     pub words_headed : Headed s e b' rows
     words_headed =
@@ -232,21 +229,21 @@ module _ (s rows b' d d' : List ℕ) (long : length rows ≡ 3 * block_limit) (x
       staged_stops Err read_apart y (line_faulty (count_check s 0 column.header_count) (columns_from chain_columns 0 s 0) y (after_columns s (values_from chain_columns 0 s 0)) (sym read_is ∙ q))
 
 -- the header taken in one pass
-module _ (s : List ℕ) (x : Head) (taken : HeadTaken s x) (good : x.good ≡ true) where
-  pub head_headed : (vs rows : List ℕ) → vs ≡ head_values x → length rows ≡ 3 * block_limit → Headed s x.id.end vs rows
-  head_headed vs rows ev long =
-      let count = taken.count good in
-      let read = taken.read good in
+module _ (s : List ℕ) (r : Option Head) (taken : HeadTaken s r) (x : Head) (g : r ≡ Some x) where
+  pub head_headed : (rows : List ℕ) → length rows ≡ 3 * block_limit → Headed s x.end x.values rows
+  head_headed rows long =
+      let count = taken.count x g in
+      let read = taken.read x g in
       record {
-        line = (walk_through chain_columns 0 s 0 x.id.end read).line;
-        target = rw (ev ∙ sym (taken.values good)) (target_low s x.id.end count read);
-        query = rw (ev ∙ sym (taken.values good)) (query_low s x.id.end count read);
+        line = (walk_through chain_columns 0 s 0 x.end read).line;
+        target = rw (← (taken.values x g)) (target_low s x.end count read);
+        query = rw (← (taken.values x g)) (query_low s x.end count read);
         long = long;
       }
 
-  pub head_on : (vs l : List ℕ) (a : Result Chain Fault) → vs ≡ head_values x → Staged Ok (Held s) (after_columns s vs) l a → Staged Ok (Held s) (after_text s) l a
+  pub head_on : (l : List ℕ) (a : Result Chain Fault) → Staged Ok (Held s) (after_columns s x.values) l a → Staged Ok (Held s) (after_text s) l a
   unfolding after_text after_words
-  head_on vs l a ev h = staged_goes a (rw (count_is s 0 column.header_count (taken.count good), taken.read good, taken.values good, ev)) h
+  head_on l a h = staged_goes a (rw (count_is s 0 column.header_count (taken.count x g), taken.read x g, taken.values x g)) h
 
 module _ (s : List ℕ) (c : Result ⊤ Fault) (ec : c ≡ text_check s) where
   pub text_faulty : (l : List ℕ) (x : Fault) → c ≡ Err x → Staged Ok (Held s) (chain_stages s) l (Err x)

@@ -28,8 +28,8 @@ use Rattle.chain.specs.Table.{chain_columns, block_columns}
 use Rattle.chain.specs.Tests.{names_fit, fields_fit}
 use Rattle.chain.specs.Write.{names_show, write_check, head_words, fed_words, gap_to, gap_words, block_text, chain_text, chain_write, ChainWrote}
 use Rattle.chain.specs.Steps.{chain_values, text_of, Writable}
-use Rattle.chain.proofs.BlockLaws.{block_codes, table_is}
-use Rattle.chain.proofs.StageLaws.{chain_codes}
+use Rattle.chain.proofs.BlockLaws.{block_kinds, table_is}
+use Rattle.chain.proofs.StageLaws.{chain_kinds}
 use Rattle.chain.proofs.StageLaws as stages
 use Rattle.columns.specs.Names.{length_fits, names_in, NamesPut}
 use Rattle.columns.proofs.NameLaws.{names_put}
@@ -37,7 +37,7 @@ use Rattle.columns.proofs.WordLaws.{letter_byte}
 use Rattle.std.specs.Prelude.{Ok, Err, Result, ⊤}
 
 -- a block line
-pub block_put : (n at r : ℕ) (names vs ls b b' : List ℕ) → n ≤ column.gap_count → Put (fed_line (table_of (take n block_codes)) 32 names vs ls) at b b' r → Put (fed_line (take n block_columns) 32 names vs ls) at b b' r
+pub block_put : (n at r : ℕ) (names vs ls b b' : List ℕ) → n ≤ column.gap_count → Put (fed_line (table_of (take n block_kinds)) 32 names vs ls) at b b' r → Put (fed_line (take n block_columns) 32 names vs ls) at b b' r
 block_put n at r names vs ls b b' h f = rw (table_is n h) at f
 
 module _ (z dt dq : ℕ) where
@@ -89,7 +89,7 @@ module _ (ts qs zs : List ℕ) (at last : ℕ) (b₀ : List ℕ) where
         l.rest b₁ r (rw (line_end h) g)
 
 -- the header's line and the block lines
-pub text_put : (names vs ts qs zs : List ℕ) (n p r : ℕ) (b b₁ b₂ : List ℕ) → Put (fed_line (table_of chain_codes) 32 names vs []) 0 b b₁ p → Put (block_text (n - 1) 0 ts qs zs) p b₁ b₂ r → Put (text_of names vs n ts qs zs) 0 b b₂ r
+pub text_put : (names vs ts qs zs : List ℕ) (n p r : ℕ) (b b₁ b₂ : List ℕ) → Put (fed_line (table_of chain_kinds) 32 names vs []) 0 b b₁ p → Put (block_text (n - 1) 0 ts qs zs) p b₁ b₂ r → Put (text_of names vs n ts qs zs) 0 b b₂ r
 unfolding text_of
 text_put names vs ts qs zs n p r b b₁ b₂ f g = put_then (rw (stages.table_is) at f) g
 

@@ -1,5 +1,5 @@
 -- For private contracts: what the steps of reading and writing a chain promise. Not a definition of the format.
-use Rattle.std.specs.Prelude.{ℕ, ◌-◌, ◌*◌, ◌≤◌, ◌<◌, ◌≡◌, true, List, [], ◌∷◌, ◌++◌, length, take, drop, Ok, Err, Result, ⊤}
+use Rattle.std.specs.Prelude.{ℕ, ◌-◌, ◌*◌, ◌≤◌, ◌<◌, ◌≡◌, true, List, [], ◌∷◌, ◌++◌, length, take, drop, Ok, Err, Result, Option, Some, ⊤}
 use Rattle.ledger.specs.Limits.{name_limit, block_limit, largest_position}
 use Rattle.ledger.specs.Strands.{strand_letter}
 use Rattle.text.specs.Checks.{then_check, room_check}
@@ -17,7 +17,6 @@ use Rattle.chain.specs.declared.BlockLine.TheVariants.{Last, Gap}
 use Rattle.chain.specs.declared.Ending.{Ending}
 use Rattle.chain.specs.declared.Head.{Head}
 use Rattle.chain.specs.declared.Quick.{Quick}
-use Rattle.chain.specs.declared.Rest.{Rest}
 use Rattle.chain.specs.declared.Step.{Step}
 use Rattle.chain.specs.Columns as column
 use Rattle.chain.specs.Table.{chain_columns}
@@ -71,30 +70,30 @@ pub record BlockRead (s : List ℕ) (line k : ℕ) (r : Result BlockLine Fault) 
   pub target_gap : block_target_gap r ≤ largest_position
   pub query_gap : block_query_gap r ≤ largest_position
 
--- what taking the number of a word promises: where it is good, it is what the word at or after a place spells, and ends
+-- what taking the number of a word promises: where one is taken, it is what the word at or after a place spells, and ends
 -- with the word
-pub record WordTaken (least : ℕ) (s : List ℕ) (at : ℕ) (r : Taken) : Type 0 where
-  pub means : r.good ≡ true → number_of least largest_position (bytes_of s (next_word s at)) ≡ Ok r.value
-  pub ends : r.good ≡ true → r.end ≡ (next_word s at).end
-  pub some : r.good ≡ true → (next_word s at).start < (next_word s at).end
-  pub small : r.good ≡ true → r.value ≤ largest_position
+pub record WordTaken (least : ℕ) (s : List ℕ) (at : ℕ) (r : Option Taken) : Type 0 where
+  pub means : (x : Taken) → r ≡ Some x → number_of least largest_position (bytes_of s (next_word s at)) ≡ Ok x.value
+  pub ends : (x : Taken) → r ≡ Some x → x.end ≡ (next_word s at).end
+  pub some : (x : Taken) → r ≡ Some x → (next_word s at).start < (next_word s at).end
+  pub small : (x : Taken) → r ≡ Some x → x.value ≤ largest_position
 
--- what seeing the rest of a line promises: where it is bare, no word follows, and the next line is known
-pub record RestSeen (s : List ℕ) (at : ℕ) (r : Rest) : Type 0 where
-  pub none : r.bare ≡ true → (next_word s at).start ≡ (next_word s at).end
-  pub next : r.bare ≡ true → r.next ≡ next_line s at
+-- what seeing the rest of a line promises: where the next line is told, no word follows
+pub record RestSeen (s : List ℕ) (at : ℕ) (r : Option ℕ) : Type 0 where
+  pub none : (x : ℕ) → r ≡ Some x → (next_word s at).start ≡ (next_word s at).end
+  pub next : (x : ℕ) → r ≡ Some x → x ≡ next_line s at
 
--- what taking a block line in one pass promises: where it is good, it is the block line
-pub record GapTaken (s : List ℕ) (line : ℕ) (r : Quick) : Type 0 where
-  pub is : r.good ≡ true → block_line s line ≡ Ok (Gap r.size r.dt r.dq)
-  pub next : r.good ≡ true → r.next ≡ next_line s line
-  pub size : r.good ≡ true → r.size ≤ largest_position
-  pub target_gap : r.good ≡ true → r.dt ≤ largest_position
-  pub query_gap : r.good ≡ true → r.dq ≤ largest_position
+-- what taking a block line in one pass promises: what is taken is the block line
+pub record GapTaken (s : List ℕ) (line : ℕ) (r : Option Quick) : Type 0 where
+  pub is : (x : Quick) → r ≡ Some x → block_line s line ≡ Ok (Gap x.size x.dt x.dq)
+  pub next : (x : Quick) → r ≡ Some x → x.next ≡ next_line s line
+  pub size : (x : Quick) → r ≡ Some x → x.size ≤ largest_position
+  pub target_gap : (x : Quick) → r ≡ Some x → x.dt ≤ largest_position
+  pub query_gap : (x : Quick) → r ≡ Some x → x.dq ≤ largest_position
 
-pub record LastTaken (s : List ℕ) (line : ℕ) (r : Taken) : Type 0 where
-  pub is : r.good ≡ true → block_line s line ≡ Ok (Last r.value)
-  pub size : r.good ≡ true → r.value ≤ largest_position
+pub record LastTaken (s : List ℕ) (line : ℕ) (r : Option ℕ) : Type 0 where
+  pub is : (z : ℕ) → r ≡ Some z → block_line s line ≡ Ok (Last z)
+  pub size : (z : ℕ) → r ≡ Some z → z ≤ largest_position
 
 -- and what reading a block line with the place of the next promises, where k blocks may still come
 pub record StepRead (s : List ℕ) (line k : ℕ) (r : Step) : Type 0 where
@@ -128,29 +127,11 @@ pub record Headed (s : List ℕ) (end : ℕ) (vs rows : List ℕ) : Type 0 where
   pub query : value_of vs column.q_start ≤ largest_position
   pub long : length rows ≡ 3 * block_limit
 
--- the columns' values and places of a header taken in one pass
-abbrev pub head_values : Head → List ℕ
-head_values x =
-    x.word.value ∷ x.word.start
-    ∷ x.score.value ∷ x.score.start
-    ∷ x.tName.value ∷ x.tName.start
-    ∷ x.tSize.value ∷ x.tSize.start
-    ∷ x.tStrand.value ∷ x.tStrand.start
-    ∷ x.tStart.value ∷ x.tStart.start
-    ∷ x.tEnd.value ∷ x.tEnd.start
-    ∷ x.qName.value ∷ x.qName.start
-    ∷ x.qSize.value ∷ x.qSize.start
-    ∷ x.qStrand.value ∷ x.qStrand.start
-    ∷ x.qStart.value ∷ x.qStart.start
-    ∷ x.qEnd.value ∷ x.qEnd.start
-    ∷ x.id.value ∷ x.id.start
-    ∷ []
-
--- what taking it promises: where it is good, its number of words is, and its columns are read
-pub record HeadTaken (s : List ℕ) (x : Head) : Type 0 where
-  pub count : x.good ≡ true → word_count s 0 ≡ column.header_count
-  pub read : x.good ≡ true → columns_from chain_columns 0 s 0 ≡ Ok x.id.end
-  pub values : x.good ≡ true → values_from chain_columns 0 s 0 ≡ head_values x
+-- what taking a header in one pass promises: where one is taken, the line has a header's number of words, and its columns are read
+pub record HeadTaken (s : List ℕ) (r : Option Head) : Type 0 where
+  pub count : (x : Head) → r ≡ Some x → word_count s 0 ≡ column.header_count
+  pub read : (x : Head) → r ≡ Some x → columns_from chain_columns 0 s 0 ≡ Ok x.end
+  pub values : (x : Head) → r ≡ Some x → values_from chain_columns 0 s 0 ≡ x.values
 
 -- what storing the rows of a chain promises, the room first
 abbrev pub RowsStored : List ℕ → Chain → List ℕ → List ℕ → List ℕ → List ℕ → List ℕ → List ℕ → Result Chain Fault → Type 0

@@ -45,7 +45,6 @@ ghost use Rattle.chain.specs.Steps.{
   Begins,
   Walked,
   Headed,
-  head_values,
   HeadTaken,
   RowsStored,
   BlocksRead,
@@ -54,7 +53,6 @@ ghost use Rattle.chain.specs.Steps.{
   Writable,
 };
 
-use columns::Got;
 use kinds::{Fixed, Kind, Range};
 use ledger::{Fault, Part, Reason, Refusal, Strand};
 use numbers::Taken;
@@ -129,24 +127,28 @@ const GAP_COLUMNS: usize = 3;
 
 const LAST_COLUMNS: usize = 1;
 
-// The kinds of specs/Table.antt's columns, by their codes.
-const CHAIN: [u8; COLUMNS] = [
-    kinds::WORD_CHAIN,
-    kinds::CHAIN_SCORE,
-    kinds::NAME,
-    kinds::SIZE,
-    kinds::WORD_PLUS,
-    kinds::COORDINATE,
-    kinds::COORDINATE,
-    kinds::NAME,
-    kinds::SIZE,
-    kinds::STRAND,
-    kinds::COORDINATE,
-    kinds::COORDINATE,
-    kinds::CHAIN_ID,
+// The kinds of specs/Table.antt's columns.
+const CHAIN: [Kind; COLUMNS] = [
+    Kind::Word(Fixed::Chain),
+    Kind::Number(Range::ChainScore),
+    Kind::Name,
+    Kind::Number(Range::Size),
+    Kind::Word(Fixed::Plus),
+    Kind::Number(Range::Coordinate),
+    Kind::Number(Range::Coordinate),
+    Kind::Name,
+    Kind::Number(Range::Size),
+    Kind::Stranded(false),
+    Kind::Number(Range::Coordinate),
+    Kind::Number(Range::Coordinate),
+    Kind::Number(Range::ChainId),
 ];
 
-const BLOCK: [u8; GAP_COLUMNS] = [kinds::SIZE, kinds::COORDINATE, kinds::COORDINATE];
+const BLOCK: [Kind; GAP_COLUMNS] = [
+    Kind::Number(Range::Size),
+    Kind::Number(Range::Coordinate),
+    Kind::Number(Range::Coordinate),
+];
 
 // What a caller is told of a reading: the one place where a fault becomes a refusal.
 fn answered(x: Result<Chain, Fault>) -> Result<Chain, Refusal>
@@ -274,74 +276,56 @@ fn read_block(text: &[u8], line: usize, left: u64) -> Result<BlockLine, Fault>
 }
 
 // A number of at least so much, and at most a coordinate, in the word at or after a place.
-fn take_number(text: &[u8], at: usize, least: u64) -> Taken
+fn take_number(text: &[u8], at: usize, least: u64) -> Option<Taken>
     ensures { WordTaken least text.now at result }
 {
     let a = text::scan(text, at, Class::Blank);
     numbers::number_at(text, a, least, ledger::Position::LARGEST)
 }
 
-// What follows a place on its line: whether no word does, and then where the next line begins.
-#[derive(Clone, Copy)]
-pub struct Rest {
-    pub bare: bool,
-    pub next: usize,
-}
-
-fn rest_of(text: &[u8], at: usize) -> Rest
+// Where the next line begins, if no word follows a place on its line.
+fn rest_of(text: &[u8], at: usize) -> Option<usize>
     ensures { RestSeen text.now at result }
 {
     let e = text::scan(text, at, Class::Blank);
     if text.len() <= e {
-        return Rest {
-            bare: true,
-            next: e,
-        };
+        return Some(e);
     }
-    Rest {
-        bare: text[e] == b'\n',
-        next: e + 1,
-    }
+    (text[e] == b'\n').then_some(e + 1)
 }
 
-// A block line with gaps, taken in one pass, and where the next line begins. Where it is not good, the line has to be
-// read with more care.
+// A block line with gaps, taken in one pass, and where the next line begins. Where none is taken, the line has to be read with
+// more care.
 #[derive(Clone, Copy)]
 pub struct Quick {
-    pub good: bool,
     pub size: u64,
     pub dt: u64,
     pub dq: u64,
     pub next: usize,
 }
 
-fn quick_gap(text: &[u8], line: usize) -> Quick
+fn quick_gap(text: &[u8], line: usize) -> Option<Quick>
     ensures { GapTaken text.now line result }
 {
-    let a = take_number(text, line, 1);
-    let b = take_number(text, a.end, 0);
-    let c = take_number(text, b.end, 0);
-    let r = rest_of(text, c.end);
-    Quick {
-        good: a.good & (b.good & (c.good & r.bare)),
+    let a = take_number(text, line, 1)?;
+    let b = take_number(text, a.end, 0)?;
+    let c = take_number(text, b.end, 0)?;
+    let next = rest_of(text, c.end)?;
+    Some(Quick {
         size: a.value,
         dt: b.value,
         dq: c.value,
-        next: r.next,
-    }
+        next,
+    })
 }
 
-// The last block line in one pass.
-fn quick_last(text: &[u8], line: usize) -> Taken
+// The size of the last block line, taken in one pass.
+fn quick_last(text: &[u8], line: usize) -> Option<u64>
     ensures { LastTaken text.now line result }
 {
-    let a = take_number(text, line, 1);
-    let r = rest_of(text, a.end);
-    Taken {
-        good: a.good & r.bare,
-        value: a.value,
-        end: a.end,
-    }
+    let a = take_number(text, line, 1)?;
+    rest_of(text, a.end)?;
+    Some(a.value)
 }
 
 // A block line, and where the next line begins if one has to.
@@ -366,17 +350,15 @@ fn take_step(text: &[u8], line: usize, left: u64) -> Step
     if left < 1 {
         return read_step(text, line, left);
     }
-    let x = quick_gap(text, line);
-    if x.good {
+    if let Some(x) = quick_gap(text, line) {
         let block = Ok(BlockLine::Gap(x.size, x.dt, x.dq));
         return Step {
             block,
             next: x.next,
         };
     }
-    let y = quick_last(text, line);
-    if y.good {
-        let block = Ok(BlockLine::Last(y.value));
+    if let Some(size) = quick_last(text, line) {
+        let block = Ok(BlockLine::Last(size));
         return Step { block, next: line };
     }
     read_step(text, line, left)
@@ -483,95 +465,64 @@ fn after_columns(text: &[u8], end: usize, values: &[u64], rows: &mut [u64]) -> R
     after_spans(text, end, values, rows)
 }
 
-// A header taken in one pass: whether it is good, and then its columns.
+// A header taken in one pass: its columns' values and places, and where its last word ends. Where none is taken, the header
+// has to be read with more care.
 #[derive(Clone, Copy)]
 pub struct Head {
-    pub good: bool,
-    pub word: Got,
-    pub score: Got,
-    pub tName: Got,
-    pub tSize: Got,
-    pub tStrand: Got,
-    pub tStart: Got,
-    pub tEnd: Got,
-    pub qName: Got,
-    pub qSize: Got,
-    pub qStrand: Got,
-    pub qStart: Got,
-    pub qEnd: Got,
-    pub id: Got,
+    pub values: [u64; 2 * COLUMNS],
+    pub end: usize,
 }
 
-fn quick_head(text: &[u8]) -> Head
+// The words of the columns stand at w0 to w12.
+fn quick_head(text: &[u8]) -> Option<Head>
     ensures { HeadTaken text.now result }
 {
-    let word = columns::take_field(Kind::Word(Fixed::Chain), text, 0);
-    let score = columns::take_number(Range::ChainScore, text, word.end);
-    let tName = columns::take_field(Kind::Name, text, score.end);
-    let tSize = columns::take_number(Range::Size, text, tName.end);
-    let tStrand = columns::take_field(Kind::Word(Fixed::Plus), text, tSize.end);
-    let tStart = columns::take_number(Range::Coordinate, text, tStrand.end);
-    let tEnd = columns::take_number(Range::Coordinate, text, tStart.end);
-    let qName = columns::take_field(Kind::Name, text, tEnd.end);
-    let qSize = columns::take_number(Range::Size, text, qName.end);
-    let qStrand = columns::take_field(Kind::Stranded(false), text, qSize.end);
-    let qStart = columns::take_number(Range::Coordinate, text, qStrand.end);
-    let qEnd = columns::take_number(Range::Coordinate, text, qStart.end);
-    let id = columns::take_number(Range::ChainId, text, qEnd.end);
-    let rest = rest_of(text, id.end);
-    let target = score.good
-        & (tName.good & (tSize.good & (tStrand.good & (tStart.good & tEnd.good))));
-    let query = qName.good & (qSize.good & (qStrand.good & (qStart.good & (qEnd.good & id.good))));
-    Head {
-        good: (word.good & target) & (query & rest.bare),
+    let (word, w0) = columns::take_field(Kind::Word(Fixed::Chain), text, 0)?;
+    let (score, w1) = columns::take_number(Range::ChainScore, text, w0.end)?;
+    let (tName, w2) = columns::take_field(Kind::Name, text, w1.end)?;
+    let (tSize, w3) = columns::take_number(Range::Size, text, w2.end)?;
+    let (tStrand, w4) = columns::take_field(Kind::Word(Fixed::Plus), text, w3.end)?;
+    let (tStart, w5) = columns::take_number(Range::Coordinate, text, w4.end)?;
+    let (tEnd, w6) = columns::take_number(Range::Coordinate, text, w5.end)?;
+    let (qName, w7) = columns::take_field(Kind::Name, text, w6.end)?;
+    let (qSize, w8) = columns::take_number(Range::Size, text, w7.end)?;
+    let (qStrand, w9) = columns::take_field(Kind::Stranded(false), text, w8.end)?;
+    let (qStart, w10) = columns::take_number(Range::Coordinate, text, w9.end)?;
+    let (qEnd, w11) = columns::take_number(Range::Coordinate, text, w10.end)?;
+    let (id, w12) = columns::take_number(Range::ChainId, text, w11.end)?;
+    rest_of(text, w12.end)?;
+    let values = [
         word,
+        w0.start as u64,
         score,
+        w1.start as u64,
         tName,
+        w2.start as u64,
         tSize,
+        w3.start as u64,
         tStrand,
+        w4.start as u64,
         tStart,
+        w5.start as u64,
         tEnd,
+        w6.start as u64,
         qName,
+        w7.start as u64,
         qSize,
+        w8.start as u64,
         qStrand,
+        w9.start as u64,
         qStart,
+        w10.start as u64,
         qEnd,
+        w11.start as u64,
         id,
-    }
-}
-
-// Its columns' values and places.
-fn head_values(x: Head) -> [u64; 2 * COLUMNS]
-    ensures { result ≡ head_values x }
-{
-    [
-        x.word.value,
-        x.word.start as u64,
-        x.score.value,
-        x.score.start as u64,
-        x.tName.value,
-        x.tName.start as u64,
-        x.tSize.value,
-        x.tSize.start as u64,
-        x.tStrand.value,
-        x.tStrand.start as u64,
-        x.tStart.value,
-        x.tStart.start as u64,
-        x.tEnd.value,
-        x.tEnd.start as u64,
-        x.qName.value,
-        x.qName.start as u64,
-        x.qSize.value,
-        x.qSize.start as u64,
-        x.qStrand.value,
-        x.qStrand.start as u64,
-        x.qStart.value,
-        x.qStart.start as u64,
-        x.qEnd.value,
-        x.qEnd.start as u64,
-        x.id.value,
-        x.id.start as u64,
-    ]
+        w12.start as u64,
+    ];
+    Some(Head {
+        values,
+        end: w12.end,
+    })
 }
 
 // The header's number of words, its columns from the left, and on.
@@ -579,10 +530,8 @@ fn after_text(text: &[u8], rows: &mut [u64]) -> Result<Chain, Fault>
     requires { length rows.old ≡ 3 * block_limit }
     ensures { Staged Ok (Held text.now) (after_text text.now) rows.new result }
 {
-    let q = quick_head(text);
-    if q.good {
-        let values = head_values(q);
-        return after_columns(text, q.id.end, &values, rows);
+    if let Some(q) = quick_head(text) {
+        return after_columns(text, q.end, &q.values, rows);
     }
     let table = CHAIN;
     let mut values = [0u64; 2 * COLUMNS];

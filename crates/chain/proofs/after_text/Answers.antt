@@ -4,10 +4,10 @@ use Rattle.chain.proofs.StageLaws.{head_headed, head_on, words_headed, words_fau
 use Rattle.chain.proofs.after_text.Goals as goal
 
 pub after_columns-requires : goal.after_columns-requires
-after_columns-requires c = search head_headed
+after_columns-requires c = search (head_headed, c.in-Some.is)
 
-pub returns-then-q : goal.returns-then-q
-returns-then-q c = search head_on
+pub returns-in-Some : goal.returns-in-Some
+returns-in-Some c = search (head_on, c.in-Some.is)
 
 pub after_columns-requires-2 : goal.after_columns-requires-2
 after_columns-requires-2 c = search (words_headed, c.in_ok-e.was)

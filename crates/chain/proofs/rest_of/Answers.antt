@@ -6,4 +6,4 @@ pub returns-then-text-e : goal.returns-then-text-e
 returns-then-text-e c = search rest_end
 
 pub returns : goal.returns
-returns c = search rest_feed
+returns c = rw c.then_some.ensures (search rest_feed)

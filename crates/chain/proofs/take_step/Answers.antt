@@ -2,8 +2,8 @@
 use Rattle.chain.proofs.QuickLaws.{step_gap, step_last}
 use Rattle.chain.proofs.take_step.Goals as goal
 
-pub returns-then-x : goal.returns-then-x
-returns-then-x c = search step_gap
+pub returns-in-Some : goal.returns-in-Some
+returns-in-Some c = search (step_gap, c.in-Some.is)
 
-pub returns-then-y : goal.returns-then-y
-returns-then-y c = search step_last
+pub returns-in-Some-quick_last : goal.returns-in-Some-quick_last
+returns-in-Some-quick_last c = search (step_last, c.in-Some-quick_last.is)
