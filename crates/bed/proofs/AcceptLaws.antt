@@ -7,6 +7,8 @@ use native.Mathlib.Omega.{arith}
 use lib.ListN.{length, take}
 use lib.Dec.{ltb}
 use borrow.Author.Tests.{lt-ltb, le-ltb, ltb-true, ne_eqb}
+use Rattle.std.specs.Prelude.{Ok, Err, Result, ⊤}
+use Rattle.ledger.specs.declared.Fault.{Fault}
 use Rattle.text.specs.Checks.{then_check, text_check, last_line_check}
 use Rattle.text.specs.Words.{word_at, word_count, bytes_of}
 use Rattle.text.proofs.CheckLaws.{words_hold}
@@ -22,8 +24,6 @@ use Rattle.bed.specs.Read.{bed_words_check, thick_fits, span_check, block_check,
 use Rattle.bed.specs.Rules.{WordNumber}
 use Rattle.bed.proofs.ReadLaws.{read_apart, checked_of, checked_is}
 use Rattle.bed.proofs.ColumnLaws.{number_of_lem, by_number, all_columns, block_sizes_lem, block_starts_lem}
-use Rattle.std.specs.Prelude.{Ok, Err, Result, ⊤}
-use Rattle.ledger.specs.declared.Fault.{Fault}
 
 -- the values of a line: two numbers for each of its words
 abbrev pub line_values : List ℕ → List ℕ
@@ -31,17 +31,17 @@ line_values s = values_from (take (word_count s 0) bed_columns) 0 s 0
 
 -- what the row of checks found of a line that is accepted with the record r
 pub record Accepts (s : List ℕ) (r : Bed) : Type 0 where
-  pub text : text_check s ≡ (Ok tt)
-  pub number : bed_words_check s (word_count s 0) ≡ (Ok tt)
+  pub text : text_check s ≡ Ok tt
+  pub number : bed_words_check s (word_count s 0) ≡ Ok tt
   pub end : ℕ
   pub read : columns_from (take (word_count s 0) bed_columns) 0 s 0 ≡ Ok end
-  pub line : last_line_check s 0 ≡ (Ok tt)
+  pub line : last_line_check s 0 ≡ Ok tt
   pub is : r ≡ bed_record (word_count s 0) (length s) (line_values s)
-  pub spans : span_check r (line_values s) ≡ (Ok tt)
-  pub blocks : block_check s r ≡ (Ok tt)
+  pub spans : span_check r (line_values s) ≡ Ok tt
+  pub blocks : block_check s r ≡ Ok tt
 
 -- a stage that reads: its check passed, and the rest reads
-check_then : (c : Result ⊤ Fault) (rest : Result Bed Fault) (r : Bed) → then_check Err c rest ≡ Ok r → (c ≡ (Ok tt)) × (rest ≡ Ok r)
+check_then : (c : Result ⊤ Fault) (rest : Result Bed Fault) (r : Bed) → then_check Err c rest ≡ Ok r → (c ≡ Ok tt) × (rest ≡ Ok r)
 check_then c rest r = went Err c rest (Ok r) (read_apart r)
 
 record Went (c : Result ℕ Fault) (rest : Result Bed Fault) (r : Bed) : Type 0 where
@@ -73,18 +73,18 @@ module _ (s : List ℕ) (r : Bed) where
   accepts_is a = checked_is s r (rw (a.text, a.number, a.read, a.line, ← a.is, a.spans, a.blocks))
 
 -- the checks one by one
-pub words_of_lem : (s : List ℕ) (n : ℕ) → bed_words_check s n ≡ (Ok tt) → WordNumber n
+pub words_of_lem : (s : List ℕ) (n : ℕ) → bed_words_check s n ≡ Ok tt → WordNumber n
 words_of_lem s n e = number_of_lem n (words_hold s 0 n column.all (is_word_count n) e).1
 
-pub span_of : (r : Bed) (vs : List ℕ) → span_check r vs ≡ (Ok tt) → r.chromStart < r.chromEnd
+pub span_of : (r : Bed) (vs : List ℕ) → span_check r vs ≡ Ok tt → r.chromStart < r.chromEnd
 unfolding span_check
 span_of r vs e = ltb-true r.chromStart r.chromEnd (require_passes (ltb r.chromStart r.chromEnd) _ _ e).0
 
-pub thick_of : (r : Bed) (vs : List ℕ) → span_check r vs ≡ (Ok tt) → thick_fits r ≡ true
+pub thick_of : (r : Bed) (vs : List ℕ) → span_check r vs ≡ Ok tt → thick_fits r ≡ true
 unfolding span_check
 thick_of r vs e = (require_passes (thick_fits r) _ _ (require_passes (ltb r.chromStart r.chromEnd) _ _ e).1).0
 
-pub fill_of : (s : List ℕ) (r : Bed) → block_check s r ≡ (Ok tt) → blocks_fill 0 (r.chromEnd - r.chromStart) (bed_starts s r) (bed_sizes s r) ≡ true
+pub fill_of : (s : List ℕ) (r : Bed) → block_check s r ≡ Ok tt → blocks_fill 0 (r.chromEnd - r.chromStart) (bed_starts s r) (bed_sizes s r) ≡ true
 unfolding block_check
 fill_of s r e = (require_passes _ (Ok tt) _ e).0
 

@@ -8,6 +8,7 @@ use lib.ListN.{length, replicate, get_or, take, drop, length-take}
 use lib.Seq.{sets}
 use lib.Dec.{leb, eqb}
 use borrow.Author.Tests.{lt-ltb, le-ltb, le-leb, leb-true, eqb-true, not-false}
+use Rattle.std.specs.Prelude.{Ok, Err, Result, ⊤}
 use Rattle.ledger.specs.Limits.{block_limit, largest_position}
 use Rattle.ledger.specs.declared.Fault.{Fault}
 use Rattle.text.specs.Checks.{then_check, text_check, words_check}
@@ -43,7 +44,6 @@ use Rattle.bed.specs.Read.{span_check, after_columns, after_words, after_text, b
 use Rattle.bed.specs.Rules.{WordNumber, three_to_nine, twelve}
 use Rattle.bed.specs.Steps.{Counted, Listed, Blocked, is_few, QuickStaged}
 use Rattle.bed.proofs.ReadLaws.{read_apart}
-use Rattle.std.specs.Prelude.{Ok, Err, Result, ⊤}
 use Rattle.bed.specs.declared.Bed.{Bed}
 
 -- the codes of the table in the code
@@ -270,19 +270,19 @@ words_length s n d h = codes_length bed_codes bed_columns codes_same codes_few n
 
 -- the number of words
 module _ (s : List ℕ) (n : ℕ) (en : n ≡ word_count s 0) (t : Bool) (et : t ≡ is_word_count n) (c : Result ⊤ Fault) (ec : c ≡ words_check s 0 n column.all t) where
-  pub words_counted : (d : List ℕ) → length d ≡ 2 * block_limit → c ≡ (Ok tt) → Counted s n d
+  pub words_counted : (d : List ℕ) → length d ≡ 2 * block_limit → c ≡ Ok tt → Counted s n d
   words_counted d l q = record { long = l; count = en; good = sym et ∙ (words_hold s 0 n column.all t (sym ec ∙ q)).1 }
 
   pub text_stop : (l : List ℕ) (x : Fault) → c ≡ Err x → Staged Ok (Blocked block_limit s) (after_text s) l (Err x)
   unfolding after_text
   text_stop l x q = staged_stops Err read_apart x (rw (← en, ← et, ← ec, q))
 
-  pub text_on : (l : List ℕ) (a : Result Bed Fault) → c ≡ (Ok tt) → Staged Ok (Blocked block_limit s) (after_words s n) l a → Staged Ok (Blocked block_limit s) (after_text s) l a
+  pub text_on : (l : List ℕ) (a : Result Bed Fault) → c ≡ Ok tt → Staged Ok (Blocked block_limit s) (after_words s n) l a → Staged Ok (Blocked block_limit s) (after_text s) l a
   unfolding after_text
   text_on l a q h = staged_goes a (rw (← en, ← et, ← ec, q)) h
 
 -- a walk over all columns first
-line_then : (c : Result ⊤ Fault) (rest : Result ℕ Fault) (e : ℕ) → then_check Err c rest ≡ Ok e → (c ≡ (Ok tt)) × (rest ≡ Ok e)
+line_then : (c : Result ⊤ Fault) (rest : Result ℕ Fault) (e : ℕ) → then_check Err c rest ≡ Ok e → (c ≡ Ok tt) × (rest ≡ Ok e)
 line_then c rest e = went Err c rest (Ok e) (λ x q. let z : ◌≡◌ {A = ℕ} 0 1 = cc in omega arith)
 
 pub table_all : table_of bed_codes ≡ bed_columns
@@ -303,7 +303,7 @@ module _ (s b' d d' : List ℕ) (long : length d ≡ 2 * block_limit) (x : Resul
     all_on l a h = staged_goes a (rw (count, ← words_good s 0 column.all column.all true (omega arith) refl)) h
 
   module _ (e : ℕ) (q : x ≡ Ok e) where
-    long_read : (count_check s 0 column.all ≡ (Ok tt)) × (columns_from bed_columns 0 s 0 ≡ Ok e)
+    long_read : (count_check s 0 column.all ≡ Ok tt) × (columns_from bed_columns 0 s 0 ≡ Ok e)
     long_read = line_then (count_check s 0 column.all) (columns_from bed_columns 0 s 0) e (sym long_is ∙ q)
 
     count_all' : word_count s 0 ≡ column.all
@@ -382,7 +382,7 @@ few_is n v vs t et ev = rw (et, ev)
 
 -- the text's checks
 module _ (s : List ℕ) (b : Result ⊤ Fault) (eb : b ≡ text_check s) where
-  pub quick_text : b ≡ (Ok tt) → (l : List ℕ) (x : Sure) → QuickStaged s (after_text s) l x → QuickStaged s (bed_stages s) l x
+  pub quick_text : b ≡ Ok tt → (l : List ℕ) (x : Sure) → QuickStaged s (after_text s) l x → QuickStaged s (bed_stages s) l x
   unfolding bed_stages
   quick_text p l x h = record { staged = λ q. staged_goes x.reading (rw (← eb, p)) (h.staged q) }
 
@@ -390,6 +390,6 @@ module _ (s : List ℕ) (b : Result ⊤ Fault) (eb : b ≡ text_check s) where
   unfolding bed_stages
   check_stop l x q = staged_stops Err read_apart x (rw (← eb, q))
 
-  pub check_on : (l : List ℕ) (a : Result Bed Fault) → b ≡ (Ok tt) → Staged Ok (Blocked block_limit s) (after_text s) l a → Staged Ok (Blocked block_limit s) (bed_stages s) l a
+  pub check_on : (l : List ℕ) (a : Result Bed Fault) → b ≡ Ok tt → Staged Ok (Blocked block_limit s) (after_text s) l a → Staged Ok (Blocked block_limit s) (bed_stages s) l a
   unfolding bed_stages
   check_on l a p h = staged_goes a (rw (← eb, p)) h

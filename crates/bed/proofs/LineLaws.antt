@@ -8,6 +8,7 @@ use lib.ListN.{length, get_or, take, length-take}
 use lib.Seq.{get_or-take}
 use lib.Dec.{leb}
 use borrow.Author.Tests.{lt-ltb, le-ltb, leb-true, ne_eqb}
+use Rattle.std.specs.Prelude.{Ok}
 use Rattle.ledger.specs.Strands.{strand_of, strand_is, strand_letter}
 use Rattle.ledger.specs.Parts.{part_at}
 use Rattle.text.specs.Pieces.{line_of, words_of}
@@ -36,7 +37,6 @@ use Rattle.bed.specs.Read.{thick_fits, bed_check}
 use Rattle.bed.specs.Rules.{WordNumber, BedLine}
 use Rattle.bed.proofs.ColumnLaws.{most_words, least_words, by_number}
 use Rattle.bed.proofs.AcceptLaws.{line_values, Accepts, accepts_of, words_of_lem, span_of, thick_of, accepted_count, accepted_starts, accepted_fills}
-use Rattle.std.specs.Prelude.{Ok}
 
 -- the spans
 thick_order : (r : Bed) → thick_fits r ≡ true → (r.chromStart ≤ r.thickStart) × (r.thickStart ≤ r.thickEnd) × (r.thickEnd ≤ r.chromEnd)

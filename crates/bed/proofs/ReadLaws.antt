@@ -7,6 +7,9 @@ use native.Mathlib.Omega.{arith}
 use lib.ListN.{length, set, take, drop, length-set}
 use lib.Dec.{eqb}
 use borrow.Author.Tests.{le-leb, lt-leb, lt-ltb, le-ltb, ne_eqb, eq-eqb, eqb-true, eqb-false}
+use Rattle.std.specs.Prelude.{Ok, Err, Result, ⊤}
+use Rattle.std.specs.Result.{MatchResult, IsErrAnd}
+use Rattle.std.proofs.lemmas.Result.{err_from_is_err_and}
 use Rattle.ledger.specs.Strands.{strand_of, strand_is, strand_letter}
 use Rattle.ledger.specs.Parts.{part_at}
 use Rattle.ledger.specs.Refusals.{fault_at, refusal_at, require}
@@ -30,7 +33,6 @@ use Rattle.bed.specs.Records.{value_or, place_or, bed_record, bed_sizes, bed_sta
 use Rattle.bed.specs.Tests.{if_there}
 use Rattle.bed.specs.Read.{thick_place, span_check, block_check, after_spans, after_columns, bed_stages, bed_answer, bed_check, bed_read}
 use Rattle.bed.specs.Steps.{with_default, Listed, Blocked}
-use Rattle.std.specs.Prelude.{Ok, Err, Result, ⊤}
 
 -- a fault is no record
 pub read_apart : (r : Bed) (x : Fault) → Err x ≡ Ok r → ⊥
@@ -50,11 +52,9 @@ told_fault (Ok q) y e = absurd (answers_apart q y e)
 told_fault (Err x) y e = let p : refusal_at x ≡ y = cc in rw (← p)
 
 -- and is told of it
-pub tells_read : (a : Result Bed Fault) (r : Bed) → a ≡ Ok r → Ok r ≡ bed_answer a
-tells_read a r e = rw e
-
-pub tells_fault : (a : Result Bed Fault) (x : Fault) (y : Refusal) → a ≡ Err x → y ≡ refusal_at x → Err y ≡ bed_answer a
-tells_fault a x y e q = rw (e, q)
+pub tells : (a : Result Bed Fault) (t : Result Bed Refusal) → MatchResult a (λ r. t ≡ Ok r) (λ x. IsErrAnd t (λ y. y ≡ refusal_at x)) → t ≡ bed_answer a
+tells (Ok r) t h = h
+tells (Err x) t h = let p = err_from_is_err_and t h in rw (p.1, p.2)
 
 module _ (s : List ℕ) where
   pub checked_of : (r : Bed) → bed_check s ≡ Ok r → bed_stages s ≡ Ok r
@@ -179,7 +179,7 @@ module _ (b : ℕ) (s : List ℕ) (l : List ℕ) (c : Result ⊤ Fault) where
     unfolding after_spans
     spans_stop x q = staged_stops Err read_apart x (rw (← ec, q))
 
-    pub spans_read : c ≡ (Ok tt) → Staged Ok (Blocked b s) (after_spans s r) l (Ok r)
+    pub spans_read : c ≡ Ok tt → Staged Ok (Blocked b s) (after_spans s r) l (Ok r)
     unfolding after_spans
     spans_read q = record { is = rw (← ec, q); held = λ y e. let p : r ≡ y = cc in rw p at held }
 
@@ -191,12 +191,12 @@ module _ (b : ℕ) (s : List ℕ) (l : List ℕ) (c : Result ⊤ Fault) where
     unfolding after_columns
     columns_stop x q = staged_stops Err read_apart x (rw (← ec, q))
 
-    module _ (q : c ≡ (Ok tt)) (r : Bed) (er : r ≡ bed_record n (length s) vs) (d : Result ⊤ Fault) (ed : d ≡ span_check r vs) where
+    module _ (q : c ≡ Ok tt) (r : Bed) (er : r ≡ bed_record n (length s) vs) (d : Result ⊤ Fault) (ed : d ≡ span_check r vs) where
       pub lines_stop : (x : Fault) → d ≡ Err x → Staged Ok (Blocked b s) (after_columns s n vs) l (Err x)
       unfolding after_columns
       lines_stop x k = staged_stops Err read_apart x (rw (← ec, q, ← er, ← ed, k))
 
-      pub lines_on : (l' : List ℕ) (a : Result Bed Fault) → d ≡ (Ok tt) → Staged Ok (Blocked b s) (after_spans s r) l' a → Staged Ok (Blocked b s) (after_columns s n vs) l' a
+      pub lines_on : (l' : List ℕ) (a : Result Bed Fault) → d ≡ Ok tt → Staged Ok (Blocked b s) (after_spans s r) l' a → Staged Ok (Blocked b s) (after_columns s n vs) l' a
       unfolding after_columns
       lines_on l' a k h = staged_goes a (rw (← ec, q, ← er, ← ed, k)) h
 

@@ -6,6 +6,7 @@ use Prim.Native.Nat.{ℕ, ◌+◌, ◌-◌, ◌≤◌, ◌<◌}
 use native.Mathlib.Omega.{arith}
 use lib.ListN.{length, get_or, take}
 use borrow.Author.Tests.{le-leb, eq-eqb, ne_eqb}
+use Rattle.std.specs.Prelude.{Ok}
 use Rattle.ledger.specs.declared.Part.{Part}
 use Rattle.ledger.specs.Limits.{name_limit, block_limit, largest_position}
 use Rattle.text.specs.Words.{word_at, word_count, bytes_of}
@@ -34,7 +35,6 @@ use Rattle.bed.specs.Rules.{BedLine}
 use Rattle.bed.proofs.ColumnLaws.{least_words, by_number, block_sizes_lem}
 use Rattle.bed.proofs.AcceptLaws.{line_values, accepts_of, read_all, accepted_number, accepted_span, accepted_fills, accepted_count, accepted_starts}
 use Rattle.bed.proofs.LineLaws.{value_spelt, line_of_lem}
-use Rattle.std.specs.Prelude.{Ok}
 
 -- sums lie within a number that their total fits into
 sums_between : (most acc : ℕ) (zs : List ℕ) → acc + sum_of zs ≤ most → all_between 0 most (sums_from acc zs) ≡ true

@@ -9,7 +9,9 @@ use lib.ListN.{length, take, drop, get_or, length-take, length-drop, drop_of_len
 use lib.Seq.{drop-cons, take_all, get_or-take, get_or-drop}
 use lib.Dec.{eqb}
 use borrow.Author.Tests.{eq-eqb, eqb-true}
+use Rattle.std.specs.Prelude.{Ok, Result}
 use Rattle.ledger.specs.Limits.{text_limit}
+use Rattle.ledger.specs.declared.Refusal.{Refusal}
 use Rattle.text.specs.Scan.{end_of}
 use Rattle.text.specs.Pieces.{line_of, words_of, joined, Plain}
 use Rattle.text.specs.declared.Extent.{Extent}
@@ -47,8 +49,6 @@ use Rattle.bed.proofs.ColumnLaws.{most_words, by_number}
 use Rattle.bed.proofs.AcceptLaws.{line_values}
 use Rattle.bed.proofs.LineLaws.{line_of_lem}
 use Rattle.bed.proofs.RowLaws.{accepted_rows}
-use Rattle.std.specs.Prelude.{Ok, Result}
-use Rattle.ledger.specs.declared.Refusal.{Refusal}
 
 -- ---- words that spell values, by their number
 record SpeltSo (c : Kind) (w : List ℕ) (v : ℕ) (us : List ℕ) : Type 0 where

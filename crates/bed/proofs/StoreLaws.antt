@@ -5,10 +5,12 @@ use Prim.Native.Nat.{ℕ, ◌-◌, ◌≤◌, ◌<◌}
 use native.Mathlib.Omega.{arith}
 use lib.ListN.{length, take, drop}
 use lib.Seq.{sets}
+use Rattle.std.specs.Prelude.{Ok, Err, Result}
 use Rattle.ledger.specs.Limits.{largest_number}
 use Rattle.ledger.specs.declared.Reason.TheVariants.{NoRoom}
 use Rattle.ledger.specs.declared.Fault.{Fault}
 use Rattle.ledger.specs.Refusals.{fault_at}
+use Rattle.ledger.specs.declared.Refusal.{Refusal}
 use Rattle.text.specs.Steps.{Staged}
 use Rattle.blocks.specs.Blocks.{shifted_within, sums_within, rows_of}
 use Rattle.blocks.proofs.RuleLaws.{shifted_within_lem, sums_within_lem, total_fits, fill_low}
@@ -21,8 +23,6 @@ use Rattle.bed.specs.Steps.{Blocked, Stored, RowsStored}
 use Rattle.bed.proofs.ReadLaws.{checked_is}
 use Rattle.bed.proofs.AcceptLaws.{accepted_fills, accepted_span}
 use Rattle.bed.proofs.RowLaws.{accepted_end}
-use Rattle.std.specs.Prelude.{Ok, Err, Result}
-use Rattle.ledger.specs.declared.Refusal.{Refusal}
 
 module _ (b : ℕ) (s : List ℕ) (r : Bed) (l ts qs zs : List ℕ) (held : Stored b s r l) (room : ℕ) (er : room ≡ rows_of ts qs zs) where
   abbrev answer : Result Bed Fault

@@ -9,6 +9,7 @@ use lib.Seq.{sets, length-sets}
 use lib.Dec.{leb, ltb, eqb}
 use borrow.Author.Tests.{leb-true, eqb-true}
 use borrow.Rule.Slice.PartMut.{put_mid}
+use Rattle.std.specs.Prelude.{Ok, Err, Result, ⊤}
 use Rattle.ledger.specs.Limits.{name_limit, block_limit}
 use Rattle.ledger.specs.declared.Refusal.{Refusal}
 use Rattle.text.proofs.StageLaws.{require_holds}
@@ -33,7 +34,6 @@ use Rattle.bed.specs.Tests.{if_there, names_fit, fields_fit, strand_fits}
 use Rattle.bed.specs.Write.{names_show, write_check, bed_words, bed_text, bed_write, BedWrote}
 use Rattle.bed.specs.Steps.{bed_values, RowsThere, ListsPut, Writable}
 use Rattle.bed.proofs.ColumnLaws.{bed_codes, codes_same, codes_few, count_most}
-use Rattle.std.specs.Prelude.{Ok, Err, Result, ⊤}
 
 -- the two lists of the blocks
 pub lists_put : (r : Bed) (ts zs l l₁ y : List ℕ) → RowsThere r ts zs l → l₁ ≡ sets l 0 (take r.blockCount zs)
@@ -90,7 +90,7 @@ name_short n m h = go (ltb column.name n) h
     go false k = omega (arith, eqb-true m 0 k)
 
 -- a record that passes the checks can be written
-pub check_writable : (r : Bed) (chrom name ts qs zs : List ℕ) → write_check r chrom name ts qs zs ≡ (Ok tt) → Writable r chrom name ts zs
+pub check_writable : (r : Bed) (chrom name ts qs zs : List ℕ) → write_check r chrom name ts qs zs ≡ Ok tt → Writable r chrom name ts zs
 unfolding write_check names_show names_fit fields_fit
 check_writable r chrom name ts qs zs e =
     let a = require_holds _ _ _ e in
@@ -117,9 +117,9 @@ module _ (r : Bed) (chrom name ts qs zs b : List ℕ) (c : Result ⊤ Refusal) (
   unfolding bed_write
   write_refused x q = record { is = rw (← ec, q); left = refl }
 
-  pub write_ready : c ≡ (Ok tt) → Writable r chrom name ts zs
+  pub write_ready : c ≡ Ok tt → Writable r chrom name ts zs
   write_ready q = check_writable r chrom name ts qs zs (sym ec ∙ q)
 
-  pub write_wrote : (b' : List ℕ) (x : Result ℕ Refusal) → c ≡ (Ok tt) → Wrote (bed_text r chrom name ts zs) b b' x → BedWrote r chrom name ts qs zs b b' x
+  pub write_wrote : (b' : List ℕ) (x : Result ℕ Refusal) → c ≡ Ok tt → Wrote (bed_text r chrom name ts zs) b b' x → BedWrote r chrom name ts qs zs b b' x
   unfolding bed_write
   write_wrote b' x q h = record { is = rw (← ec, q) h.is; left = h.left }

@@ -2,6 +2,8 @@
 use Rattle.std.specs.Prelude.{ℕ, ◌-◌, Bool, ◌&&◌, cond, List, length, take, leb, ltb, Ok, Err, Result, ⊤}
 use Rattle.ledger.specs.declared.Reason.TheVariants.{SpanDisagrees, BlockRules}
 use Rattle.ledger.specs.Refusals.{refusal_at, require}
+use Rattle.ledger.specs.declared.Fault.{Fault}
+use Rattle.ledger.specs.declared.Refusal.{Refusal}
 use Rattle.text.specs.Checks.{fault, then_check, text_check, words_check, last_line_check}
 use Rattle.text.specs.Words.{word_count}
 use Rattle.columns.specs.Columns.{columns_from, values_from, place_of, then_next}
@@ -11,8 +13,6 @@ use Rattle.bed.specs.declared.Bed.{Bed}
 use Rattle.bed.specs.Columns as column
 use Rattle.bed.specs.Table.{bed_columns}
 use Rattle.bed.specs.Records.{is_word_count, bed_record, bed_sizes, bed_starts, bed_targets, bed_queries}
-use Rattle.ledger.specs.declared.Fault.{Fault}
-use Rattle.ledger.specs.declared.Refusal.{Refusal}
 
 -- the number of words n (2): 3 to 9, or 12
 abbrev pub bed_words_check : List ℕ → ℕ → Result ⊤ Fault

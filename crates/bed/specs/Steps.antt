@@ -2,6 +2,7 @@
 use Rattle.std.specs.Prelude.{ℕ, ◌-◌, ◌*◌, ◌≤◌, ◌<◌, ◌≡◌, Bool, true, ◌&&◌, cond, List, [], ◌∷◌, length, take, drop, set, leb, eqb, Ok, Result}
 use Rattle.ledger.specs.Limits.{name_limit, block_limit, largest_position}
 use Rattle.ledger.specs.Strands.{strand_letter}
+use Rattle.ledger.specs.declared.Fault.{Fault}
 use Rattle.text.specs.Steps.{Staged}
 use Rattle.text.specs.Words.{word_at, word_count, bytes_of}
 use Rattle.numbers.specs.Lists.{values_of, last_byte}
@@ -13,7 +14,6 @@ use Rattle.bed.specs.declared.Sure.{Sure}
 use Rattle.bed.specs.Columns as column
 use Rattle.bed.specs.Records.{is_word_count, value_or, bed_sizes, bed_starts, bed_targets, bed_queries}
 use Rattle.bed.specs.Read.{on_reading, bed_room}
-use Rattle.ledger.specs.declared.Fault.{Fault}
 
 -- ---- reading
 -- working room for two lists of b numbers each: with the one block of a line without block columns

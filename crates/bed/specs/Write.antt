@@ -3,6 +3,7 @@ use Rattle.std.specs.Prelude.{ℕ, ◌≡◌, Bool, ◌&&◌, List, [], ◌∷�
 use Rattle.ledger.specs.declared.Reason.TheVariants.{NumberOutOfRange, BadWord, SpanDisagrees, BlockRules}
 use Rattle.ledger.specs.Refusals.{require}
 use Rattle.ledger.specs.Strands.{strand_letter}
+use Rattle.ledger.specs.declared.Refusal.{Refusal}
 use Rattle.text.specs.Checks.{refused}
 use Rattle.text.specs.Pieces.{joined}
 use Rattle.writing.specs.Digits.{digits, list_text}
@@ -13,7 +14,6 @@ use Rattle.columns.specs.Lines.{then_write}
 use Rattle.blocks.specs.Blocks.{count_fits, rows_of, subtracted, row_numbers_fit}
 use Rattle.bed.specs.declared.Bed.{Bed}
 use Rattle.bed.specs.Tests.{names_fit, strand_fits, fields_fit, spans_fit, rows_fit, bed_valid}
-use Rattle.ledger.specs.declared.Refusal.{Refusal}
 
 -- the names that are handed in: their lengths, and that all their bytes show
 unfoldable pub names_show : Bed → List ℕ → List ℕ → Bool
@@ -27,7 +27,7 @@ write_check r chrom name ts qs zs =
     (require (fields_fit r && row_numbers_fit (take r.blockCount ts) (take r.blockCount qs) (take r.blockCount zs)) (refused NumberOutOfRange)
     (require (spans_fit r) (refused SpanDisagrees)
     (require (rows_fit r (take r.blockCount ts) (take r.blockCount qs) (take r.blockCount zs)) (refused BlockRules)
-    Ok tt))))
+    (Ok tt)))))
 
 -- the twelve words of a record: ts and zs are the targets and sizes of its rows
 unfoldable pub bed_words : Bed → List ℕ → List ℕ → List ℕ → List ℕ → List (List ℕ)

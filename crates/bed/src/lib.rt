@@ -374,10 +374,7 @@ fn few_room() -> [u64; FEW_ROOM]
 fn answered(x: Result<Bed, Fault>) -> Result<Bed, Refusal>
     ensures { result ≡ bed_answer x }
 {
-    match x {
-        Ok(r) => Ok(r),
-        Err(y) => Err(Refusal::at(y)),
-    }
+    x.map_err(Refusal::at)
 }
 
 // THE TEXT CHECKER: what the reader answers, given room.
@@ -486,7 +483,12 @@ fn hand_over(
 }
 
 // The reader with room for any record's blocks.
-fn read_long(text: &[u8], targets: &mut [u64], queries: &mut [u64], sizes: &mut [u64]) -> Result<Bed, Fault>
+fn read_long(
+    text: &[u8],
+    targets: &mut [u64],
+    queries: &mut [u64],
+    sizes: &mut [u64],
+) -> Result<Bed, Fault>
     ensures { RowsStored (bed_stages text.now) text.now targets.old targets.new
         queries.old queries.new sizes.old sizes.new result }
 {

@@ -8,6 +8,7 @@ use lib.ListN.{length, take, get_or}
 use lib.Seq.{get_or-take, length-take-le}
 use lib.Dec.{eqb}
 use borrow.Author.Tests.{lt-ltb, le-ltb, eqb-true, eq-eqb, ne_eqb}
+use Rattle.std.specs.Prelude.{Ok}
 use Rattle.ledger.specs.Limits.{text_limit, largest_position}
 use Rattle.text.proofs.CheckLaws.{fed_allowed, fed_line_lem}
 use Rattle.text.specs.declared.Class.TheVariants.{Allowed}
@@ -36,7 +37,6 @@ use Rattle.bed.proofs.ReadLaws.{read_roomy}
 use Rattle.bed.proofs.LineLaws.{listed_sizes, listed_starts, span_size, span_start}
 use Rattle.bed_laws.proofs.ExactLaws.{line_is}
 use Rattle.bed_laws.proofs.BackWordLaws.{MayWrite, may_write, word_values, sizes_between, starts_between, words_spell, words_worded}
-use Rattle.std.specs.Prelude.{Ok}
 
 no_bytes : (xs : List ℕ) → length xs ≡ 0 → [] ≡ xs
 no_bytes [] e = refl
@@ -209,7 +209,7 @@ module _ (r : Bed) (chrom name ts qs zs : List ℕ) (ok : MayWrite r chrom name 
       }
 
 -- THE ROUND TRIP: the writer's checks hold, and the text is short enough
-module _ (r : Bed) (chrom name ts qs zs : List ℕ) (ok : write_check r chrom name ts qs zs ≡ (Ok tt)) (short : length (bed_text r chrom name ts zs) ≤ text_limit) where
+module _ (r : Bed) (chrom name ts qs zs : List ℕ) (ok : write_check r chrom name ts qs zs ≡ Ok tt) (short : length (bed_text r chrom name ts zs) ≤ text_limit) where
   abbrev text : List ℕ
   text = bed_text r chrom name ts zs
 

@@ -7,6 +7,7 @@ use native.Mathlib.Omega.{arith}
 use lib.ListN.{length, take}
 use lib.Seq.{length-take-le}
 use lib.Dec.{eqb}
+use Rattle.std.specs.Prelude.{Ok}
 use Rattle.ledger.specs.declared.Strand.{Strand}
 use Rattle.ledger.specs.declared.Strand.TheVariants.{Plus, Minus, Dot}
 use Rattle.ledger.specs.Limits.{largest_position}
@@ -33,7 +34,6 @@ use Rattle.bed.specs.Rules.{BedRules, named}
 use Rattle.bed.specs.Tests.{if_there, names_fit, strand_fits, fields_fit, spans_fit, rows_fit, bed_valid}
 use Rattle.bed.specs.Write.{names_show, write_check, bed_words}
 use Rattle.bed_laws.proofs.RuleLaws.{rules_of}
-use Rattle.std.specs.Prelude.{Ok}
 
 -- what the writer's checks show of a record, its names and its rows
 pub record MayWrite (r : Bed) (chrom name ts qs zs : List ℕ) : Type 0 where
@@ -46,7 +46,7 @@ pub record MayWrite (r : Bed) (chrom name ts qs zs : List ℕ) : Type 0 where
   pub sums : are_sums 0 (take r.blockCount qs) (take r.blockCount zs) ≡ true
 
 -- THE WRITER'S CHECKS, ONE BY ONE
-pub may_write : (r : Bed) (chrom name ts qs zs : List ℕ) → write_check r chrom name ts qs zs ≡ (Ok tt) → MayWrite r chrom name ts qs zs
+pub may_write : (r : Bed) (chrom name ts qs zs : List ℕ) → write_check r chrom name ts qs zs ≡ Ok tt → MayWrite r chrom name ts qs zs
 unfolding write_check names_show bed_valid strand_fits fields_fit spans_fit rows_fit row_numbers_fit
 may_write r chrom name ts qs zs e =
     let n = r.blockCount in

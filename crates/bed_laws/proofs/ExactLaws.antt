@@ -5,6 +5,7 @@ use Prim.Native.Nat.{ℕ, ◌-◌, ◌≤◌, ◌<◌}
 use native.Mathlib.Omega.{arith}
 use lib.ListN.{length, get_or, take, length-take}
 use borrow.Author.Tests.{lt-ltb, le-ltb, le-leb}
+use Rattle.std.specs.Prelude.{Ok}
 use Rattle.ledger.specs.declared.Part.{Part}
 use Rattle.ledger.specs.declared.Strand.TheVariants.{Dot}
 use Rattle.ledger.specs.Strands.{strand_letter}
@@ -32,18 +33,17 @@ use Rattle.bed.proofs.ReadLaws.{value_there, value_left}
 use Rattle.bed.proofs.ColumnLaws.{number_is, most_words, least_words}
 use Rattle.bed.proofs.AcceptLaws.{line_values, Accepts, accepts_is, sizes_count, starts_count}
 use Rattle.bed.proofs.LineLaws.{name_part, listed_sizes, listed_starts, span_size, span_start}
-use Rattle.std.specs.Prelude.{Ok}
 
 -- the number of words
-words_is : (s : List ℕ) (n : ℕ) → WordNumber n → bed_words_check s n ≡ (Ok tt)
+words_is : (s : List ℕ) (n : ℕ) → WordNumber n → bed_words_check s n ≡ Ok tt
 words_is s n w = sym (words_good s 0 n column.all (is_word_count n) (most_words w) (number_is w))
 
 -- the spans and the blocks
-span_is : (r : Bed) (vs : List ℕ) → r.chromStart < r.chromEnd → r.chromStart ≤ r.thickStart → r.thickStart ≤ r.thickEnd → r.thickEnd ≤ r.chromEnd → span_check r vs ≡ (Ok tt)
+span_is : (r : Bed) (vs : List ℕ) → r.chromStart < r.chromEnd → r.chromStart ≤ r.thickStart → r.thickStart ≤ r.thickEnd → r.thickEnd ≤ r.chromEnd → span_check r vs ≡ Ok tt
 unfolding span_check
 span_is r vs h a b c = rw (lt-ltb r.chromStart r.chromEnd h, le-leb r.chromStart r.thickStart a, le-leb r.thickStart r.thickEnd b, le-leb r.thickEnd r.chromEnd c)
 
-block_is_lem : (s : List ℕ) (r : Bed) → length (bed_starts s r) ≡ r.blockCount → length (bed_sizes s r) ≡ r.blockCount → Fills 0 (r.chromEnd - r.chromStart) r.blockCount (bed_starts s r) (bed_sizes s r) → block_check s r ≡ (Ok tt)
+block_is_lem : (s : List ℕ) (r : Bed) → length (bed_starts s r) ≡ r.blockCount → length (bed_sizes s r) ≡ r.blockCount → Fills 0 (r.chromEnd - r.chromStart) r.blockCount (bed_starts s r) (bed_sizes s r) → block_check s r ≡ Ok tt
 unfolding block_check
 block_is_lem s r a b f = rw (fills_is 0 (r.chromEnd - r.chromStart) r.blockCount (bed_starts s r) (bed_sizes s r) a b f)
 

@@ -5,6 +5,7 @@ use mathlib.Core.List.{List}
 use Prim.Native.Nat.{ℕ, ◌≤◌}
 use native.Mathlib.Omega.{arith}
 use lib.ListN.{get_or}
+use Rattle.std.specs.Prelude.{Ok}
 use Rattle.ledger.specs.declared.Part.{Part}
 use Rattle.ledger.specs.Limits.{largest_position}
 use Rattle.text.specs.Words.{word_at, bytes_of}
@@ -22,7 +23,6 @@ use Rattle.bed.proofs.AcceptLaws.{accepted_number}
 use Rattle.bed.proofs.LineLaws.{line_of_lem}
 use Rattle.bed.proofs.RowLaws.{vs, before, value_says, number_at_lem, name_at, some_words, accepted_end, accepted_rows}
 use Rattle.bed_laws.proofs.RuleLaws.{rules_is}
-use Rattle.std.specs.Prelude.{Ok}
 
 module _ (s : List ℕ) (r : Bed) (ok : bed_check s ≡ Ok r) where
   -- THE RULES OF A RECORD, ONE BY ONE

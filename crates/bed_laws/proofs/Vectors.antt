@@ -4,6 +4,7 @@ use mathlib.Core.List.{List, [], ◌∷◌}
 use Prim.Native.Nat.{ℕ, ◌≤◌}
 use native.Mathlib.Omega.{arith}
 use lib.ListN.{length}
+use Rattle.std.specs.Prelude.{Ok}
 use Rattle.ledger.specs.declared.Strand.TheVariants.{Plus, Dot}
 use Rattle.ledger.specs.Limits.{text_limit}
 use Rattle.ledger.specs.Parts.{part_at}
@@ -23,7 +24,6 @@ use Rattle.bed.specs.Rules.{placed}
 use Rattle.bed.specs.Tests.{names_fit, strand_fits, fields_fit, spans_fit, rows_fit}
 use Rattle.bed.specs.Write.{names_show, write_check, bed_words, bed_text}
 use Rattle.bed_laws.proofs.BackLaws.{back_read, back_chrom, back_targets}
-use Rattle.std.specs.Prelude.{Ok}
 
 -- the first line of the UCSC page's example
 abbrev clone : Bed
@@ -75,7 +75,7 @@ line =
     ∷ 48 ∷ 44 ∷ 51 ∷ 53 ∷ 49 ∷ 50 ∷ 44 ∷ 10 ∷ []
 
 -- it may be written
-pub clone_written : write_check clone chr22 clone_a targets queries sizes_lem ≡ (Ok tt)
+pub clone_written : write_check clone chr22 clone_a targets queries sizes_lem ≡ Ok tt
 unfolding write_check names_show names_fit strand_fits fields_fit row_numbers_fit spans_fit rows_fit end_of run order_from blocks_fill are_sums all_between
 clone_written = refl
 
@@ -126,7 +126,7 @@ bare = record {
 abbrev short : List ℕ
 short = 99 ∷ 104 ∷ 114 ∷ 50 ∷ 50 ∷ 9 ∷ 49 ∷ 48 ∷ 48 ∷ 48 ∷ 9 ∷ 53 ∷ 48 ∷ 48 ∷ 48 ∷ 10 ∷ []
 
-pub bare_written : write_check bare chr22 [] (1000 ∷ []) (0 ∷ []) (4000 ∷ []) ≡ (Ok tt)
+pub bare_written : write_check bare chr22 [] (1000 ∷ []) (0 ∷ []) (4000 ∷ []) ≡ Ok tt
 unfolding write_check names_show names_fit strand_fits fields_fit row_numbers_fit spans_fit rows_fit end_of run order_from blocks_fill are_sums all_between
 bare_written = refl
 

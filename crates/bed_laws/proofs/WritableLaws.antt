@@ -5,6 +5,7 @@ use mathlib.Core.List.{List}
 use Prim.Native.Nat.{ℕ}
 use native.Mathlib.Omega.{arith}
 use lib.ListN.{length, take}
+use Rattle.std.specs.Prelude.{Ok}
 use Rattle.text.specs.declared.Class.TheVariants.{Graphic}
 use Rattle.text.specs.Scan.{run}
 use Rattle.text.specs.Pieces.{line_of, words_of}
@@ -27,10 +28,9 @@ use Rattle.bed.specs.Write.{names_show, write_check}
 use Rattle.bed.proofs.LineLaws.{line_of_lem}
 use Rattle.bed.proofs.RowLaws.{vs}
 use Rattle.bed_laws.proofs.ValidLaws.{accepted_valid}
-use Rattle.std.specs.Prelude.{Ok}
 
 -- ---- A VALID RECORD PASSES THE WRITER'S CHECKS, with names of its lengths that show
-pub valid_writes : (r : Bed) (chrom name ts qs zs : List ℕ) → bed_valid r ts qs zs ≡ true → length chrom ≡ r.chrom.length → length name ≡ r.name.length → All Graphic chrom → All Graphic name → write_check r chrom name ts qs zs ≡ (Ok tt)
+pub valid_writes : (r : Bed) (chrom name ts qs zs : List ℕ) → bed_valid r ts qs zs ≡ true → length chrom ≡ r.chrom.length → length name ≡ r.name.length → All Graphic chrom → All Graphic name → write_check r chrom name ts qs zs ≡ Ok tt
 unfolding write_check names_show bed_valid
 valid_writes r chrom name ts qs zs v c d k l =
     let n = r.blockCount in
@@ -59,7 +59,7 @@ module _ (s : List ℕ) (r : Bed) (ok : bed_check s ≡ Ok r) where
   name_shows = either r.words column.name _ (λ h. rw (line.no_name h) none_shows) (λ h. rw (line.name h) (part_shows s line.allowed column.name))
 
   -- ITS RECORD MAY BE WRITTEN
-  pub accepted_writable : write_check r (part_bytes s r.chrom) (part_bytes s r.name) (bed_targets s r) (bed_queries s r) (bed_sizes s r) ≡ (Ok tt)
+  pub accepted_writable : write_check r (part_bytes s r.chrom) (part_bytes s r.name) (bed_targets s r) (bed_queries s r) (bed_sizes s r) ≡ Ok tt
   accepted_writable = valid_writes r _ _ _ _ _ (accepted_valid s r ok) chrom_shows.1 name_shows.1 chrom_shows.0 name_shows.0
 
   -- its names are handed back whole

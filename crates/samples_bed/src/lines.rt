@@ -1,6 +1,6 @@
 // A text read as a BED line.
-use ledger::Refusal;
 use bed::Bed;
+use ledger::Refusal;
 
 // A record's columns up to the name; a name by its place and length.
 fn put_place(out: &mut [u8], at: usize, r: Bed) -> usize {

@@ -7,20 +7,22 @@ use native.Mathlib.Omega.{arith}
 use lib.ListN.{length, take}
 use lib.Seq.{take-take}
 use borrow.Rule.Slice.PartMut.{put_mid}
-use Rattle.blocks.specs.Readers.{rows_after}
-use Rattle.bed.proofs.ReadLaws.{read_roomy, read_short, read_refused}
+use Rattle.std.specs.Prelude.{Ok, Err, Result, ⊤}
 use Rattle.ledger.specs.Limits.{block_limit}
 use Rattle.ledger.specs.declared.Row.{Row}
 use Rattle.ledger.specs.declared.Refusal.{Refusal}
 use Rattle.ledger.specs.declared.Reason.TheVariants.{NumberOutOfRange, BadWord, SpanDisagrees, BlockRules, NoRoom}
 use Rattle.ledger.specs.Refusals.{require, fault_at, refusal_at}
 use Rattle.text.specs.Checks.{refused}
+use Rattle.columns.specs.Lines.{then_write}
+use Rattle.blocks.specs.Readers.{rows_after}
 use Rattle.blocks.specs.Blocks.{row_numbers_fit}
 use Rattle.blocks.specs.Rows.{targets_of, queries_of, sizes_of}
 use Rattle.rows.specs.Staging.{all_reach, Loaded, Columns, stored_rows}
 use Rattle.rows.proofs.StagingLaws.{loaded_targets, loaded_queries, loaded_sizes, cut_rows, rows_cut}
 use Rattle.rows.proofs.ReaderLaws.{Reads, columns_is, columns_held, rows_accepted, rows_refused}
 use Rattle.rows.proofs.WriterLaws.{written_cut, kept_cut}
+use Rattle.bed.proofs.ReadLaws.{read_roomy, read_short, read_refused}
 use Rattle.bed.specs.declared.Bed.{Bed}
 use Rattle.bed.specs.Records.{bed_targets, bed_queries, bed_sizes}
 use Rattle.bed.specs.Read.{on_answer, bed_check, bed_read, BedRead}
@@ -28,8 +30,6 @@ use Rattle.bed.specs.Tests.{names_fit, strand_fits, fields_fit, spans_fit, rows_
 use Rattle.bed.specs.Write.{names_show, write_check, bed_words, bed_text, bed_write, BedWrote, record_check}
 use Rattle.bed.proofs.RowLaws.{accepted_rows}
 use Rattle.table_bed.specs.Rows.{table_after, RowsRead, rows_filled, ColumnsRead}
-use Rattle.columns.specs.Lines.{then_write}
-use Rattle.std.specs.Prelude.{Ok, Err, Result, ⊤}
 
 -- the reader as one of any format
 pub by_answer : (a : Result Bed Refusal) (P : Type 0) → ((r : Bed) → a ≡ Ok r → P) → ((x : Refusal) → a ≡ Err x → P) → P

@@ -3,6 +3,7 @@ use mathlib.Core.Path.{◌≡◌, sym, ap, ◌∙◌}
 use mathlib.Core.List.{List, ◌++◌}
 use Prim.Native.Nat.{ℕ, ◌≤◌}
 use lib.ListN.{length, take, drop}
+use Rattle.std.specs.Prelude.{Ok, Err, Result}
 use Rattle.ledger.specs.Limits.{text_limit}
 use Rattle.ledger.specs.declared.Row.{Row}
 use Rattle.ledger.specs.declared.Refusal.{Refusal}
@@ -18,14 +19,13 @@ use Rattle.bed_laws.proofs.ValidLaws.{accepted_valid}
 use Rattle.bed_laws.proofs.BackLaws.{back_read, back_targets, back_queries, back_sizes}
 use Rattle.table_bed.specs.Rows.{table_after, RowsRead}
 use Rattle.table_bed.proofs.RowLaws.{bed_reads, check_seen}
-use Rattle.std.specs.Prelude.{Ok, Err, Result}
 
 -- A REFUSAL leaves the table
 pub refused_rows_lem : (s : List ℕ) (y : Refusal) (before after : List Row) → RowsRead s before after (Err y) → after ≡ before
 refused_rows_lem s y before after h = h.rows
 
 -- WHAT A READER LEFT IS VALID: the record checker accepts the record with the table
-pub left_valid : (s : List ℕ) (r : Bed) (before after : List Row) → RowsRead s before after (Ok r) → record_check r (targets_of after) (queries_of after) (sizes_of after) ≡ (Ok tt)
+pub left_valid : (s : List ℕ) (r : Bed) (before after : List Row) → RowsRead s before after (Ok r) → record_check r (targets_of after) (queries_of after) (sizes_of after) ≡ Ok tt
 unfolding record_check bed_valid
 left_valid s r before after h =
     let l = bed_reads s in
@@ -36,7 +36,7 @@ left_valid s r before after h =
 
 -- THE ROUND TRIP: the standard text of a record with the rows of a table is read as the same record, and those rows go to the front of any table that has rows
 -- enough
-module _ (r : Bed) (chrom name : List ℕ) (rows : List Row) (ok : write_check r chrom name (targets_of rows) (queries_of rows) (sizes_of rows) ≡ (Ok tt))
+module _ (r : Bed) (chrom name : List ℕ) (rows : List Row) (ok : write_check r chrom name (targets_of rows) (queries_of rows) (sizes_of rows) ≡ Ok tt)
     (short : length (bed_text r chrom name (targets_of rows) (sizes_of rows)) ≤ text_limit) where
   abbrev text : List ℕ
   text = bed_text r chrom name (targets_of rows) (sizes_of rows)

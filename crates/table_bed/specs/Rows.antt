@@ -1,11 +1,11 @@
 -- BED lines over a lent table of rows, each of target start, query start and size. The definitions of `bed` are cited on the table's flat lists and length.
 use Rattle.std.specs.Prelude.{ℕ, ◌≡◌, List, ◌++◌, length, drop, Ok, Err, Result}
 use Rattle.ledger.specs.declared.Row.{Row}
+use Rattle.ledger.specs.declared.Refusal.{Refusal}
 use Rattle.rows.specs.Staging.{Fronts}
 use Rattle.bed.specs.declared.Bed.{Bed}
 use Rattle.bed.specs.Records.{bed_targets, bed_queries, bed_sizes, bed_rows}
 use Rattle.bed.specs.Read.{bed_read}
-use Rattle.ledger.specs.declared.Refusal.{Refusal}
 
 -- what a lent table holds after an answer: the rows of an accepted line at its front, the others as they were; or all as they were
 abbrev pub table_after : Result Bed Refusal → List ℕ → List Row → List Row

@@ -52,7 +52,13 @@ pub fn read_bed(text: &[u8], table: &mut [Row]) -> Result<Bed, Refusal>
 }
 
 // Checks a record with the blocks that stand in three columns, for a table of so many rows.
-fn check_columns(r: Bed, rows: usize, targets: &[u64], queries: &[u64], sizes: &[u64]) -> Result<(), Refusal>
+fn check_columns(
+    r: Bed,
+    rows: usize,
+    targets: &[u64],
+    queries: &[u64],
+    sizes: &[u64],
+) -> Result<(), Refusal>
     requires { Columns targets.now queries.now sizes.now }
     ensures { result ≡ record_check r (take (min rows block_limit) targets.now) (take (min rows block_limit) queries.now) (take (min rows block_limit) sizes.now) }
 {
@@ -101,7 +107,13 @@ fn write_columns(
 
 // THE WRITER: a record with its names and its rows to the front of a buffer, or the first refusal in the writers' order, which
 // leaves the buffer.
-pub fn write_bed(r: Bed, chrom: &[u8], name: &[u8], table: &[Row], buf: &mut [u8]) -> Result<usize, Refusal>
+pub fn write_bed(
+    r: Bed,
+    chrom: &[u8],
+    name: &[u8],
+    table: &[Row],
+    buf: &mut [u8],
+) -> Result<usize, Refusal>
     ensures { BedWrote r chrom.now name.now (targets_of table.now) (queries_of table.now) (sizes_of table.now) buf.old buf.new result }
 {
     let mut targets: [u64; rows::ROOM] = [0; rows::ROOM];

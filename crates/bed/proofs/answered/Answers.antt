@@ -1,9 +1,6 @@
--- A record as accepted, and a fault as refused. Assumes nothing.
-use Rattle.bed.proofs.ReadLaws.{tells_read, tells_fault}
+-- A record as it is, and a fault as a refusal. Assumes nothing.
+use Rattle.bed.proofs.ReadLaws.{tells}
 use Rattle.bed.proofs.answered.Goals as goal
 
-pub returns-in-Ok : goal.returns-in-Ok
-returns-in-Ok c = search tells_read
-
-pub returns-in-Err : goal.returns-in-Err
-returns-in-Err c = search tells_fault
+pub returns : goal.returns
+returns c = tells _ _ c.map_err.ensures.cases
