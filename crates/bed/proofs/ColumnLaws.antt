@@ -22,8 +22,7 @@ use Rattle.text.proofs.PieceLaws.{word_bytes}
 use Rattle.numbers.specs.Ranges.{Between}
 use Rattle.numbers.specs.Lists.{values_of}
 use Rattle.kinds.specs.declared.Range.TheVariants.{Coordinate, Size}
-use Rattle.kinds.specs.Kinds.{kind_of, items_in}
-use Rattle.kinds.specs.Codes as code
+use Rattle.kinds.specs.Kinds.{items_in}
 use Rattle.kinds.proofs.RangeLaws.{count_spelt, items_spelt}
 use Rattle.columns.specs.declared.Quick.{Quick}
 use Rattle.columns.specs.Columns.{column_limit, table_of, columns_from, values_from, lists_by, few_blocks, value_of, place_of, ColumnsWalked, QuickWalked}
@@ -35,8 +34,7 @@ use Rattle.columns.proofs.SpellsLaws.{columns_mean}
 use Rattle.columns.proofs.WalkLaws.{walk_through}
 use Rattle.columns.proofs.OneLineLaws.{count_of_lem, count_is}
 use Rattle.columns.proofs.PlaceLaws.{spelt_at, value_first, lists_length, lists_at}
-use Rattle.columns.proofs.TableLaws.{codes_length, table_is, read_is, read_next, values_stored, values_same, lists_are}
-use Rattle.bed.specs.declared.Sure.{Sure}
+use Rattle.columns.proofs.TableLaws.{front_length, table_is, read_is, read_next, values_stored, values_same, lists_are}
 use Rattle.bed.specs.Columns as column
 use Rattle.bed.specs.Table.{bed_columns}
 use Rattle.bed.specs.Records.{is_word_count, value_or, bed_record}
@@ -46,29 +44,9 @@ use Rattle.bed.specs.Steps.{Counted, Listed, Blocked, is_few, QuickStaged}
 use Rattle.bed.proofs.ReadLaws.{read_apart}
 use Rattle.bed.specs.declared.Bed.{Bed}
 
--- the codes of the table in the code
-abbrev pub bed_codes : List ℕ
-bed_codes =
-    code.name
-    ∷ code.coordinate
-    ∷ code.coordinate
-    ∷ code.name
-    ∷ code.bed_score
-    ∷ code.strand_or_dot
-    ∷ code.coordinate
-    ∷ code.coordinate
-    ∷ code.colour
-    ∷ code.count
-    ∷ code.sizes
-    ∷ code.starts
-    ∷ []
-
-pub codes_same : map kind_of bed_codes ≡ bed_columns
-unfolding kind_of bed_columns
-codes_same = refl
-
-pub codes_few : length bed_codes ≤ column_limit
-codes_few = omega arith
+pub columns_few : length bed_columns ≤ column_limit
+unfolding bed_columns
+columns_few = omega arith
 
 -- a good number of words is 3 to 9, or 12
 pub number_of_lem : (n : ℕ) → is_word_count n ≡ true → WordNumber n
@@ -232,20 +210,20 @@ module _ (s : List ℕ) (n e : ℕ) (count : n ≡ word_count s 0) (good : is_wo
       let c : word_count s 0 ≡ column.all = sym count ∙ w in
       rw (lt-ltb column.block_count n (omega arith), t) (block_count_lem s e (twelve_read w) c).1)
 
-module _ (s : List ℕ) (n : ℕ) (b' d d' : List ℕ) (counted : Counted s n d) (x : Result ℕ Fault) (read : ColumnsWalked (table_of (take n bed_codes)) s 0 (replicate (2 * column.all) 0) b' d d' x) where
+module _ (s : List ℕ) (n : ℕ) (b' d d' : List ℕ) (counted : Counted s n d) (x : Result ℕ Fault) (read : ColumnsWalked (table_of (take n bed_columns)) s 0 (replicate (2 * column.all) 0) b' d d' x) where
   few : n ≤ column.all
   few = count_most n counted.good
 
   module _ (e : ℕ) (q : x ≡ Ok e) where
     next : columns_from (take n bed_columns) 0 s 0 ≡ Ok e
-    next = read_next bed_codes bed_columns codes_same codes_few n few s 0 (2 * column.all) (omega (arith, few)) b' d d' x read e q
+    next = read_next bed_columns columns_few n few s 0 (2 * column.all) (omega (arith, few)) b' d d' x read e q
 
     same : (i : ℕ) → get_or b' i 0 ≡ get_or (values_from (take n bed_columns) 0 s 0) i 0
-    same = values_same bed_codes bed_columns codes_same codes_few n few s 0 (2 * column.all) (omega (arith, few)) b' d d' x read e q
+    same = values_same bed_columns columns_few n few s 0 (2 * column.all) (omega (arith, few)) b' d d' x read e q
 
     pub words_listed : Listed block_limit s (bed_record n (length s) b') d'
     words_listed =
-        let h = lists_are bed_codes bed_columns codes_same codes_few n few s 0 (2 * column.all) (omega (arith, few)) b' d d' x read e q in
+        let h = lists_are bed_columns columns_few n few s 0 (2 * column.all) (omega (arith, few)) b' d d' x read e q in
         rw (record_same n b' (values_from (take n bed_columns) 0 s 0) same (length s), h)
         (lists_listed s n e counted.count counted.good next block_limit d counted.long (count_fits_lem s n e counted.count counted.good next) (length s))
 
@@ -259,14 +237,14 @@ module _ (s : List ℕ) (n : ℕ) (b' d d' : List ℕ) (counted : Counted s n d)
   pub words_stop : (l : List ℕ) (y : Fault) → x ≡ Err y → Staged Ok (Blocked block_limit s) (after_words s n) l (Err y)
   unfolding after_words
   words_stop l y q =
-      let z : columns_from (take n bed_columns) 0 s 0 ≡ Err y = sym (read_is bed_codes bed_columns codes_same codes_few n few s 0 (2 * column.all) (omega (arith, few)) b' d d' x read) ∙ q in
+      let z : columns_from (take n bed_columns) 0 s 0 ≡ Err y = sym (read_is bed_columns columns_few n few s 0 (2 * column.all) (omega (arith, few)) b' d d' x read) ∙ q in
       staged_stops Err read_apart y (rw z)
 
 pub words_few : (s : List ℕ) (n : ℕ) (d : List ℕ) → Counted s n d → n ≤ column.all
 words_few s n d h = count_most n h.good
 
-pub words_length : (s : List ℕ) (n : ℕ) (d : List ℕ) → Counted s n d → n ≡ length (take n bed_codes)
-words_length s n d h = codes_length bed_codes bed_columns codes_same codes_few n (count_most n h.good)
+pub words_length : (s : List ℕ) (n : ℕ) (d : List ℕ) → Counted s n d → n ≡ length (take n bed_columns)
+words_length s n d h = front_length bed_columns columns_few n (count_most n h.good)
 
 -- the number of words
 module _ (s : List ℕ) (n : ℕ) (en : n ≡ word_count s 0) (t : Bool) (et : t ≡ is_word_count n) (c : Result ⊤ Fault) (ec : c ≡ words_check s 0 n column.all t) where
@@ -285,11 +263,11 @@ module _ (s : List ℕ) (n : ℕ) (en : n ≡ word_count s 0) (t : Bool) (et : t
 line_then : (c : Result ⊤ Fault) (rest : Result ℕ Fault) (e : ℕ) → then_check Err c rest ≡ Ok e → (c ≡ Ok tt) × (rest ≡ Ok e)
 line_then c rest e = went Err c rest (Ok e) (λ x q. let z : ◌≡◌ {A = ℕ} 0 1 = cc in omega arith)
 
-pub table_all : table_of bed_codes ≡ bed_columns
+pub table_all : table_of bed_columns ≡ bed_columns
 unfolding bed_columns
-table_all = table_is bed_codes bed_columns codes_same codes_few column.all (omega arith)
+table_all = table_is bed_columns columns_few column.all (omega arith)
 
-module _ (s b' d d' : List ℕ) (long : length d ≡ 2 * block_limit) (x : Result ℕ Fault) (read : WordsWalked (table_of bed_codes) s (replicate (2 * column.all) 0) b' d d' x) where
+module _ (s b' d d' : List ℕ) (long : length d ≡ 2 * block_limit) (x : Result ℕ Fault) (read : WordsWalked (table_of bed_columns) s (replicate (2 * column.all) 0) b' d d' x) where
   long_is : x ≡ then_check Err (count_check s 0 column.all) (columns_from bed_columns 0 s 0)
   unfolding bed_columns
   long_is = rw table_all at read.result
@@ -309,7 +287,7 @@ module _ (s b' d d' : List ℕ) (long : length d ≡ 2 * block_limit) (x : Resul
     count_all' : word_count s 0 ≡ column.all
     count_all' = count_of_lem s 0 column.all long_read.0
 
-    walked : ColumnsWalked (table_of (take column.all bed_codes)) s 0 (replicate (2 * column.all) 0) b' d d' (Ok e)
+    walked : ColumnsWalked (table_of (take column.all bed_columns)) s 0 (replicate (2 * column.all) 0) b' d d' (Ok e)
     walked = record { result = rw table_all (sym long_read.1); stored = λ f p. read.stored e q; held = λ f p. read.held e q }
 
     pub long_listed : Listed block_limit s (bed_record column.all (length s) b') d'
@@ -329,62 +307,59 @@ module _ (s b' d d' : List ℕ) (long : length d ≡ 2 * block_limit) (x : Resul
       let z : columns_from (take column.all bed_columns) 0 s 0 ≡ Err y = rw all_columns (sym r ∙ q) in
       all_on count l (Err y) (staged_stops Err read_apart y (rw z))
 
--- the quick way: where it is sure
-module _ (s b' d d' : List ℕ) (long : length d ≡ 2 * few_blocks) (w : Quick) (walked : QuickWalked (table_of bed_codes) s 0 (replicate (2 * column.all) 0) b' d d' w) (n : ℕ) (en : n ≡ w.count)
-    (t go : Bool) (et : t ≡ is_few n b') (eg : go ≡ (w.good && t)) (on : not go ≡ false) where
-  tests : (w.good ≡ true) × (is_word_count n ≡ true) × (leb (value_or n b' column.block_count 1) few_blocks ≡ true)
-  tests =
-      let a = both w.good t (sym eg ∙ not-false go on) in
-      let b = both (is_word_count n) (leb (value_or n b' column.block_count 1) few_blocks) (sym et ∙ a.1) in
-      (a.0, b.0, b.1)
+-- the quick way: where it finds something
+module _ (s b' d d' : List ℕ) (long : length d ≡ 2 * few_blocks) (x : Option Quick) (walked : QuickWalked (table_of bed_columns) s 0 (replicate (2 * column.all) 0) b' d d' x) (w : Quick) (taken : x ≡ Some w) (n : ℕ) (en : n ≡ w.count)
+    (t : Bool) (et : t ≡ is_few n b') (on : not t ≡ false) where
+  tests : (is_word_count n ≡ true) × (leb (value_or n b' column.block_count 1) few_blocks ≡ true)
+  tests = both (is_word_count n) (leb (value_or n b' column.block_count 1) few_blocks) (sym et ∙ not-false t on)
 
   quick_read : columns_from (take n bed_columns) 0 s 0 ≡ Ok w.last
-  quick_read = rw en (rw table_all at (walked.read tests.0))
+  quick_read = rw en (rw table_all at (walked.read w taken))
 
   quick_count : n ≡ word_count s 0
-  quick_count = en ∙ sym (walked.words tests.0)
+  quick_count = en ∙ sym (walked.words w taken)
 
   quick_same : (i : ℕ) → get_or b' i 0 ≡ get_or (values_from (take n bed_columns) 0 s 0) i 0
   unfolding bed_columns
   quick_same =
-      let m = count_most n tests.1 in
+      let m = count_most n tests.0 in
       let l : 2 * length (take n bed_columns) ≤ 2 * column.all = rw length-take (omega arith) in
-      let st : b' ≡ sets (replicate (2 * column.all) 0) 0 (values_from (take n bed_columns) 0 s 0) = rw en (rw table_all at (walked.stored tests.0)) in
+      let st : b' ≡ sets (replicate (2 * column.all) 0) 0 (values_from (take n bed_columns) 0 s 0) = rw en (rw table_all at (walked.stored w taken)) in
       values_stored (take n bed_columns) s 0 (2 * column.all) w.last b' l quick_read st
 
   pub quick_listed : Listed few_blocks s (bed_record n (length s) b') d'
   quick_listed =
-      let h : d' ≡ lists_by few_blocks (take n bed_columns) 0 s 0 0 d = rw en (rw table_all at (walked.held tests.0)) in
-      let f : value_or n (values_from (take n bed_columns) 0 s 0) column.block_count 1 ≤ few_blocks = rw (quick_same (2 * column.block_count)) at (leb-true (value_or n b' column.block_count 1) few_blocks tests.2) in
-      rw (record_same n b' (values_from (take n bed_columns) 0 s 0) quick_same (length s), h) (lists_listed s n w.last quick_count tests.1 quick_read few_blocks d long f (length s))
+      let h : d' ≡ lists_by few_blocks (take n bed_columns) 0 s 0 0 d = rw en (rw table_all at (walked.held w taken)) in
+      let f : value_or n (values_from (take n bed_columns) 0 s 0) column.block_count 1 ≤ few_blocks = rw (quick_same (2 * column.block_count)) at (leb-true (value_or n b' column.block_count 1) few_blocks tests.1) in
+      rw (record_same n b' (values_from (take n bed_columns) 0 s 0) quick_same (length s), h) (lists_listed s n w.last quick_count tests.0 quick_read few_blocks d long f (length s))
 
   pub quick_line : line_end s w.last ≡ line_end s 0
   quick_line = (walk_through (take n bed_columns) 0 s 0 w.last quick_read).line
 
-  pub quick_on : (l : List ℕ) (a : Result Bed Fault) → Staged Ok (Blocked few_blocks s) (after_columns s n b') l a → QuickStaged s (after_text s) l (record { sure = true; reading = a })
+  pub quick_on : (l : List ℕ) (a : Result Bed Fault) → Staged Ok (Blocked few_blocks s) (after_columns s n b') l a → QuickStaged s (after_text s) l (Some a)
   unfolding after_text after_words
   quick_on l a h = record {
-    staged = λ q. staged_goes a (rw (← quick_count, ← words_good s 0 n column.all (is_word_count n) (count_most n tests.1) tests.1, quick_read, ← columns_same n b' (values_from (take n bed_columns) 0 s 0) quick_same s)) h;
+    staged = λ found q.
+        let same : a ≡ found = cc in
+        rw (← same)
+        (staged_goes a (rw (← quick_count, ← words_good s 0 n column.all (is_word_count n) (count_most n tests.0) tests.0, quick_read, ← columns_same n b' (values_from (take n bed_columns) 0 s 0) quick_same s)) h);
   }
 
--- not sure
-pub quick_unsure : (s l : List ℕ) (answer : Result Bed Fault) (x : Sure) → x.sure ≡ false → QuickStaged s answer l x
-quick_unsure s l answer x e = record { staged = λ q. absurd (let k : ◌≡◌ {A = ℕ} 0 1 = cc in omega arith) }
+-- where it finds nothing, nothing is said
+pub quick_none : (s l : List ℕ) (answer : Result Bed Fault) → QuickStaged s answer l None
+quick_none s l answer = record { staged = λ found q. absurd (let k : ◌≡◌ {A = ℕ} 0 1 = cc in omega arith) }
 
-pub quick_sure : (s l : List ℕ) (answer : Result Bed Fault) (x : Sure) → QuickStaged s answer l x → x.sure ≡ true → x.reading ≡ answer
-quick_sure s l answer x h q = (h.staged q).is
-
-pub quick_staged : (s l : List ℕ) (answer : Result Bed Fault) (x : Sure) → QuickStaged s answer l x → x.sure ≡ true → Staged Ok (Blocked few_blocks s) answer l x.reading
-quick_staged s l answer x h q = h.staged q
+pub quick_is : (s l : List ℕ) (answer : Result Bed Fault) (x : Option (Result Bed Fault)) → QuickStaged s answer l x → (found : Result Bed Fault) → x ≡ Some found → found ≡ answer
+quick_is s l answer x h found q = (h.staged found q).is
 
 pub few_is : (n v : ℕ) (vs : List ℕ) (t : Bool) → t ≡ is_word_count n → v ≡ value_or n vs column.block_count 1 → (t && leb v few_blocks) ≡ is_few n vs
 few_is n v vs t et ev = rw (et, ev)
 
 -- the text's checks
 module _ (s : List ℕ) (b : Result ⊤ Fault) (eb : b ≡ text_check s) where
-  pub quick_text : b ≡ Ok tt → (l : List ℕ) (x : Sure) → QuickStaged s (after_text s) l x → QuickStaged s (bed_stages s) l x
+  pub quick_text : b ≡ Ok tt → (l : List ℕ) (x : Option (Result Bed Fault)) → QuickStaged s (after_text s) l x → QuickStaged s (bed_stages s) l x
   unfolding bed_stages
-  quick_text p l x h = record { staged = λ q. staged_goes x.reading (rw (← eb, p)) (h.staged q) }
+  quick_text p l x h = record { staged = λ found q. staged_goes found (rw (← eb, p)) (h.staged found q) }
 
   pub check_stop : (l : List ℕ) (x : Fault) → b ≡ Err x → Staged Ok (Blocked block_limit s) (bed_stages s) l (Err x)
   unfolding bed_stages

@@ -51,11 +51,6 @@ told_fault : (a : Result Bed Fault) (y : Refusal) → bed_answer a ≡ Err y →
 told_fault (Ok q) y e = absurd (answers_apart q y e)
 told_fault (Err x) y e = let p : refusal_at x ≡ y = cc in rw (← p)
 
--- and is told of it
-pub tells : (a : Result Bed Fault) (t : Result Bed Refusal) → MatchResult a (λ r. t ≡ Ok r) (λ x. IsErrAnd t (λ y. y ≡ refusal_at x)) → t ≡ bed_answer a
-tells (Ok r) t h = h
-tells (Err x) t h = let p = err_from_is_err_and t h in rw (p.1, p.2)
-
 module _ (s : List ℕ) where
   pub checked_of : (r : Bed) → bed_check s ≡ Ok r → bed_stages s ≡ Ok r
   unfolding bed_check
@@ -73,9 +68,11 @@ module _ (s : List ℕ) where
   unfolding bed_check
   refused_is x e = rw e
 
-  pub checked_told : (x : Result Bed Fault) (a : Result Bed Refusal) → x ≡ bed_stages s → a ≡ bed_answer x → a ≡ bed_check s
-  unfolding bed_check
-  checked_told x a e q = rw (← e) q
+  pub checked_read : (x : Result Bed Fault) (r : Bed) → x ≡ bed_stages s → x ≡ Ok r → Ok r ≡ bed_check s
+  checked_read x r e q = sym (checked_is r (sym e ∙ q))
+
+  pub checked_fault : (x : Result Bed Fault) (y : Fault) → x ≡ bed_stages s → x ≡ Err y → Err (refusal_at y) ≡ bed_check s
+  checked_fault x y e q = sym (refused_is y (sym e ∙ q))
 
   -- the reader: the text checker, then the room
   pub read_roomy : (r : Bed) (room : ℕ) → bed_check s ≡ Ok r → r.blockCount ≤ room → bed_read s room ≡ Ok r

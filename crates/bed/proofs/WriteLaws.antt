@@ -22,7 +22,7 @@ use Rattle.columns.specs.Names.{NamesPut, names_in, length_fits}
 use Rattle.columns.proofs.JoinLaws.{line_joins, words_take}
 use Rattle.columns.proofs.NameLaws.{names_put}
 use Rattle.columns.proofs.PlaceLaws.{sets_keep, sets_there}
-use Rattle.columns.proofs.TableLaws.{codes_length, table_is}
+use Rattle.columns.proofs.TableLaws.{front_length, table_is}
 use Rattle.columns.proofs.WordLaws.{letter_byte}
 use Rattle.blocks.specs.Blocks.{rows_of, subtracted, row_numbers_fit}
 use Rattle.blocks.proofs.RuleLaws.{subtracted_length}
@@ -33,7 +33,7 @@ use Rattle.bed.specs.Records.{is_word_count}
 use Rattle.bed.specs.Tests.{if_there, names_fit, fields_fit, strand_fits}
 use Rattle.bed.specs.Write.{names_show, write_check, bed_words, bed_text, bed_write, BedWrote}
 use Rattle.bed.specs.Steps.{bed_values, RowsThere, ListsPut, Writable}
-use Rattle.bed.proofs.ColumnLaws.{bed_codes, codes_same, codes_few, count_most}
+use Rattle.bed.proofs.ColumnLaws.{columns_few, count_most}
 
 -- the two lists of the blocks
 pub lists_put : (r : Bed) (ts zs l l₁ y : List ℕ) → RowsThere r ts zs l → l₁ ≡ sets l 0 (take r.blockCount zs)
@@ -59,16 +59,16 @@ module _ (r : Bed) (chrom name ts zs t l : List ℕ) (names : NamesPut chrom nam
   unfolding words_from bed_columns bed_values bed_words
   words_are = rw (names.first_at, names.second_at, letter_byte r.strand, lists.sizes, lists.starts)
 
-  pub text_is : r.words ≤ column.all → fed_line (table_of (take r.words bed_codes)) 9 t (bed_values r (length chrom) (length name)) l ≡ bed_text r chrom name ts zs
+  pub text_is : r.words ≤ column.all → fed_line (table_of (take r.words bed_columns)) 9 t (bed_values r (length chrom) (length name)) l ≡ bed_text r chrom name ts zs
   unfolding fed_line line_text bed_text
   text_is h = rw (
-    table_is bed_codes bed_columns codes_same codes_few r.words h,
+    table_is bed_columns columns_few r.words h,
     line_joins 9 t (bed_values r (length chrom) (length name)) l (take r.words bed_columns),
     words_take r.words 0 0 bed_columns t (bed_values r (length chrom) (length name)) l,
     words_are,
   )
 
-  pub text_wrote : (vs b b' : List ℕ) (x : Result ℕ Refusal) → vs ≡ bed_values r (length chrom) (length name) → r.words ≤ column.all → Wrote (fed_line (table_of (take r.words bed_codes)) 9 t vs l) b b' x → Wrote (bed_text r chrom name ts zs) b b' x
+  pub text_wrote : (vs b b' : List ℕ) (x : Result ℕ Refusal) → vs ≡ bed_values r (length chrom) (length name) → r.words ≤ column.all → Wrote (fed_line (table_of (take r.words bed_columns)) 9 t vs l) b b' x → Wrote (bed_text r chrom name ts zs) b b' x
   text_wrote vs b b' x ev h w = rw (ev, text_is h) at w
 
 -- what the stages ask of a record that passed the checks
@@ -76,8 +76,8 @@ module _ (r : Bed) (chrom name ts zs : List ℕ) (w : Writable r chrom name ts z
   pub names_there : (t names : List ℕ) → names ≡ names_in chrom name t → length t ≡ 2 * name_limit → NamesPut chrom name names
   names_there t names e l = names_put chrom name t names e l w.chrom_short w.name_short
 
-  pub codes_there : r.words ≡ length (take r.words bed_codes)
-  codes_there = codes_length bed_codes bed_columns codes_same codes_few r.words w.words
+  pub columns_there : r.words ≡ length (take r.words bed_columns)
+  columns_there = front_length bed_columns columns_few r.words w.words
 
   pub rows_there : (l : List ℕ) → length l ≡ 2 * block_limit → RowsThere r ts zs l
   rows_there l e = record { long = e; few = w.few; targets = w.targets; sizes = w.sizes }

@@ -1,5 +1,5 @@
 -- For private contracts: what the steps of reading and writing a BED line promise. Not a definition of the format.
-use Rattle.std.specs.Prelude.{ℕ, ◌-◌, ◌*◌, ◌≤◌, ◌<◌, ◌≡◌, Bool, true, ◌&&◌, cond, List, [], ◌∷◌, length, take, drop, set, leb, eqb, Ok, Result}
+use Rattle.std.specs.Prelude.{ℕ, ◌-◌, ◌*◌, ◌≤◌, ◌<◌, ◌≡◌, Bool, true, ◌&&◌, cond, List, [], ◌∷◌, length, take, drop, set, leb, eqb, Ok, Result, Option, Some}
 use Rattle.ledger.specs.Limits.{name_limit, block_limit, largest_position}
 use Rattle.ledger.specs.Strands.{strand_letter}
 use Rattle.ledger.specs.declared.Fault.{Fault}
@@ -10,7 +10,6 @@ use Rattle.columns.specs.Columns.{few_blocks}
 use Rattle.blocks.specs.Blocks.{blocks_fill, rows_of, subtracted}
 use Rattle.blocks.specs.Readers.{RowsRead}
 use Rattle.bed.specs.declared.Bed.{Bed}
-use Rattle.bed.specs.declared.Sure.{Sure}
 use Rattle.bed.specs.Columns as column
 use Rattle.bed.specs.Records.{is_word_count, value_or, bed_sizes, bed_starts, bed_targets, bed_queries}
 use Rattle.bed.specs.Read.{on_reading, bed_room}
@@ -45,10 +44,10 @@ pub record Blocked (b : ℕ) (s : List ℕ) (r : Bed) (lists : List ℕ) : Type 
 abbrev pub is_few : ℕ → List ℕ → Bool
 is_few n vs = is_word_count n && leb (value_or n vs column.block_count 1) few_blocks
 
--- what the quick way promises: where it is sure, its reading is the line's, and the blocks of a line that was read are in its
--- working room
-pub record QuickStaged (s : List ℕ) (answer : Result Bed Fault) (lists' : List ℕ) (x : Sure) : Type 0 where
-  pub staged : x.sure ≡ true → Staged Ok (Blocked few_blocks s) answer lists' x.reading
+-- what the quick way promises: what it finds is what the stages find, and the blocks of a line that was read are in its working
+-- room
+pub record QuickStaged (s : List ℕ) (answer : Result Bed Fault) (lists' : List ℕ) (x : Option (Result Bed Fault)) : Type 0 where
+  pub staged : (found : Result Bed Fault) → x ≡ Some found → Staged Ok (Blocked few_blocks s) answer lists' found
 
 -- a read line's blocks in the working room, and that they fill its span: before the rows are stored
 pub record Stored (b : ℕ) (s : List ℕ) (r : Bed) (lists : List ℕ) : Type 0 where

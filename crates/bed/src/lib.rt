@@ -17,6 +17,7 @@ ghost use Rattle.bed.specs.Read.{after_spans, after_columns, after_words, after_
 ghost use Rattle.bed.specs.Steps.{with_default, Counted, Listed, Blocked, is_few, QuickStaged, Stored, RowsStored};
 ghost use Rattle.bed.specs.Steps.{Tidied, bed_values, RowsThere, ListsPut, Writable};
 
+use kinds::{Kind, Range};
 use ledger::{Fault, Part, Reason, Refusal, Strand};
 use text::Extent;
 
@@ -60,20 +61,20 @@ const BLOCK_COUNT: usize = 9;
 // How many there are.
 const COLUMNS: usize = 12;
 
-// The codes of specs/Table.antt's columns.
-const BED: [u8; COLUMNS] = [
-    kinds::NAME,
-    kinds::COORDINATE,
-    kinds::COORDINATE,
-    kinds::NAME,
-    kinds::BED_SCORE,
-    kinds::STRAND_OR_DOT,
-    kinds::COORDINATE,
-    kinds::COORDINATE,
-    kinds::COLOUR,
-    kinds::COUNT,
-    kinds::SIZES,
-    kinds::STARTS,
+// The columns of specs/Table.antt.
+const BED: [Kind; COLUMNS] = [
+    Kind::Name,
+    Kind::Number(Range::Coordinate),
+    Kind::Number(Range::Coordinate),
+    Kind::Name,
+    Kind::Number(Range::BedScore),
+    Kind::Stranded(true),
+    Kind::Number(Range::Coordinate),
+    Kind::Number(Range::Coordinate),
+    Kind::Colour,
+    Kind::Count,
+    Kind::Items(Range::Size),
+    Kind::Items(Range::Coordinate),
 ];
 
 // Two numbers a column: its value, and where its word starts.
@@ -299,26 +300,6 @@ fn check_long(text: &[u8]) -> Result<Bed, Fault>
     stage(text, &mut lists)
 }
 
-// A reading of the quick way, which holds where it is sure.
-#[derive(Clone, Copy)]
-pub struct Sure {
-    pub sure: bool,
-    pub reading: Result<Bed, Fault>,
-}
-
-fn unsure() -> Sure
-    ensures { result.sure ≡ false }
-{
-    let reading = Err(Fault {
-        reason: Reason::WrongCount,
-        place: 0,
-    });
-    Sure {
-        sure: false,
-        reading,
-    }
-}
-
 // Whether a line of n good words is one that the quick way goes on with: a good number of words, and few blocks.
 fn is_few(values: &[u64], n: u64) -> bool
     ensures { result ≡ is_few n values.now }
@@ -328,37 +309,30 @@ fn is_few(values: &[u64], n: u64) -> bool
 }
 
 // The quick way of a line: its words in one walk, and on.
-fn quick_line(text: &[u8], lists: &mut [u64]) -> Sure
+fn quick_line(text: &[u8], lists: &mut [u64]) -> Option<Result<Bed, Fault>>
     requires { length lists.old ≡ 2 * few_blocks }
     ensures { QuickStaged text.now (after_text text.now) lists.new result }
 {
     let table = BED;
     let mut values = [0u64; VALUES];
-    let w = columns::quick_words(text, 0, &table, &mut values, lists);
+    let w = columns::quick_words(text, 0, &table, &mut values, lists)?;
     let n = w.count as u64;
-    let go_on = w.good & is_few(&values, n);
-    if !go_on {
-        return unsure();
+    if !is_few(&values, n) {
+        return None;
     }
-    let reading = after_columns(text, w.last, n, &values, columns::FEW, lists);
-    Sure {
-        sure: true,
-        reading,
-    }
+    Some(after_columns(text, w.last, n, &values, columns::FEW, lists))
 }
 
-// The quick way of a short text.
-fn quick(text: &[u8], lists: &mut [u64]) -> Sure
+// The quick way of a short text: what the stages find, where it finds anything.
+fn quick(text: &[u8], lists: &mut [u64]) -> Option<Result<Bed, Fault>>
     requires { length lists.old ≡ 2 * few_blocks }
     ensures { QuickStaged text.now (bed_stages text.now) lists.new result }
 {
     if LONG < text.len() {
-        return unsure();
+        return None;
     }
-    match text::check_text(text) {
-        Err(_) => unsure(),
-        Ok(()) => quick_line(text, lists),
-    }
+    text::check_text(text).ok()?;
+    quick_line(text, lists)
 }
 
 // Working room for the lists of a short line.
@@ -370,24 +344,22 @@ fn few_room() -> [u64; FEW_ROOM]
     [0; FEW_ROOM]
 }
 
-// A reading, as its caller is told.
-fn answered(x: Result<Bed, Fault>) -> Result<Bed, Refusal>
-    ensures { result ≡ bed_answer x }
+// All checks of a text; both ways answer alike.
+fn check_any(text: &[u8]) -> Result<Bed, Fault>
+    ensures { result ≡ bed_stages text.now }
 {
-    x.map_err(Refusal::at)
+    let mut lists = few_room();
+    match quick(text, &mut lists) {
+        Some(found) => found,
+        None => check_long(text),
+    }
 }
 
 // THE TEXT CHECKER: what the reader answers, given room.
 pub fn check_bed_text(text: &[u8]) -> Result<Bed, Refusal>
     ensures { result ≡ bed_check text.now }
 {
-    let mut lists = few_room();
-    let q = quick(text, &mut lists);
-    if q.sure {
-        let reading = q.reading;
-        return answered(reading);
-    }
-    answered(check_long(text))
+    Ok(check_any(text)?)
 }
 
 // Whether a word ends with a comma.
@@ -497,6 +469,23 @@ fn read_long(
     hand_over(text, reading, BLOCKS, &lists, targets, queries, sizes)
 }
 
+// The reader; both ways answer alike.
+fn read_any(
+    text: &[u8],
+    targets: &mut [u64],
+    queries: &mut [u64],
+    sizes: &mut [u64],
+) -> Result<Bed, Fault>
+    ensures { RowsStored (bed_stages text.now) text.now targets.old targets.new
+        queries.old queries.new sizes.old sizes.new result }
+{
+    let mut lists = few_room();
+    match quick(text, &mut lists) {
+        Some(found) => hand_over(text, found, columns::FEW, &lists, targets, queries, sizes),
+        None => read_long(text, targets, queries, sizes),
+    }
+}
+
 // THE READER: one BED line, its blocks to the front of three lent slices. A refusal leaves them as they were, and rows past the
 // blocks stay.
 pub fn read_bed(
@@ -508,13 +497,7 @@ pub fn read_bed(
     ensures { BedRead text.now targets.old targets.new queries.old
         queries.new sizes.old sizes.new result }
 {
-    let mut lists = few_room();
-    let q = quick(text, &mut lists);
-    if q.sure {
-        let reading = q.reading;
-        return answered(hand_over(text, reading, columns::FEW, &lists, targets, queries, sizes));
-    }
-    answered(read_long(text, targets, queries, sizes))
+    Ok(read_any(text, targets, queries, sizes)?)
 }
 
 // Of column k: a test where it is there, and another where it is left out.

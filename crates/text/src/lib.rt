@@ -145,7 +145,12 @@ pub fn check_text(text: &[u8]) -> Result<(), Fault>
 }
 
 // Where the test holds, the rest; else a fault.
-pub fn require(test: bool, reason: Reason, place: usize, rest: Result<(), Fault>) -> Result<(), Fault>
+pub fn require(
+    test: bool,
+    reason: Reason,
+    place: usize,
+    rest: Result<(), Fault>,
+) -> Result<(), Fault>
     ensures { result ≡ require test (fault reason place) rest }
 {
     if test {

@@ -1,13 +1,12 @@
--- The quick reading where it is sure, and its rows, as the caller is told. Assumes nothing.
-use Rattle.bed.proofs.ColumnLaws.{quick_staged}
+-- The rows that were stored, and the record, or the fault as its caller is told. Assumes nothing.
+use Rattle.std.proofs.lemmas.Result.{err_from_is_err_and}
 use Rattle.bed.proofs.StoreLaws.{read_told}
 use Rattle.bed.proofs.read_bed.Goals as goal
 
-pub hand_over-requires : goal.hand_over-requires
-hand_over-requires c = search quick_staged
-
-pub returns-then-q : goal.returns-then-q
-returns-then-q c = search read_told
+pub returns-in_err-read_any : goal.returns-in_err-read_any
+returns-in_err-read_any c =
+    let p = err_from_is_err_and c.from_residual.result c.from_residual.ensures.1 in
+    rw (p.1, p.2) ?
 
 pub returns : goal.returns
-returns c = search read_told
+returns c = ?

@@ -9,8 +9,8 @@ use Rattle.std.proofs.lemmas.Iterator.{empty_from_Zip}
 use Rattle.blocks.proofs.BlockLaws.{sums_uneven, sums_none, sums_off, sums_start, sums_before, sums_other, sums_more, sums_done}
 use Rattle.blocks.proofs.are_sums.Goals as goal
 
-pub returns-then-least-n : goal.returns-then-least-n
-returns-then-least-n c = search sums_uneven
+pub returns-then-min-n : goal.returns-then-min-n
+returns-then-min-n c = search sums_uneven
 
 pub returns-then-n-eq0 : goal.returns-then-n-eq0
 returns-then-n-eq0 c = search sums_none

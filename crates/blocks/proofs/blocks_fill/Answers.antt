@@ -10,8 +10,8 @@ use Rattle.std.proofs.lemmas.Iterator.{empty_from_Zip}
 use Rattle.blocks.proofs.BlockLaws.{fill_uneven, fill_none, fill_off, fill_start, fill_before, fill_within, fill_more, fill_past, fill_done}
 use Rattle.blocks.proofs.blocks_fill.Goals as goal
 
-pub returns-then-least-n : goal.returns-then-least-n
-returns-then-least-n c = search fill_uneven
+pub returns-then-min-n : goal.returns-then-min-n
+returns-then-min-n c = search fill_uneven
 
 pub returns-then-n-eq0 : goal.returns-then-n-eq0
 returns-then-n-eq0 c = search fill_none
