@@ -37,7 +37,7 @@ pub fn refusal_code(x: Refusal) -> u64
 pub fn refused_at(reason: Reason, place: usize) -> u64
     ensures { result ≡ refusal_code (refusal_at (fault_at reason place)) }
 {
-    refusal_code(Refusal::at(Fault { reason, place }))
+    refusal_code(Refusal::from(Fault { reason, place }))
 }
 
 // The refusal of an entry's own arguments.

@@ -8,7 +8,8 @@ use lib.ListN.{length, replicate, get_or, take, drop, length-take}
 use lib.Seq.{sets}
 use lib.Dec.{leb, eqb}
 use borrow.Author.Tests.{lt-ltb, le-ltb, le-leb, leb-true, eqb-true, not-false}
-use Rattle.std.specs.Prelude.{Ok, Err, Result, ⊤}
+use Rattle.std.specs.Result.{result_ok}
+use Rattle.std.specs.Prelude.{Ok, Err, Result, Option, Some, None, ⊤}
 use Rattle.ledger.specs.Limits.{block_limit, largest_position}
 use Rattle.ledger.specs.declared.Fault.{Fault}
 use Rattle.text.specs.Checks.{then_check, text_check, words_check}
@@ -216,12 +217,15 @@ module _ (s : List ℕ) (n : ℕ) (b' d d' : List ℕ) (counted : Counted s n d)
 
   module _ (e : ℕ) (q : x ≡ Ok e) where
     next : columns_from (take n bed_columns) 0 s 0 ≡ Ok e
+    unfolding bed_columns
     next = read_next bed_columns columns_few n few s 0 (2 * column.all) (omega (arith, few)) b' d d' x read e q
 
     same : (i : ℕ) → get_or b' i 0 ≡ get_or (values_from (take n bed_columns) 0 s 0) i 0
+    unfolding bed_columns
     same = values_same bed_columns columns_few n few s 0 (2 * column.all) (omega (arith, few)) b' d d' x read e q
 
     pub words_listed : Listed block_limit s (bed_record n (length s) b') d'
+    unfolding bed_columns
     words_listed =
         let h = lists_are bed_columns columns_few n few s 0 (2 * column.all) (omega (arith, few)) b' d d' x read e q in
         rw (record_same n b' (values_from (take n bed_columns) 0 s 0) same (length s), h)
@@ -235,7 +239,7 @@ module _ (s : List ℕ) (n : ℕ) (b' d d' : List ℕ) (counted : Counted s n d)
     words_on l a h = staged_goes a (rw (next, ← columns_same n b' (values_from (take n bed_columns) 0 s 0) same s)) h
 
   pub words_stop : (l : List ℕ) (y : Fault) → x ≡ Err y → Staged Ok (Blocked block_limit s) (after_words s n) l (Err y)
-  unfolding after_words
+  unfolding after_words bed_columns
   words_stop l y q =
       let z : columns_from (take n bed_columns) 0 s 0 ≡ Err y = sym (read_is bed_columns columns_few n few s 0 (2 * column.all) (omega (arith, few)) b' d d' x read) ∙ q in
       staged_stops Err read_apart y (rw z)
@@ -244,6 +248,7 @@ pub words_few : (s : List ℕ) (n : ℕ) (d : List ℕ) → Counted s n d → n 
 words_few s n d h = count_most n h.good
 
 pub words_length : (s : List ℕ) (n : ℕ) (d : List ℕ) → Counted s n d → n ≡ length (take n bed_columns)
+unfolding bed_columns
 words_length s n d h = front_length bed_columns columns_few n (count_most n h.good)
 
 -- the number of words
@@ -288,7 +293,7 @@ module _ (s b' d d' : List ℕ) (long : length d ≡ 2 * block_limit) (x : Resul
     count_all' = count_of_lem s 0 column.all long_read.0
 
     walked : ColumnsWalked (table_of (take column.all bed_columns)) s 0 (replicate (2 * column.all) 0) b' d d' (Ok e)
-    walked = record { result = rw table_all (sym long_read.1); stored = λ f p. read.stored e q; held = λ f p. read.held e q }
+    walked = record { result = rw (all_columns, table_all) (sym long_read.1); stored = λ f p. rw all_columns (read.stored e q); held = λ f p. rw all_columns (read.held e q) }
 
     pub long_listed : Listed block_limit s (bed_record column.all (length s) b') d'
     long_listed = words_listed s column.all b' d d' (all_counted count_all') (Ok e) walked e refl
@@ -360,6 +365,13 @@ module _ (s : List ℕ) (b : Result ⊤ Fault) (eb : b ≡ text_check s) where
   pub quick_text : b ≡ Ok tt → (l : List ℕ) (x : Option (Result Bed Fault)) → QuickStaged s (after_text s) l x → QuickStaged s (bed_stages s) l x
   unfolding bed_stages
   quick_text p l x h = record { staged = λ found q. staged_goes found (rw (← eb, p)) (h.staged found q) }
+
+  pub quick_short : (o : Option ⊤) → o ≡ result_ok b → (u : ⊤) → o ≡ Some u → (l : List ℕ) (x : Option (Result Bed Fault)) → QuickStaged s (after_text s) l x → QuickStaged s (bed_stages s) l x
+  quick_short o e u q l x h = quick_text (passed b u (sym e ∙ q)) l x h
+    where
+      passed : (c : Result ⊤ Fault) (v : ⊤) → result_ok c ≡ Some v → c ≡ Ok tt
+      passed (Ok w) v k = refl
+      passed (Err y) v k = absurd (let z : ◌≡◌ {A = ℕ} 0 1 = cc in omega arith)
 
   pub check_stop : (l : List ℕ) (x : Fault) → b ≡ Err x → Staged Ok (Blocked block_limit s) (bed_stages s) l (Err x)
   unfolding bed_stages

@@ -9,7 +9,7 @@ use Rattle.std.specs.Prelude.{Ok, Err, Result}
 use Rattle.ledger.specs.Limits.{largest_number}
 use Rattle.ledger.specs.declared.Reason.TheVariants.{NoRoom}
 use Rattle.ledger.specs.declared.Fault.{Fault}
-use Rattle.ledger.specs.Refusals.{fault_at}
+use Rattle.ledger.specs.Refusals.{refusal_at, fault_at}
 use Rattle.ledger.specs.declared.Refusal.{Refusal}
 use Rattle.text.specs.Steps.{Staged}
 use Rattle.blocks.specs.Blocks.{shifted_within, sums_within, rows_of}
@@ -81,3 +81,9 @@ pub read_told : (s ts ts' qs qs' zs zs' : List ℕ) (x : Result Bed Fault) (a : 
 unfolding bed_read
 read_told s ts ts' qs qs' zs zs' x a h e =
     rw e (rows_told on_reading on_answer bed_answer told_same (bed_room s (rows_of ts qs zs) (bed_stages s)) (bed_targets s) (bed_queries s) (bed_sizes s) ts ts' qs qs' zs zs' x h)
+
+pub record_told : (s ts ts' qs qs' zs zs' : List ℕ) (x : Result Bed Fault) (r : Bed) → RowsStored (bed_stages s) s ts ts' qs qs' zs zs' x → x ≡ Ok r → BedRead s ts ts' qs qs' zs zs' (Ok r)
+record_told s ts ts' qs qs' zs zs' x r h e = read_told s ts ts' qs qs' zs zs' x (Ok r) h (rw e refl)
+
+pub fault_told : (s ts ts' qs qs' zs zs' : List ℕ) (x : Result Bed Fault) (y : Fault) → RowsStored (bed_stages s) s ts ts' qs qs' zs zs' x → x ≡ Err y → BedRead s ts ts' qs qs' zs zs' (Err (refusal_at y))
+fault_told s ts ts' qs qs' zs zs' x y h e = read_told s ts ts' qs qs' zs zs' x (Err (refusal_at y)) h (rw e refl)

@@ -60,7 +60,7 @@ module _ (r : Bed) (chrom name ts zs t l : List ℕ) (names : NamesPut chrom nam
   words_are = rw (names.first_at, names.second_at, letter_byte r.strand, lists.sizes, lists.starts)
 
   pub text_is : r.words ≤ column.all → fed_line (table_of (take r.words bed_columns)) 9 t (bed_values r (length chrom) (length name)) l ≡ bed_text r chrom name ts zs
-  unfolding fed_line line_text bed_text
+  unfolding fed_line line_text bed_text bed_columns
   text_is h = rw (
     table_is bed_columns columns_few r.words h,
     line_joins 9 t (bed_values r (length chrom) (length name)) l (take r.words bed_columns),
@@ -77,6 +77,7 @@ module _ (r : Bed) (chrom name ts zs : List ℕ) (w : Writable r chrom name ts z
   names_there t names e l = names_put chrom name t names e l w.chrom_short w.name_short
 
   pub columns_there : r.words ≡ length (take r.words bed_columns)
+  unfolding bed_columns
   columns_there = front_length bed_columns columns_few r.words w.words
 
   pub rows_there : (l : List ℕ) → length l ≡ 2 * block_limit → RowsThere r ts zs l

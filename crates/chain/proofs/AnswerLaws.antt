@@ -20,10 +20,12 @@ read_apart r x e = let z : ◌≡◌ {A = ℕ} 0 1 = cc in omega arith
 pub accepted_apart : (r : Chain) (x : Refusal) → Err x ≡ Ok r → ⊥
 accepted_apart r x e = let z : ◌≡◌ {A = ℕ} 0 1 = cc in omega arith
 
--- what is told of a reading
-pub told : (x : Result Chain Fault) (y : Result Chain Refusal) → MatchResult x (λ r. y ≡ Ok r) (λ f. IsErrAnd y (λ z. z ≡ refusal_at f)) → y ≡ chain_answer x
-told (Ok r) y h = h
-told (Err f) y h = let p = err_from_is_err_and y h in p.1 ∙ ap Err p.2
+-- what is told of a record, and of a fault
+pub told_ok : (x : Result Chain Fault) (r : Chain) → x ≡ Ok r → Ok r ≡ chain_answer x
+told_ok x r e = sym (ap chain_answer e)
+
+pub told_fault : (x : Result Chain Fault) (y : Fault) → x ≡ Err y → Err (refusal_at y) ≡ chain_answer x
+told_fault x y e = sym (ap chain_answer e)
 
 pub told_same : (X : Type 0) (x : Result Chain Fault) (f : Chain → X) (y : X) → on_answer X (chain_answer x) f y ≡ on_reading X x f y
 told_same X (Ok r) f y = refl

@@ -24,7 +24,6 @@ ghost use Rattle.chain.specs.Read.{
   after_columns,
   after_text,
   chain_stages,
-  chain_answer,
   chain_check,
   Held,
   InRoom,
@@ -149,13 +148,6 @@ const BLOCK: [Kind; GAP_COLUMNS] = [
     Kind::Number(Range::Coordinate),
     Kind::Number(Range::Coordinate),
 ];
-
-// What a caller is told of a reading: the one place where a fault becomes a refusal.
-fn answered(x: Result<Chain, Fault>) -> Result<Chain, Refusal>
-    ensures { result ≡ chain_answer x }
-{
-    x.map_err(Refusal::at)
-}
 
 // The name that column k says: where its word starts, and its length.
 fn name_of(values: &[u64], k: usize) -> Part
@@ -554,7 +546,7 @@ pub fn check_chain_text(text: &[u8]) -> Result<Chain, Refusal>
     ensures { result ≡ chain_check text.now }
 {
     let mut rows = blocks::working_room();
-    answered(stage(text, &mut rows))
+    Ok(stage(text, &mut rows)?)
 }
 
 // The reader into working room for any record's blocks: targets, queries and sizes, each after the room for a record's
@@ -565,7 +557,7 @@ pub fn read_rows(text: &[u8], rows: &mut [u64]) -> Result<Chain, Refusal>
     if rows.len() != blocks::ROOM {
         return check_chain_text(text);
     }
-    answered(stage(text, rows))
+    Ok(stage(text, rows)?)
 }
 
 // The room (11), then the rows into the lent slices.
@@ -623,7 +615,7 @@ pub fn read_chain(
     ensures { ChainRead text.now targets.old targets.new queries.old
         queries.new sizes.old sizes.new result }
 {
-    answered(read_blocks(text, targets, queries, sizes))
+    Ok(read_blocks(text, targets, queries, sizes)?)
 }
 
 // The two names by their lengths.

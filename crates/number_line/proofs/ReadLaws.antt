@@ -13,6 +13,7 @@ use Rattle.std.specs.Prelude.{Ok, Err, Result, ⊤}
 use Rattle.ledger.specs.Limits.{text_limit}
 use Rattle.ledger.specs.declared.Reason.TheVariants.{NoRoom}
 use Rattle.ledger.specs.declared.Fault.{Fault}
+use Rattle.ledger.specs.Refusals.{refusal_at}
 use Rattle.ledger.specs.declared.Refusal.{Refusal}
 use Rattle.text.specs.declared.Class.TheVariants.{Blank, Line, Allowed}
 use Rattle.text.specs.Scan.{is_in, run, end_of}
@@ -227,6 +228,13 @@ handed_read s room before after q n r t g en h =
     let l : length (take n room) ≡ q.count = rw en (length-take-le q.count room t.few) in
     let v : take n room ≡ numbers_in s = rw en (sym (t.values g)) in
     record { is = rw (t.is g, ← l) h.is; left = rw (← v) h.left }
+
+-- what is told of a record, and of a fault
+pub told_ok : (x : Result ℕ Fault) (r : ℕ) → x ≡ Ok r → Ok r ≡ numbers_answer x
+told_ok x r e = sym (ap numbers_answer e)
+
+pub told_fault : (x : Result ℕ Fault) (y : Fault) → x ≡ Err y → Err (refusal_at y) ≡ numbers_answer x
+told_fault x y e = sym (ap numbers_answer e)
 
 -- as a caller is told
 bytes_told : (x : Result ℕ Fault) (vs before : List ℕ) → bytes_after (numbers_answer x) vs before ≡ bytes_held x vs before

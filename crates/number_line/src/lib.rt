@@ -3,18 +3,11 @@
 
 ghost use Rattle.std.specs.Prelude.{◌≡◌, false, ◌*◌, leb, length};
 ghost use Rattle.binary.specs.Bytes.{word_size};
-ghost use Rattle.number_line.specs.Numbers.{numbers_answer, numbers_stages, numbers_check, NumbersStored};
+ghost use Rattle.number_line.specs.Numbers.{numbers_stages, numbers_check, NumbersStored};
 ghost use Rattle.number_line.specs.Walks.{Walked, line_check, feedless, is_gap, QuickRead, QuickText, Handed, NumbersHeld};
 
 use ledger::{Fault, Reason, Refusal};
 use text::Class;
-
-// The one place where a fault becomes a refusal.
-fn answered(x: Result<usize, Fault>) -> Result<usize, Refusal>
-    ensures { result ≡ numbers_answer x }
-{
-    x.map_err(Refusal::at)
-}
 
 // The greatest number, and how many digits it has.
 const LARGEST: u64 = 999999999999999999;
@@ -70,7 +63,7 @@ fn stage(text: &[u8]) -> Result<usize, Fault>
 pub fn check_numbers(text: &[u8]) -> Result<usize, Refusal>
     ensures { result ≡ numbers_check text.now }
 {
-    answered(stage(text))
+    Ok(stage(text)?)
 }
 
 fn numbers_fit(n: usize, room: usize) -> bool
@@ -231,5 +224,5 @@ fn read_any(text: &[u8], out: &mut [u8]) -> Result<usize, Fault>
 pub fn read_numbers(text: &[u8], out: &mut [u8]) -> Result<usize, Refusal>
     ensures { NumbersStored text.now out.old out.new result }
 {
-    answered(read_any(text, out))
+    Ok(read_any(text, out)?)
 }

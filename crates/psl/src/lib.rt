@@ -12,7 +12,7 @@ ghost use Rattle.psl.specs.Records.{counts_of, side_of, psl_record};
 ghost use Rattle.psl.specs.Rows.{rows_fit, counts_fit};
 ghost use Rattle.psl.specs.Tests.{side_fits, count_numbers_fit, fields_fit, spans_fit, psl_valid};
 ghost use Rattle.psl.specs.Write.{words_show, numbers_check, write_check, psl_text, PslWrote, record_check};
-ghost use Rattle.psl.specs.Read.{span_check, row_check, after_line, psl_stages, room_stages, psl_answer, psl_check, Listed, InRoom, PslRead};
+ghost use Rattle.psl.specs.Read.{span_check, row_check, after_line, psl_stages, room_stages, psl_check, Listed, InRoom, PslRead};
 ghost use Rattle.psl.specs.Steps.{CountsRange, Ready, RowsStored, head_fits, values_put, psl_values, RowsThere, ListsPut, Writable};
 
 use kinds::{Kind, Range};
@@ -250,19 +250,12 @@ fn stage(text: &[u8], lists: &mut [u64]) -> Result<Psl, Fault>
     after_line(text, &values, lists)
 }
 
-// What a caller is told of a reading.
-fn answered(x: Result<Psl, Fault>) -> Result<Psl, Refusal>
-    ensures { result ≡ psl_answer x }
-{
-    x.map_err(Refusal::at)
-}
-
 // THE TEXT CHECKER: what the reader answers, given room.
 pub fn check_psl_text(text: &[u8]) -> Result<Psl, Refusal>
     ensures { result ≡ psl_check text.now }
 {
     let mut lists = blocks::working_room();
-    answered(stage(text, &mut lists))
+    Ok(stage(text, &mut lists)?)
 }
 
 // The reader into working room for any record's blocks: sizes, queries and targets, each after the room for a record's
@@ -273,7 +266,7 @@ pub fn read_lists(text: &[u8], lists: &mut [u64]) -> Result<Psl, Refusal>
     if lists.len() != blocks::ROOM {
         return check_psl_text(text);
     }
-    answered(stage(text, lists))
+    Ok(stage(text, lists)?)
 }
 
 // The room (11), then the rows into the lent slices.
@@ -335,7 +328,7 @@ pub fn read_psl(
     ensures { PslRead text.now targets.old targets.new queries.old
         queries.new sizes.old sizes.new result }
 {
-    answered(read_rows(text, targets, queries, sizes))
+    Ok(read_rows(text, targets, queries, sizes)?)
 }
 
 // The numbers of a side.

@@ -95,7 +95,7 @@ fn put_written(out: &mut [u8], at: usize, buf: &[u8], written: Result<usize, Ref
 
 // A fault at its place in a text or a word.
 fn put_fault(out: &mut [u8], at: usize, x: Fault) -> usize {
-    cases::put_refusal(out, at, Refusal::at(x))
+    cases::put_refusal(out, at, Refusal::from(x))
 }
 
 // Case `t`: the checks of a text.

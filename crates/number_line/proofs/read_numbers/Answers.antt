@@ -1,6 +1,12 @@
 -- As a caller is told. Assumes nothing.
-use Rattle.number_line.proofs.ReadLaws.{numbers_told}
+use Rattle.std.proofs.lemmas.Result.{err_from_is_err_and}
+use Rattle.number_line.proofs.ReadLaws.{told_ok, told_fault, numbers_told}
 use Rattle.number_line.proofs.read_numbers.Goals as goal
 
+pub returns-in_err-read_any : goal.returns-in_err-read_any
+returns-in_err-read_any c =
+    let p = err_from_is_err_and c.from_residual.result c.from_residual.ensures.1 in
+    rw (p.1, p.2) (search (numbers_told, told_fault, c.in_err-read_any.was))
+
 pub returns : goal.returns
-returns c = search numbers_told
+returns c = search (numbers_told, told_ok, c.in_ok-read_any.was)
