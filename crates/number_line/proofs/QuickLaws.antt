@@ -20,16 +20,9 @@ use Rattle.numbers.specs.declared.Digits.{Digits}
 use Rattle.numbers.specs.Numbers.{is_led, number_of, DigitsRead}
 use Rattle.numbers.specs.Lists.{good_values}
 use Rattle.numbers.proofs.DigitLaws.{value_most, part_in_lem, part_length, digits_high, digits_pass, digits_ended, judged_good, judged_part}
-use Rattle.number_line.specs.declared.Quick.{Quick}
 use Rattle.number_line.specs.Numbers.{largest_listed}
 use Rattle.number_line.specs.Walks.{good_in, is_gap, QuickRead}
-use Rattle.std.specs.Prelude.{Ok}
-
-pub quick_unsure : (line room : List ℕ) (r : Quick) → (r.good ≡ false) × (r.count ≡ 0) → QuickRead line room r
-quick_unsure line room r e = record {
-  plain = λ g. absurd (let z : ◌≡◌ {A = Bool} true false = sym g ∙ e.0 in let o : ◌≡◌ {A = ℕ} 0 1 = cc in omega arith);
-  few = omega (arith, e.1);
-}
+use Rattle.std.specs.Prelude.{Ok, Some}
 
 -- ---- bytes
 digit_word : (b : ℕ) → is_in Digit b ≡ true → is_in Word b ≡ true
@@ -150,16 +143,19 @@ module _ (line room : List ℕ) (at n : ℕ) (past : length line ≤ at) where
 
   pub plain_line : end_of Allowed line (min at (length line)) ≡ end_of Allowed line 0 → end_of Line line (min at (length line)) ≡ end_of Line line 0
       → n + length (words_of (drop at line)) ≡ length (words_of line) → take n room ++ good_in (drop at line) ≡ good_in line → n ≤ length room
-      → QuickRead line room (record { good = true; count = n })
+      → QuickRead line room (Some n)
   unfolding good_values
   plain_line allowed in_line count values few = record {
-    plain = λ g. record {
-      allowed = class_all Allowed allowed;
-      in_line = class_all Line in_line;
-      count = omega (arith, count, ap length nothing_left);
-      values = sym (rw (nothing_left, append-nil (take n room)) at values);
-    };
-    few = few;
+    plain = λ m g.
+        let same : n ≡ m = cc in
+        rw (← same)
+        (record {
+          allowed = class_all Allowed allowed;
+          in_line = class_all Line in_line;
+          count = omega (arith, count, ap length nothing_left);
+          values = sym (rw (nothing_left, append-nil (take n room)) at values);
+        });
+    few = λ m g. let same : n ≡ m = cc in rw (← same) few;
   }
 
 pub few_on : (room : List ℕ) (n v : ℕ) → n < length room → n + 1 ≤ length (set room n v)

@@ -9,7 +9,7 @@ use lib.ListN.{length, take, drop, get_or, length-map, length-append, take-appen
 use lib.Seq.{sets, take-length, length-take-le, drop-cons}
 use lib.Dec.{leb, eqb}
 use borrow.Author.Tests.{leb-true, leb-false, le-leb, lt-leb, eqb-true, ne_eqb}
-use Rattle.std.specs.Prelude.{Ok, Err, Result, ⊤}
+use Rattle.std.specs.Prelude.{Ok, Err, Result, Option, Some, ⊤}
 use Rattle.ledger.specs.Limits.{text_limit}
 use Rattle.ledger.specs.declared.Reason.TheVariants.{NoRoom}
 use Rattle.ledger.specs.declared.Fault.{Fault}
@@ -26,7 +26,6 @@ use Rattle.text.proofs.PieceLaws.{line_fed}
 use Rattle.numbers.specs.Numbers.{value}
 use Rattle.writing.specs.Puts.{Put}
 use Rattle.binary.specs.Bytes.{word_size, words_bytes}
-use Rattle.number_line.specs.declared.Quick.{Quick}
 use Rattle.number_line.specs.Numbers.{words_from, numbers_in, numbers_answer, numbers_stages, numbers_check, numbers_read, bytes_after, NumbersStored}
 use Rattle.number_line.specs.Walks.{Walked, line_check, feedless, is_gap, QuickRead, QuickText, Handed, bytes_held, NumbersHeld}
 use Rattle.number_line.proofs.LineLaws.{words_good, all_good, checked_of, checked_is}
@@ -185,35 +184,26 @@ lined : (s line : List ℕ) → (s ≡ line ++ (10 ∷ [])) ⊎ (s ≡ line) →
 lined s line (inl e) a l = feed_lined s line e a l
 lined s line (inr e) a l = bare_lined s line e a l
 
-module _ (s room : List ℕ) (m : ℕ) (em : m ≡ feedless s) (short : length s ≤ text_limit) (r : Quick) (q : QuickRead (take m s) room r) where
+module _ (s room : List ℕ) (m : ℕ) (em : m ≡ feedless s) (short : length s ≤ text_limit) (r : Option ℕ) (q : QuickRead (take m s) room r) where
   pub quick_whole : QuickText s room r
   unfolding numbers_in
   quick_whole = record {
-    is = λ g. checked_is s r.count (record { text = text_is s short (whole g).allowed; words = good g; last = (whole g).last; count = count_is g });
-    values = λ g. ap (map value) (ap words_of (whole g).first) ∙ sym (words_good s 0 (words_of (take m s)) (good_line g)).values ∙ (q.plain g).values;
+    is = λ n g. checked_is s n (record { text = text_is s short (whole n g).allowed; words = good n g; last = (whole n g).last; count = count_is n g });
+    values = λ n g. ap (map value) (ap words_of (whole n g).first) ∙ sym (words_good s 0 (words_of (take m s)) (good_line n g)).values ∙ (q.plain n g).values;
     few = q.few;
   }
     where
-      whole : r.good ≡ true → Lined s (take m s)
-      whole g = lined s (take m s) (rw em (fed_or_not s)) (q.plain g).allowed (q.plain g).in_line
+      whole : (n : ℕ) → r ≡ Some n → Lined s (take m s)
+      whole n g = lined s (take m s) (rw em (fed_or_not s)) (q.plain n g).allowed (q.plain n g).in_line
 
-      good_line : r.good ≡ true → words_from s 0 (words_of (take m s)) ≡ Ok tt
-      good_line g = all_good s 0 (words_of (take m s)) (ap length (q.plain g).values ∙ length-take-le r.count room q.few ∙ sym (q.plain g).count)
+      good_line : (n : ℕ) → r ≡ Some n → words_from s 0 (words_of (take m s)) ≡ Ok tt
+      good_line n g = all_good s 0 (words_of (take m s)) (ap length (q.plain n g).values ∙ length-take-le n room (q.few n g) ∙ sym (q.plain n g).count)
 
-      good : r.good ≡ true → words_from s 0 (words_of (line_of s)) ≡ Ok tt
-      good g = rw (whole g).first (good_line g)
+      good : (n : ℕ) → r ≡ Some n → words_from s 0 (words_of (line_of s)) ≡ Ok tt
+      good n g = rw (whole n g).first (good_line n g)
 
-      count_is : r.good ≡ true → r.count ≡ length (map value (words_of (line_of s)))
-      count_is g = rw ((whole g).first, length-map (words_of (take m s)) value) (sym (q.plain g).count)
-
-pub quick_long : (s room : List ℕ) (r : Quick) → (r.good ≡ false) × (r.count ≡ 0) → QuickText s room r
-quick_long s room r e = record { is = λ g. absurd (unlike g); values = λ g. absurd (unlike g); few = omega (arith, e.1) }
-  where
-    unlike : r.good ≡ true → ⊥
-    unlike g = let z : ◌≡◌ {A = Bool} true false = sym g ∙ e.0 in let o : ◌≡◌ {A = ℕ} 0 1 = cc in omega arith
-
-pub quick_count : (s room : List ℕ) (q : Quick) → QuickText s room q → q.count ≡ length (take q.count room)
-quick_count s room q t = sym (length-take-le q.count room t.few)
+      count_is : (n : ℕ) → r ≡ Some n → n ≡ length (map value (words_of (line_of s)))
+      count_is n g = rw ((whole n g).first, length-map (words_of (take m s)) value) (sym (q.plain n g).count)
 
 -- ---- the numbers handed over
 module _ (end : ℕ) (vs before : List ℕ) (t : Bool) (et : t ≡ leb (word_size * length vs) (length before)) where
@@ -223,11 +213,11 @@ module _ (end : ℕ) (vs before : List ℕ) (t : Bool) (et : t ≡ leb (word_siz
   pub handed_full : t ≡ false → Handed end vs before before (Err (record { reason = NoRoom; place = end }))
   handed_full q = record { is = rw (← et, q); left = refl }
 
-pub handed_read : (s room before after : List ℕ) (q : Quick) (n : ℕ) (r : Result ℕ Fault) → QuickText s room q → q.good ≡ true → n ≡ q.count → Handed (length s) (take n room) before after r → NumbersHeld s before after r
-handed_read s room before after q n r t g en h =
-    let l : length (take n room) ≡ q.count = rw en (length-take-le q.count room t.few) in
-    let v : take n room ≡ numbers_in s = rw en (sym (t.values g)) in
-    record { is = rw (t.is g, ← l) h.is; left = rw (← v) h.left }
+pub handed_read : (s room before after : List ℕ) (q : Option ℕ) (n : ℕ) (r : Result ℕ Fault) → QuickText s room q → q ≡ Some n → Handed (length s) (take n room) before after r → NumbersHeld s before after r
+handed_read s room before after q n r t g h =
+    let l : length (take n room) ≡ n = length-take-le n room (t.few n g) in
+    let v : take n room ≡ numbers_in s = sym (t.values n g) in
+    record { is = rw (t.is n g, ← l) h.is; left = rw (← v) h.left }
 
 -- what is told of a record, and of a fault
 pub told_ok : (x : Result ℕ Fault) (r : ℕ) → x ≡ Ok r → Ok r ≡ numbers_answer x

@@ -1,5 +1,5 @@
 -- What the steps of reading promise, inside the crate: the walk over the words, and the quick way through a plain line.
-use Rattle.std.specs.Prelude.{ℕ, ◌-◌, ◌≤◌, ◌≡◌, Bool, true, ◌||◌, cond, List, length, take, get_or, leb, eqb, Ok, Err, Result}
+use Rattle.std.specs.Prelude.{ℕ, ◌-◌, ◌≤◌, ◌≡◌, Bool, true, ◌||◌, cond, List, length, take, get_or, leb, eqb, Ok, Err, Result, Option, Some}
 use Rattle.std.proofs.lemmas.List.Edits.{sets}
 use Rattle.ledger.specs.declared.Fault.{Fault}
 use Rattle.text.specs.declared.Class.TheVariants.{Blank, Line, Allowed}
@@ -9,7 +9,6 @@ use Rattle.text.specs.Pieces.{line_of, words_of}
 use Rattle.text.specs.Words.{word_count}
 use Rattle.numbers.specs.Lists.{good_values}
 use Rattle.binary.specs.Bytes.{words_bytes}
-use Rattle.number_line.specs.declared.Quick.{Quick}
 use Rattle.number_line.specs.Numbers.{largest_listed, words_from, numbers_in, numbers_stages, then_room}
 
 -- the values of a line's words before the first bad one
@@ -40,16 +39,16 @@ pub record Plain (line room : List ℕ) (n : ℕ) : Type 0 where
   pub count : length (words_of line) ≡ n
   pub values : good_in line ≡ take n room
 
--- the quick way through a line: where it is good, the line is plain; else the walk decides
-pub record QuickRead (line room : List ℕ) (r : Quick) : Type 0 where
-  pub plain : r.good ≡ true → Plain line room r.count
-  pub few : r.count ≤ length room
+-- the quick way through a line: where it counts numbers, the line is plain; else the walk decides
+pub record QuickRead (line room : List ℕ) (r : Option ℕ) : Type 0 where
+  pub plain : (n : ℕ) → r ≡ Some n → Plain line room n
+  pub few : (n : ℕ) → r ≡ Some n → n ≤ length room
 
 -- and through a text
-pub record QuickText (s room : List ℕ) (r : Quick) : Type 0 where
-  pub is : r.good ≡ true → numbers_stages s ≡ Ok r.count
-  pub values : r.good ≡ true → numbers_in s ≡ take r.count room
-  pub few : r.count ≤ length room
+pub record QuickText (s room : List ℕ) (r : Option ℕ) : Type 0 where
+  pub is : (n : ℕ) → r ≡ Some n → numbers_stages s ≡ Ok n
+  pub values : (n : ℕ) → r ≡ Some n → numbers_in s ≡ take n room
+  pub few : (n : ℕ) → r ≡ Some n → n ≤ length room
 
 -- the lent bytes after a reading
 abbrev pub bytes_held : Result ℕ Fault → List ℕ → List ℕ → List ℕ

@@ -1,7 +1,7 @@
 // A text of one line of numbers, any number of words: for lists of positions (docs/DESK.md, `tenderchock_numbers`).
 #![tactic(auto)]
 
-ghost use Rattle.std.specs.Prelude.{◌≡◌, false, ◌*◌, leb, length};
+ghost use Rattle.std.specs.Prelude.{◌≡◌, ◌*◌, leb, length};
 ghost use Rattle.binary.specs.Bytes.{word_size};
 ghost use Rattle.number_line.specs.Numbers.{numbers_stages, numbers_check, NumbersStored};
 ghost use Rattle.number_line.specs.Walks.{Walked, line_check, feedless, is_gap, QuickRead, QuickText, Handed, NumbersHeld};
@@ -86,22 +86,6 @@ fn read_tested(text: &[u8], out: &mut [u8]) -> Result<usize, Fault>
     })
 }
 
-// Numbers taken from a line. Where they are not good, the line has to be read with more care.
-#[derive(Clone, Copy)]
-struct Quick {
-    good: bool,
-    count: usize,
-}
-
-fn unsure() -> Quick
-    ensures { (result.good ≡ false) × (result.count ≡ 0) }
-{
-    Quick {
-        good: false,
-        count: 0,
-    }
-}
-
 // Whether a word ends at a place: by a blank, or with the line.
 fn is_gap(line: &[u8], i: usize) -> bool
     ensures { result ≡ is_gap line.now i }
@@ -112,8 +96,9 @@ fn is_gap(line: &[u8], i: usize) -> bool
     text::is_in(Class::Blank, line[i])
 }
 
-// The quick way: numbers parted by single blanks, in one pass.
-fn quick_line(line: &[u8], room: &mut [u64]) -> Quick
+// The quick way: numbers parted by single blanks, in one pass; how many there are. Where none are counted, the line has to be
+// read with more care.
+fn quick_line(line: &[u8], room: &mut [u64]) -> Option<usize>
     ensures { QuickRead line.now room.new result }
 {
     let mut at = 0;
@@ -122,22 +107,19 @@ fn quick_line(line: &[u8], room: &mut [u64]) -> Quick
         let d = numbers::digits_at(line, at, DIGITS);
         let end = d.end;
         if !numbers::leads(end - at, line[at]) {
-            return unsure();
+            return None;
         }
         if !is_gap(line, end) {
-            return unsure();
+            return None;
         }
         if room.len() <= n {
-            return unsure();
+            return None;
         }
         room[n] = d.value;
         n += 1;
         at = end + 1;
     }
-    Quick {
-        good: true,
-        count: n,
-    }
+    Some(n)
 }
 
 // The length of a text without a line feed at its end.
@@ -151,11 +133,11 @@ fn feedless_length(text: &[u8]) -> usize
     if text[n - 1] == b'\n' { n - 1 } else { n }
 }
 
-fn quick_text(text: &[u8], room: &mut [u64]) -> Quick
+fn quick_text(text: &[u8], room: &mut [u64]) -> Option<usize>
     ensures { QuickText text.now room.new result }
 {
     if ledger::TEXT_LIMIT < text.len() {
-        return unsure();
+        return None;
     }
     let n = feedless_length(text);
     quick_line(&text[..n], room)
@@ -179,12 +161,10 @@ fn hand_over(end: usize, vs: &[u64], out: &mut [u8]) -> Result<usize, Fault>
 fn read_by(text: &[u8], room: &mut [u64], out: &mut [u8]) -> Result<usize, Fault>
     ensures { NumbersHeld text.now out.old out.new result }
 {
-    let q = quick_text(text, room);
-    if q.good {
-        let n = q.count;
-        return hand_over(text.len(), &room[..n], out);
+    match quick_text(text, room) {
+        Some(n) => hand_over(text.len(), &room[..n], out),
+        None => read_tested(text, out),
     }
-    read_tested(text, out)
 }
 
 // A text of at most so many bytes has at most half as many numbers.

@@ -62,18 +62,6 @@ pub struct Batched {
 // A column has room for one number of each of a record's blocks.
 const ROOM: usize = ledger::BLOCK_LIMIT as usize;
 
-fn larger(a: u64, b: u64) -> u64
-    ensures { result ≡ max a b }
-{
-    if a < b { b } else { a }
-}
-
-fn smaller(a: u64, b: u64) -> u64
-    ensures { result ≡ min a b }
-{
-    if a < b { a } else { b }
-}
-
 // Whether a region isn't inside a target of so many bases.
 fn outside(size: u64, start: u64, end: u64) -> bool
     ensures { result ≡ not (ltb start end && leb end size) }
@@ -131,8 +119,8 @@ fn reach_across(
     ensures { Reached c.qSize start end (pairs c (table_of targets.now queries.now
         sizes.now)) result }
 {
-    let from = larger(start, targets[i]) - targets[i];
-    let to = smaller(end - targets[j], sizes[j]);
+    let from = start.max(targets[i]) - targets[i];
+    let to = (end - targets[j]).min(sizes[j]);
     let first = queries[i] + from;
     let last = queries[j] + to;
     let k = c.qStrand;

@@ -4,13 +4,6 @@
 use chain::Chain;
 use ledger::{Part, Refusal};
 
-// A chain handed in: its record, and how many rows its table has; or why its text is refused.
-#[derive(Clone, Copy)]
-pub(crate) enum Given {
-    Chain(Chain, usize),
-    Refused(Refusal),
-}
-
 // Puts the name that a word spells into a page: its length.
 fn put_name(words: &[u8], k: usize, page: &mut [u8], at: usize) -> usize {
     let mut name = cases::name_room();
@@ -45,19 +38,19 @@ fn record_at(words: &[u8], page: &mut [u8]) -> Chain {
     }
 }
 
-// A record's words, its names to a page and its rows to tables.
+// A record's words, its names to a page and its rows to tables: the record, and how many rows its table has.
 fn from_words(
     words: &[u8],
     page: &mut [u8],
     targets: &mut [u64],
     queries: &mut [u64],
     sizes: &mut [u64],
-) -> Given {
+) -> (Chain, usize) {
     let c = record_at(words, page);
     let rows = cases::row_numbers_at(words, 12, 0, targets);
     cases::row_numbers_at(words, 12, 1, queries);
     cases::row_numbers_at(words, 12, 2, sizes);
-    Given::Chain(c, rows)
+    (c, rows)
 }
 
 // A text, unescaped to a page and read into a table of 512 rows.
@@ -67,15 +60,13 @@ fn from_text(
     targets: &mut [u64],
     queries: &mut [u64],
     sizes: &mut [u64],
-) -> Given {
+) -> Result<(Chain, usize), Refusal> {
     let n = cases::unescape(escaped, page);
-    match cases_chain::read_chain(&page[0..n], rows::ROOM, targets, queries, sizes) {
-        Ok(c) => Given::Chain(c, rows::ROOM),
-        Err(x) => Given::Refused(x),
-    }
+    let c = cases_chain::read_chain(&page[0..n], rows::ROOM, targets, queries, sizes)?;
+    Ok((c, rows::ROOM))
 }
 
-// The chain from a word of a line on.
+// The chain from a word of a line on, or why its text is refused.
 pub(crate) fn chain_at(
     line: &[u8],
     k: usize,
@@ -83,11 +74,11 @@ pub(crate) fn chain_at(
     targets: &mut [u64],
     queries: &mut [u64],
     sizes: &mut [u64],
-) -> Given {
+) -> Result<(Chain, usize), Refusal> {
     let w = text::word_at(line, 0, k);
     let a = w.start.min(line.len());
     if cases::byte_at(line, a) == b'c' {
         return from_text(&line[a..], page, targets, queries, sizes);
     }
-    from_words(&line[a..], page, targets, queries, sizes)
+    Ok(from_words(&line[a..], page, targets, queries, sizes))
 }

@@ -11,7 +11,6 @@ mod chains;
 mod drifts;
 mod tallies;
 
-use chains::Given;
 use std::io;
 use std::io::Write;
 
@@ -30,7 +29,7 @@ fn question_words(letter: u8, line: &[u8]) -> usize {
 fn ask(
     letter: u8,
     line: &[u8],
-    given: Given,
+    given: Result<(Chain, usize), Refusal>,
     page: &[u8],
     targets: &[u64],
     queries: &[u64],
@@ -40,11 +39,11 @@ fn ask(
     at: usize,
 ) -> usize {
     match given {
-        Given::Refused(x) => {
+        Err(x) => {
             let a = writing::put_bytes(out, at, b"text ");
             cases::put_refusal(out, a, x)
         }
-        Given::Chain(c, rows) => {
+        Ok((c, rows)) => {
             let t = rows.min(targets.len());
             let q = rows.min(queries.len());
             let z = rows.min(sizes.len());
