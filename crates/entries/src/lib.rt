@@ -34,14 +34,24 @@ fn few_rows() -> [u64; columns::FEW]
 }
 
 // The readers into room for any record's blocks.
-fn stage_bed(text: &[u8], targets: &mut [u64], queries: &mut [u64], sizes: &mut [u64]) -> Result<Bed, Refusal>
+fn stage_bed(
+    text: &[u8],
+    targets: &mut [u64],
+    queries: &mut [u64],
+    sizes: &mut [u64],
+) -> Result<Bed, Refusal>
     requires { Staging targets.old queries.old sizes.old }
     ensures { BedStaged text.now targets.new queries.new sizes.new result }
 {
     bed::read_bed(text, targets, queries, sizes)
 }
 
-fn stage_psl(text: &[u8], targets: &mut [u64], queries: &mut [u64], sizes: &mut [u64]) -> Result<Psl, Refusal>
+fn stage_psl(
+    text: &[u8],
+    targets: &mut [u64],
+    queries: &mut [u64],
+    sizes: &mut [u64],
+) -> Result<Psl, Refusal>
     requires { Staging targets.old queries.old sizes.old }
     ensures { PslStaged text.now targets.new queries.new sizes.new result }
 {
