@@ -29,13 +29,13 @@ pub count_checked : (s : List ℕ) (line n count : ℕ) (c : Result ⊤ Fault) �
 unfolding count_check
 count_checked s line n count c e h = rw (← e) h
 
-pub count_of_lem : (s : List ℕ) (line n : ℕ) → count_check s line n ≡ (Ok tt) → word_count s line ≡ n
+pub count_of_lem : (s : List ℕ) (line n : ℕ) → count_check s line n ≡ Ok tt → word_count s line ≡ n
 unfolding count_check
 count_of_lem s line n e =
     let a = words_hold s line (word_count s line) n (leb n (word_count s line)) e in
     omega (arith, a.0, leb-true n (word_count s line) a.1)
 
-pub count_is : (s : List ℕ) (line n : ℕ) → word_count s line ≡ n → count_check s line n ≡ (Ok tt)
+pub count_is : (s : List ℕ) (line n : ℕ) → word_count s line ≡ n → count_check s line n ≡ Ok tt
 unfolding count_check
 count_is s line n e = sym (words_good s line (word_count s line) n (leb n (word_count s line)) (omega arith) (le-leb n (word_count s line) (omega arith)))
 
@@ -44,7 +44,7 @@ module _ (s : List ℕ) (n : ℕ) (found : Result ℕ Fault) (c : Result ⊤ Fau
   pub first_refused : (y : Fault) → c ≡ Err y → Err y ≡ then_check Err (count_check s 0 n) found
   first_refused y q = rw (← ec, q)
 
-  pub first_good : c ≡ (Ok tt) → found ≡ then_check Err (count_check s 0 n) found
+  pub first_good : c ≡ Ok tt → found ≡ then_check Err (count_check s 0 n) found
   first_good q = rw (← ec, q)
 
 -- as many columns as are read
@@ -118,7 +118,7 @@ module _ (cs : List Kind) (s out lists out' lists' : List ℕ) (t : Result ⊤ F
       unfolding line_read
       text_surplus y h = refused y (rw (← et, q, both_read.0, both_read.1, last_is, h))
 
-      pub text_read : c ≡ (Ok tt) → LineWalked cs s out out' lists lists' (Ok e)
+      pub text_read : c ≡ Ok tt → LineWalked cs s out out' lists lists' (Ok e)
       unfolding line_read
       text_read h = record { result = rw (← et, q, both_read.0, both_read.1, last_is, h); stored = λ d r. walk.stored e p; held = λ d r. walk.held e p }
 
@@ -131,10 +131,10 @@ last_then (Err x) c e q = absurd (let z : ◌≡◌ {A = ℕ} 0 1 = cc in omega 
 
 -- what a line that is read shows
 pub record Found (cs : List Kind) (s : List ℕ) (e : ℕ) : Type 0 where
-  pub text : text_check s ≡ (Ok tt)
+  pub text : text_check s ≡ Ok tt
   pub count : word_count s 0 ≡ length cs
   pub read : columns_from cs 0 s 0 ≡ Ok e
-  pub last : last_line_check s 0 ≡ (Ok tt)
+  pub last : last_line_check s 0 ≡ Ok tt
 
 pub line_found : (cs : List Kind) (s : List ℕ) (e : ℕ) → line_read cs s ≡ Ok e → Found cs s e
 unfolding line_read

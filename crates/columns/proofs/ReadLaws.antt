@@ -106,7 +106,7 @@ module _ (table : List Kind) (s : List ℕ) (from at n k : ℕ) where
           let st' : d' ≡ sets d base (items_in kind (bytes_of s w)) = rw (field_word kind n s at v w (sym ef ∙ q)) st in
           rw (add-one k, en, eb, st') (rw (drop-cons table k Name h, ← ek, ← ef, q) at inv)
 
--- the first so many table of a table
+-- the first columns of a table, as many as are read
 pub front_in : (n : ℕ) (table : List Kind) → n ≡ min column_limit (length table) → take n table ≡ table_of table
 unfolding table_of
 front_in n table e =

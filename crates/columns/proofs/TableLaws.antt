@@ -1,4 +1,4 @@
--- A table is a list of kinds in specs/ and a list of their table in the code. What reading a line by the first n table of a table gives, said by its kinds. Assumes nothing.
+-- What reading a line by the first n columns of a table gives. Assumes nothing.
 use mathlib.Core.Path.{◌≡◌, sym, ◌∙◌}
 use mathlib.Core.List.{List, map}
 use Prim.Native.Nat.{ℕ, ◌*◌, ◌≤◌}

@@ -174,7 +174,7 @@ many_other s regions lent room f = go (chain_check s) refl (room_in_bytes region
 
 -- with room for its rows, a batch tells those of `lift_batch`
 module _ (s : List ℕ) (c : Chain) (rows : List Row) (p : ChainSpells s c rows) (regions : List ℕ) (room : ℕ) (fits : room_in_bytes regions room ≡ true) where
-  pub check_holds : text_batch_check s regions room ≡ (Ok tt)
+  pub check_holds : text_batch_check s regions room ≡ Ok tt
   check_holds = rw fits at (text_checks s c rows p regions room)
 
   pub sends_all : sent_text s regions room ≡ map (sent_as c rows) (regions_in regions)

@@ -48,7 +48,7 @@ unfolding chain_valid fields_fit spans_fit rows_fit
 valid_named r ns ts qs zs e f h = rw (e, f) h
 
 -- a valid record passes the writer's checks
-passes : (r : Chain) (ns : Names) (ts qs zs : List ℕ) → ChainRules (named r ns.first ns.second) ts qs zs → All Graphic ns.first → All Graphic ns.second → write_check r ns.first ns.second ts qs zs ≡ (Ok tt)
+passes : (r : Chain) (ns : Names) (ts qs zs : List ℕ) → ChainRules (named r ns.first ns.second) ts qs zs → All Graphic ns.first → All Graphic ns.second → write_check r ns.first ns.second ts qs zs ≡ Ok tt
 unfolding write_check names_show chain_valid fields_fit spans_fit rows_fit
 passes r ns ts qs zs k c d =
     let n = r.blockCount in
@@ -100,7 +100,7 @@ module _ (r : Chain) (ns : Names) (table : List Row) (ok : ChainValid r ns table
   abbrev text : List ℕ
   text = chain_text r ns.first ns.second ts qs zs
 
-  may : write_check r ns.first ns.second ts qs zs ≡ (Ok tt)
+  may : write_check r ns.first ns.second ts qs zs ≡ Ok tt
   may = passes r ns ts qs zs ok.rules ok.target_shows ok.query_shows
 
   pub short : length text ≤ text_limit

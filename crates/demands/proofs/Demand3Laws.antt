@@ -110,14 +110,14 @@ module _ (t u : Tally) (c : Chain) (rows : List Row) (regions before after : Lis
   unfolding batch_check
   refuses k = rw (lt-leb (length regions) (length before) k) at h.check
 
-  holds : length regions ≤ length before → x ≡ (Ok tt)
+  holds : length regions ≤ length before → x ≡ Ok tt
   unfolding batch_check
   holds k = rw (le-leb (length regions) (length before) k) at h.check
 
   eleven_if : x ≡ Err (without_text NoRoom) → length before < length regions
   eleven_if e = either (length regions) (length before) _ (λ k. absurd (let w = sym (holds k) ∙ e in let z : ◌≡◌ {A = ℕ} 0 1 = cc in omega arith)) (λ k. k)
 
-  holds_only : x ≡ (Ok tt) → length regions ≤ length before
+  holds_only : x ≡ Ok tt → length regions ≤ length before
   holds_only e = either (length regions) (length before) _ (λ k. k) (λ k. absurd (let w = sym (refuses k) ∙ e in let z : ◌≡◌ {A = ℕ} 0 1 = cc in omega arith))
 
   batch_rows : BatchRows t c rows regions before after u x

@@ -53,7 +53,7 @@ pub front_rows : (rows said before after : List Row) (n : ℕ) → rows ≡ said
 front_rows rows said before after n e l h = rw (e, l) h
 
 -- a test that a checker passed
-pub holds_if : (t : Bool) → require t (refused BlockRules) (Ok tt) ≡ (Ok tt) → t ≡ true
+pub holds_if : (t : Bool) → require t (refused BlockRules) (Ok tt) ≡ Ok tt → t ≡ true
 holds_if true e = refl
 holds_if false e = absurd (let z : ◌≡◌ {A = ℕ} 0 1 = cc in omega arith)
 

@@ -25,7 +25,7 @@ pub refused_rows_lem : (s : List ℕ) (y : Refusal) (before after : List Row) �
 refused_rows_lem s y before after h = h.rows
 
 -- WHAT A READER LEFT IS VALID: the record checker accepts the record with the table
-pub left_valid : (s : List ℕ) (r : Chain) (before after : List Row) → RowsRead s before after (Ok r) → record_check r (targets_of after) (queries_of after) (sizes_of after) ≡ (Ok tt)
+pub left_valid : (s : List ℕ) (r : Chain) (before after : List Row) → RowsRead s before after (Ok r) → record_check r (targets_of after) (queries_of after) (sizes_of after) ≡ Ok tt
 unfolding record_check chain_valid
 left_valid s r before after h =
     let l = chain_reads s in

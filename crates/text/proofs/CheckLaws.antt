@@ -38,7 +38,7 @@ empty_none = refl
 
 -- the text's length and bytes
 module _ (s : List ℕ) where
-  pub text_of_lem : text_check s ≡ (Ok tt) → (length s ≤ text_limit) × (run Allowed s ≡ length s)
+  pub text_of_lem : text_check s ≡ Ok tt → (length s ≤ text_limit) × (run Allowed s ≡ length s)
   unfolding text_check end_of
   text_of_lem e =
       let a = require_passes (leb (length s) text_limit) _ _ e in
@@ -46,7 +46,7 @@ module _ (s : List ℕ) where
       let l : length s ≤ 0 + run Allowed s = leb-true (length s) (end_of Allowed s 0) b.0 in
       (leb-true (length s) text_limit a.0, omega (arith, run_most Allowed s))
 
-  pub text_is : length s ≤ text_limit → run Allowed s ≡ length s → text_check s ≡ (Ok tt)
+  pub text_is : length s ≤ text_limit → run Allowed s ≡ length s → text_check s ≡ Ok tt
   unfolding end_of
   text_is h e = sym (text_good s (end_of Allowed s 0) h refl (omega arith))
 
@@ -60,13 +60,13 @@ module _ (s : List ℕ) where
   pub lines_split : 0 < length s → lines_of s ≡ line_of s ∷ lines_of (drop (next_line s 0) s)
   lines_split h = lines_step s 0 h ∙ ap (λ (l : List ℕ). l ∷ lines_of (drop (next_line s 0) s)) line_is_first
 
-  pub one_of : 0 < length s → last_line_check s 0 ≡ (Ok tt) → lines_of s ≡ line_of s ∷ []
+  pub one_of : 0 < length s → last_line_check s 0 ≡ Ok tt → lines_of s ≡ line_of s ∷ []
   unfolding last_line_check
   one_of h e =
       let l = leb-true (length s) (next_line s 0) (require_passes (leb (length s) (next_line s 0)) _ _ e).0 in
       lines_split h ∙ rw (drop_of_length-le s l, lines_none)
 
-  pub one_is : lines_of s ≡ line_of s ∷ [] → last_line_check s 0 ≡ (Ok tt)
+  pub one_is : lines_of s ≡ line_of s ∷ [] → last_line_check s 0 ≡ Ok tt
   one_is e =
       sym (line_last s 0 (next_line s 0) refl (either (length s) (next_line s 0) _ (λ h. h) (λ h.
       let p = lines_split (omega arith) in
@@ -118,7 +118,7 @@ module _ (s : List ℕ) (line n most : ℕ) (good : Bool) where
   unfolding words_check
   words_bad e h g q = rw (le-leb n most h, g, q)
 
-  pub words_hold : words_check s line n most good ≡ (Ok tt) → (n ≤ most) × (good ≡ true)
+  pub words_hold : words_check s line n most good ≡ Ok tt → (n ≤ most) × (good ≡ true)
   unfolding words_check
   words_hold e =
       let a = require_passes (leb n most) _ _ e in

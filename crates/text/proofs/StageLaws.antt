@@ -17,10 +17,10 @@ pub require_goes : {A : Type 0} (t : Bool) (stop rest a : A) → (stop ≡ a →
 require_goes true stop rest a apart e = (refl, e)
 require_goes false stop rest a apart e = absurd (apart e)
 
-pub require_passes : (t : Bool) (rest : Result ⊤ Fault) (x : Fault) → require t (Err x) rest ≡ (Ok tt) → (t ≡ true) × (rest ≡ (Ok tt))
+pub require_passes : (t : Bool) (rest : Result ⊤ Fault) (x : Fault) → require t (Err x) rest ≡ Ok tt → (t ≡ true) × (rest ≡ (Ok tt))
 require_passes t rest x = require_goes t (Err x) rest (Ok tt) (λ e. let z : ◌≡◌ {A = ℕ} 0 1 = cc in omega arith)
 
-pub require_holds : (t : Bool) (rest : Result ⊤ Refusal) (x : Refusal) → require t (Err x) rest ≡ (Ok tt) → (t ≡ true) × (rest ≡ (Ok tt))
+pub require_holds : (t : Bool) (rest : Result ⊤ Refusal) (x : Refusal) → require t (Err x) rest ≡ Ok tt → (t ≡ true) × (rest ≡ (Ok tt))
 require_holds t rest x = require_goes t (Err x) rest (Ok tt) (λ e. let z : ◌≡◌ {A = ℕ} 0 1 = cc in omega arith)
 
 -- a stage decides
@@ -28,7 +28,7 @@ module _ {A : Type 0} (stop : Fault → A) (c : Result ⊤ Fault) where
   pub stops : (rest : A) (x : Fault) → c ≡ Err x → stop x ≡ then_check stop c rest
   stops rest x e = rw e
 
-  pub goes : (rest a : A) → c ≡ (Ok tt) → a ≡ rest → a ≡ then_check stop c rest
+  pub goes : (rest a : A) → c ≡ Ok tt → a ≡ rest → a ≡ then_check stop c rest
   goes rest a p e = rw p e
 
 -- what is no fault's answer is the rest's
