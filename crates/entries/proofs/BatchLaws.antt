@@ -40,8 +40,8 @@ module _ (s regions lent b b' : List ℕ) (t : Tally) (et : t ≡ tally_in lent)
       let same : b' ≡ b = rw (refused_none s regions (length b) x k) at done.answers in
       record { rows_told = rw (k, same) (refused_is x b r q); tally_left = rw k }
 
-  pub batch_told : (lent' : List ℕ) (r : ℕ) → d.check ≡ (Ok tt) → lent' ≡ tally_kept d.tally lent → r ≡ told (length regions / region_size) → BatchTold s regions lent lent' b b' r
+  pub batch_told : (lent' : List ℕ) (r : ℕ) → d.check ≡ Ok tt → lent' ≡ tally_kept d.tally lent → r ≡ told (length regions / region_size) → BatchTold s regions lent lent' b b' r
   unfolding batch_lifted tally_after
   batch_told lent' r e f q =
-      let k : text_batch_check s regions (length b) ≡ (Ok tt) = sym done.check ∙ e in
+      let k : text_batch_check s regions (length b) ≡ Ok tt = sym done.check ∙ e in
       record { rows_told = rw (k, ← et) (record { is = q; left = done.answers }); tally_left = rw (k, ← et) (f ∙ ap (λ (u : Tally). tally_kept u lent) done.tally) }

@@ -46,8 +46,9 @@ drift_of c rows p q d e = go (accepted c rows) (ltb p c.tSize) (partner_of p (pa
     go true false x h = absurd (let z : ◌≡◌ {A = ℕ} 0 1 = cc in omega arith)
     go true true None h = absurd (let z : ◌≡◌ {A = ℕ} 0 1 = cc in omega arith)
     go true true (Some b) h =
-        let z : b ≡ q = cc in
-        let y : pos b -ℤ pos p ≡ d = cc in
+        let both : ◌≡◌ {A = ℕ × ℤ} (b, pos b -ℤ pos p) (q, d) = cc in
+        let z : b ≡ q = ap (λ (w : ℕ × ℤ). w.0) both in
+        let y : pos b -ℤ pos p ≡ d = ap (λ (w : ℕ × ℤ). w.1) both in
         sym y ∙ ap (λ (n : ℕ). pos n -ℤ pos p) z
 
 text_drift : (s : List ℕ) (p q : ℕ) (d : ℤ) → text_position s p ≡ Ok (q, d) → d ≡ pos q -ℤ pos p
