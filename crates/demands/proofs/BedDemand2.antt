@@ -5,6 +5,7 @@ use mathlib.Core.List.{List, []}
 use Prim.Native.Nat.{ℕ, ◌≤◌}
 use native.Mathlib.Omega.{arith}
 use lib.ListN.{length, get_or, get_or-eq_default}
+use Rattle.std.specs.Prelude.{Ok}
 use Rattle.ledger.specs.declared.Row.{Row}
 use Rattle.ledger.specs.Limits.{text_limit}
 use Rattle.text.specs.declared.Class.TheVariants.{Graphic}
@@ -39,7 +40,6 @@ use Rattle.demands.proofs.RowLaws.{holds_if}
 use Rattle.demands.proofs.FormatLaws.{Shown, demand2_of}
 use Rattle.demands.proofs.FormatLaws as demands
 use Rattle.demands.proofs.LengthLaws.{bed_short}
-use Rattle.std.specs.Prelude.{Ok}
 
 -- the test of a record sees only the lengths of its names
 valid_named : (r : Bed) (ns : Names) (ts qs zs : List ℕ) → length ns.first ≡ r.chrom.length → length ns.second ≡ r.name.length → bed_valid r ts qs zs ≡ true → bed_valid (named r ns.first ns.second) ts qs zs ≡ true
@@ -47,7 +47,7 @@ unfolding bed_valid strand_fits fields_fit spans_fit rows_fit
 valid_named r ns ts qs zs e f h = rw (e, f) h
 
 -- a valid record passes the writer's checks
-passes : (r : Bed) (ns : Names) (ts qs zs : List ℕ) → BedRules (named r ns.first ns.second) ts qs zs → All Graphic ns.first → All Graphic ns.second → write_check r ns.first ns.second ts qs zs ≡ (Ok tt)
+passes : (r : Bed) (ns : Names) (ts qs zs : List ℕ) → BedRules (named r ns.first ns.second) ts qs zs → All Graphic ns.first → All Graphic ns.second → write_check r ns.first ns.second ts qs zs ≡ Ok tt
 unfolding write_check names_show strand_fits fields_fit spans_fit rows_fit
 passes r ns ts qs zs k c d = let q = named r ns.first ns.second in valid_writes q ns.first ns.second ts qs zs (rules_is q ts qs zs k) refl refl c d
 
@@ -81,7 +81,7 @@ module _ (r : Bed) (ns : Names) (table : List Row) (ok : BedValid r ns table) wh
   abbrev text : List ℕ
   text = bed_text r ns.first ns.second ts zs
 
-  may : write_check r ns.first ns.second ts qs zs ≡ (Ok tt)
+  may : write_check r ns.first ns.second ts qs zs ≡ Ok tt
   may = passes r ns ts qs zs ok.rules ok.chrom_shows ok.name_shows
 
   pub short : length text ≤ text_limit

@@ -4,6 +4,7 @@ use mathlib.Core.Bool.{true}
 use mathlib.Core.List.{List}
 use Prim.Native.Nat.{ℕ, ◌≤◌}
 use lib.ListN.{length, take, drop}
+use Rattle.std.specs.Prelude.{Ok}
 use Rattle.ledger.specs.declared.Row.{Row}
 use Rattle.ledger.specs.Limits.{text_limit}
 use Rattle.text.specs.declared.Class.TheVariants.{Graphic}
@@ -40,7 +41,6 @@ use Rattle.demands.proofs.FormatLaws.{Shown, demand2_of}
 use Rattle.demands.proofs.FormatLaws as demands
 use Rattle.demands.proofs.LengthLaws.{chain_short}
 use Rattle.columns.proofs.WordLaws.{graphic_all}
-use Rattle.std.specs.Prelude.{Ok}
 
 -- the test of a record sees only the lengths of its names
 pub valid_named : (r : Chain) (ns : Names) (ts qs zs : List ℕ) → length ns.first ≡ r.tName.length → length ns.second ≡ r.qName.length → chain_valid r ts qs zs ≡ true → chain_valid (named r ns.first ns.second) ts qs zs ≡ true
@@ -48,7 +48,7 @@ unfolding chain_valid fields_fit spans_fit rows_fit
 valid_named r ns ts qs zs e f h = rw (e, f) h
 
 -- a valid record passes the writer's checks
-passes : (r : Chain) (ns : Names) (ts qs zs : List ℕ) → ChainRules (named r ns.first ns.second) ts qs zs → All Graphic ns.first → All Graphic ns.second → write_check r ns.first ns.second ts qs zs ≡ (Ok tt)
+passes : (r : Chain) (ns : Names) (ts qs zs : List ℕ) → ChainRules (named r ns.first ns.second) ts qs zs → All Graphic ns.first → All Graphic ns.second → write_check r ns.first ns.second ts qs zs ≡ Ok tt
 unfolding write_check names_show chain_valid fields_fit spans_fit rows_fit
 passes r ns ts qs zs k c d =
     let n = r.blockCount in
@@ -100,7 +100,7 @@ module _ (r : Chain) (ns : Names) (table : List Row) (ok : ChainValid r ns table
   abbrev text : List ℕ
   text = chain_text r ns.first ns.second ts qs zs
 
-  may : write_check r ns.first ns.second ts qs zs ≡ (Ok tt)
+  may : write_check r ns.first ns.second ts qs zs ≡ Ok tt
   may = passes r ns ts qs zs ok.rules ok.target_shows ok.query_shows
 
   pub short : length text ≤ text_limit

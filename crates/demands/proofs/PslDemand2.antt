@@ -4,6 +4,7 @@ use mathlib.Core.Bool.{true, ◌&&◌}
 use mathlib.Core.List.{List}
 use Prim.Native.Nat.{ℕ, ◌≤◌}
 use lib.ListN.{length, take}
+use Rattle.std.specs.Prelude.{Ok}
 use Rattle.ledger.specs.declared.Row.{Row}
 use Rattle.ledger.specs.Limits.{text_limit}
 use Rattle.text.specs.declared.Class.TheVariants.{Graphic}
@@ -42,7 +43,6 @@ use Rattle.demands.proofs.FormatLaws as demands
 use Rattle.demands.proofs.LengthLaws.{psl_short}
 use Rattle.columns.specs.Names.{length_fits}
 use Rattle.columns.proofs.WordLaws.{graphic_all}
-use Rattle.std.specs.Prelude.{Ok}
 
 -- where the blocks start and end does not depend on the names
 rows_named : (r : Psl) (ns : Names) (ts qs zs : List ℕ) → rows_fit (named r ns.first ns.second) ts qs zs ≡ rows_fit r ts qs zs
@@ -55,7 +55,7 @@ unfolding psl_valid fields_fit spans_fit
 valid_named r ns ts qs zs e f h = rw (rows_named r ns (take r.blockCount ts) (take r.blockCount qs) (take r.blockCount zs), e, f) h
 
 -- a valid record passes the writer's checks
-passes : (r : Psl) (ns : Names) (ts qs zs : List ℕ) → PslRules (named r ns.first ns.second) ts qs zs → All Graphic ns.first → All Graphic ns.second → write_check r ns.first ns.second ts qs zs ≡ (Ok tt)
+passes : (r : Psl) (ns : Names) (ts qs zs : List ℕ) → PslRules (named r ns.first ns.second) ts qs zs → All Graphic ns.first → All Graphic ns.second → write_check r ns.first ns.second ts qs zs ≡ Ok tt
 unfolding write_check words_show psl_valid fields_fit spans_fit
 passes r ns ts qs zs k c d =
     let n = r.blockCount in
@@ -107,7 +107,7 @@ module _ (r : Psl) (ns : Names) (table : List Row) (ok : PslValid r ns table) wh
   abbrev text : List ℕ
   text = psl_text r ns.first ns.second ts qs zs
 
-  may : write_check r ns.first ns.second ts qs zs ≡ (Ok tt)
+  may : write_check r ns.first ns.second ts qs zs ≡ Ok tt
   may = passes r ns ts qs zs ok.rules ok.query_shows ok.target_shows
 
   pub short : length text ≤ text_limit

@@ -6,6 +6,7 @@ use Prim.Native.Nat.{ℕ, ◌≤◌, ◌<◌}
 use native.Mathlib.Omega.{arith}
 use lib.ListN.{length, drop, drop_of_length-le}
 use borrow.Author.Tests.{le-leb, lt-leb}
+use Rattle.std.specs.Prelude.{Ok, Err}
 use Rattle.ledger.specs.Refusals.{without_text, require}
 use Rattle.ledger.specs.Limits.{text_limit, block_limit}
 use Rattle.ledger.specs.declared.Reason.TheVariants.{BlockRules, NoRoom}
@@ -16,7 +17,6 @@ use Rattle.blocks.proofs.TableLaws.{table_length}
 use Rattle.text.specs.Checks.{refused}
 use Rattle.writing.specs.Answers.{room_answer}
 use Rattle.rows.proofs.ReaderLaws.{Reads}
-use Rattle.std.specs.Prelude.{Ok, Err}
 
 -- the flat lists of a table of three lists of one length are those lists
 pub record Flat (ts qs zs : List ℕ) : Type 0 where
@@ -53,7 +53,7 @@ pub front_rows : (rows said before after : List Row) (n : ℕ) → rows ≡ said
 front_rows rows said before after n e l h = rw (e, l) h
 
 -- a test that a checker passed
-pub holds_if : (t : Bool) → require t (refused BlockRules) (Ok tt) ≡ (Ok tt) → t ≡ true
+pub holds_if : (t : Bool) → require t (refused BlockRules) (Ok tt) ≡ Ok tt → t ≡ true
 holds_if true e = refl
 holds_if false e = absurd (let z : ◌≡◌ {A = ℕ} 0 1 = cc in omega arith)
 

@@ -5,6 +5,7 @@ use Prim.Native.Nat.{ℕ, ◌*◌, ◌/◌, ◌≤◌, ◌<◌}
 use native.Mathlib.Omega.{arith}
 use lib.ListN.{length}
 use borrow.Author.Tests.{le-leb, lt-leb}
+use Rattle.std.specs.Prelude.{Ok, Err}
 use Rattle.ledger.specs.declared.Refusal.{Refusal}
 use Rattle.writing.specs.Puts.{Put}
 use Rattle.binary.specs.Bytes.{word_size}
@@ -16,7 +17,6 @@ use Rattle.region.proofs.ByteLaws.{refused_none}
 use Rattle.answers.specs.Answers.{told, refusal_code}
 use Rattle.answers.proofs.AnswerLaws.{refused_is, put_front}
 use Rattle.entries.specs.Entries.{tally_in, tally_bytes, batch_lifted, tally_kept, tally_after, BatchTold}
-use Rattle.std.specs.Prelude.{Ok, Err}
 
 -- the tally
 module _ (t : Tally) (b : List ℕ) where

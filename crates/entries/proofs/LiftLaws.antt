@@ -8,6 +8,7 @@ use lib.ListN.{length}
 use lib.Dec.{ltb}
 use lib.IntN.{ℤ, pos, ◌-ℤ◌}
 use borrow.Author.Tests.{lt-ltb, le-ltb}
+use Rattle.std.specs.Prelude.{Ok, Err, Some, None, Result, Option}
 use Rattle.ledger.specs.Refusals.{require}
 use Rattle.ledger.specs.declared.Row.{Row}
 use Rattle.ledger.specs.declared.Refusal.{Refusal}
@@ -25,7 +26,6 @@ use Rattle.region.specs.Regions.{lift_region, text_lifted}
 use Rattle.answers.specs.Answers.{refusal_code, Outcome, Answered, refuses, numbered, no_room_at}
 use Rattle.entries.specs.Entries.{in_word, of_chain, of_position, position_lifted, of_region, region_lifted}
 use Rattle.answers.proofs.AnswerLaws.{refused_is}
-use Rattle.std.specs.Prelude.{Ok, Err, Some, None, Result, Option}
 
 -- partner minus position in a word
 pub drift_below : (p q : ℕ) → q < p → p < 2 ^ 64 → largest_number - (p - q) + 1 ≡ in_word (pos q -ℤ pos p)
