@@ -5,6 +5,7 @@ use mathlib.Core.List.{List, []}
 use Prim.Native.Nat.{ℕ, ◌≤◌}
 use native.Mathlib.Omega.{arith}
 use lib.ListN.{length, get_or, get_or-eq_default}
+use Rattle.std.specs.Prelude.{Ok}
 use Rattle.ledger.specs.declared.Row.{Row}
 use Rattle.ledger.specs.Limits.{text_limit}
 use Rattle.text.specs.declared.Class.TheVariants.{Graphic}
@@ -39,7 +40,6 @@ use Rattle.demands.proofs.RowLaws.{holds_if}
 use Rattle.demands.proofs.FormatLaws.{Shown, demand2_of}
 use Rattle.demands.proofs.FormatLaws as demands
 use Rattle.demands.proofs.LengthLaws.{bed_short}
-use Rattle.std.specs.Prelude.{Ok}
 
 -- the test of a record sees only the lengths of its names
 valid_named : (r : Bed) (ns : Names) (ts qs zs : List ℕ) → length ns.first ≡ r.chrom.length → length ns.second ≡ r.name.length → bed_valid r ts qs zs ≡ true → bed_valid (named r ns.first ns.second) ts qs zs ≡ true

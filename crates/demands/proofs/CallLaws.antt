@@ -8,6 +8,7 @@ use lib.ListN.{length, drop, length-append}
 use lib.Seq.{drop-append_seam}
 use lib.Dec.{eqb}
 use borrow.Author.Tests.{le-leb, eqb-false}
+use Rattle.std.specs.Prelude.{Ok, Err, Result}
 use Rattle.ledger.specs.declared.Row.{Row}
 use Rattle.ledger.specs.declared.Reason.TheVariants.{NoRoom, NoPair}
 use Rattle.ledger.specs.declared.Refusal.{Refusal}
@@ -40,7 +41,6 @@ use Rattle.demands.specs.Desk.{TallyCode}
 use Rattle.demands.specs.Calls.{EntryCall, single, many, text_of, sent_with, Called, called_none, called_single, called_many, Sends, sends_none, sends_chain, sends_other, Batches}
 use Rattle.demands.proofs.RefusalLaws.{tally_at, lifted_step}
 use Rattle.demands.proofs.ChainDemand2.{spelt_check, spelt_rows, spelt_of}
-use Rattle.std.specs.Prelude.{Ok, Err, Result}
 
 -- a tally of three 8-byte numbers is read back from its bytes, and a good one is such
 module _ (t : Tally) (rest : List ℕ) where
@@ -167,7 +167,7 @@ unfolding tally_after text_batch_check
 many_other s regions lent room f = go (chain_check s) refl (room_in_bytes regions room)
   where
     go : (x : Result Chain Refusal) → chain_check s ≡ x → (v : Bool)
-        → on_check (require v (refused NoRoom) (of_checked Err (λ _. (Ok tt)) x)) (λ _. lent) (tally_kept (sent_through (tally_in lent) (sent_text s regions room)) lent) ≡ lent
+        → on_check (require v (refused NoRoom) (of_checked Err (λ _. Ok tt) x)) (λ _. lent) (tally_kept (sent_through (tally_in lent) (sent_text s regions room)) lent) ≡ lent
     go (Ok c) e v = absurd (f c (chain_rows s c) (spelt_of s c e))
     go (Err y) e true = refl
     go (Err y) e false = refl

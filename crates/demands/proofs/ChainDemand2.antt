@@ -4,6 +4,7 @@ use mathlib.Core.Bool.{true}
 use mathlib.Core.List.{List}
 use Prim.Native.Nat.{ℕ, ◌≤◌}
 use lib.ListN.{length, take, drop}
+use Rattle.std.specs.Prelude.{Ok}
 use Rattle.ledger.specs.declared.Row.{Row}
 use Rattle.ledger.specs.Limits.{text_limit}
 use Rattle.text.specs.declared.Class.TheVariants.{Graphic}
@@ -40,7 +41,6 @@ use Rattle.demands.proofs.FormatLaws.{Shown, demand2_of}
 use Rattle.demands.proofs.FormatLaws as demands
 use Rattle.demands.proofs.LengthLaws.{chain_short}
 use Rattle.columns.proofs.WordLaws.{graphic_all}
-use Rattle.std.specs.Prelude.{Ok}
 
 -- the test of a record sees only the lengths of its names
 pub valid_named : (r : Chain) (ns : Names) (ts qs zs : List ℕ) → length ns.first ≡ r.tName.length → length ns.second ≡ r.qName.length → chain_valid r ts qs zs ≡ true → chain_valid (named r ns.first ns.second) ts qs zs ≡ true

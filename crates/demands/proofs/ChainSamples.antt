@@ -2,6 +2,7 @@
 use mathlib.Core.Path.{◌≡◌, refl}
 use Prim.Native.Nat.{ℕ}
 use lib.IntN.{pos}
+use Rattle.std.specs.Prelude.{Ok}
 use Rattle.ledger.specs.Limits.{block_limit}
 use Rattle.text.specs.Scan.{run, end_of}
 use Rattle.text.specs.Pieces.{pieces_of, lines_of, non_empty, words_of, line_of}
@@ -29,7 +30,6 @@ use Rattle.region.specs.Regions.{count_of, kept, dropped, partners_in, least, bo
 use Rattle.turn.specs.Turns.{turned_rows, turned, turn}
 use Rattle.demands.specs.Samples.{position_of, region_of, turned_text, read_chain, Outcome, lifted, lifted_region, bytes, refused, answer_to, chain_a, chain_turned, chain_long}
 use Rattle.demands.specs.Samples as samples
-use Rattle.std.specs.Prelude.{Ok}
 
 -- what the reader makes of chain A
 read_a : chain_read chain_a block_limit ≡ Ok recordA

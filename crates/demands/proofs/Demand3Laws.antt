@@ -8,6 +8,7 @@ use native.Mathlib.Omega.{arith}
 use lib.ListN.{length, take, drop, get_or}
 use lib.Seq.{take-append_seam}
 use borrow.Author.Tests.{lt-leb, le-leb}
+use Rattle.std.specs.Prelude.{Ok, Err, Some, None, Result, Option, ⊤}
 use Rattle.ledger.specs.Refusals.{without_text}
 use Rattle.ledger.specs.declared.Row.{Row}
 use Rattle.ledger.specs.declared.Reason.TheVariants.{NoRoom}
@@ -23,6 +24,7 @@ use Rattle.lift.specs.Pairs.{pairs, partner_of, is_partner, stands}
 use Rattle.lift.proofs.RunLaws.{either}
 use Rattle.lift.proofs.AcceptLaws.{table_accepted}
 use Rattle.ledger.proofs.Laws.{opposite_twice, letter_determines}
+use Rattle.ledger.specs.declared.Refusal.{Refusal}
 use Rattle.lift.proofs.ConversionLaws.{converts_twice}
 use Rattle.lift.proofs.PairLaws.{found_mem}
 use Rattle.lift.proofs.PositionLaws.{lifts_exactly, one_partner, pair_found, pair_inside}
@@ -44,8 +46,6 @@ use Rattle.demands.specs.Demand3.{InPair, Turns, RegionCounts, BatchRows, Demand
 use Rattle.demands.proofs.RowLaws.{read_count, front_rows, holds_if}
 use Rattle.demands.proofs.RefusalLaws.{position_refused, region_refused, turn_refused, tally_refused}
 use Rattle.demands.proofs.ChainDemand2.{spelt_check, spelt_rows}
-use Rattle.std.specs.Prelude.{Ok, Err, Some, None, Result, Option, ⊤}
-use Rattle.ledger.specs.declared.Refusal.{Refusal}
 
 -- ---- the chains that demand 2 accepts
 pub spelled_accepted : (s : List ℕ) (c : Chain) (rows : List Row) → ChainSpells s c rows → accepted c rows ≡ true

@@ -8,6 +8,7 @@ use native.Mathlib.Omega.{arith}
 use lib.ListN.{length, length-append, length-map, length-take}
 use lib.Seq.{take_all, ext_get_or}
 use borrow.Author.Tests.{le-leb, lt-leb, ne_eqb}
+use Rattle.std.specs.Prelude.{Ok, Err, Result, ⊤, ℤ}
 use Rattle.ledger.specs.Refusals.{without_text, require}
 use Rattle.ledger.specs.declared.Row.{Row}
 use Rattle.ledger.specs.declared.Reason.TheVariants.{BadWord, NoRoom}
@@ -70,9 +71,8 @@ use Rattle.demands.proofs.Demand1Laws.{thirteen}
 use Rattle.demands.proofs.CallLaws.{tally_told, batch_given, batch_kept}
 use Rattle.region.specs.Batches.{answer_rows, region_size, regions_in, rows_bytes, room_in_bytes, sent_text, text_batch_check}
 use Rattle.region.proofs.ByteLaws.{regions_length}
-use Rattle.demands.proofs.Demand3Laws.{spelled_accepted}
-use Rattle.std.specs.Prelude.{Ok, Err, Result, ⊤, ℤ}
 use Rattle.region.specs.declared.Region.{Region}
+use Rattle.demands.proofs.Demand3Laws.{spelled_accepted}
 
 -- ---- outcomes, as an answer and the lent bytes
 module _ (b b' : List ℕ) (a : ℕ) where

@@ -7,6 +7,7 @@ use native.Mathlib.Omega.{arith}
 use native.Mathlib.Nat.{le_refl}
 use lib.ListN.{length, take}
 use lib.Dec.{leb, ltb, eqb}
+use Rattle.std.specs.Prelude.{Ok, Err, Some, None, Result, Option, ⊤}
 use Rattle.ledger.specs.Refusals.{without_text, require}
 use Rattle.ledger.specs.declared.Row.{Row}
 use Rattle.ledger.specs.declared.Reason.{Reason}
@@ -53,7 +54,6 @@ use Rattle.entries.specs.Entries.{by_kind, of_bed, of_psl, of_chain, of_numbers,
 use Rattle.demands.specs.Demand1.{Ended, with_count, with_place}
 use Rattle.demands.proofs.PlaceLaws.{place_of_lem, demanded}
 use Rattle.demands.proofs.TextPlaceLaws.{bed_place, bed_in, psl_place, psl_in, numbers_place, numbers_in_lem, chain_place, chain_in}
-use Rattle.std.specs.Prelude.{Ok, Err, Some, None, Result, Option, ⊤}
 
 -- an outcome that ends so
 abbrev Ends : ℕ → Outcome → Type 0
@@ -295,7 +295,7 @@ unfolding batch_lifted text_batch_check
 batch_ends s regions lent lent' b b' r h = answered_ends (length s) _ b b' r (go (room_in_bytes regions (length b)) (chain_check s) (chain_in s)) h.rows_told
   where
     go : (v : Bool) (x : Result Chain Refusal) → chain_place x ≤ length s
-        → Ends (length s) (on_check (require v (refused NoRoom) (of_checked Err (λ _. (Ok tt)) x)) refuses (gives (length regions / region_size) (rows_bytes (answer_rows (tally_in lent) (sent_text s regions (length b))))))
+        → Ends (length s) (on_check (require v (refused NoRoom) (of_checked Err (λ _. Ok tt) x)) refuses (gives (length regions / region_size) (rows_bytes (answer_rows (tally_in lent) (sent_text s regions (length b))))))
     go true (Ok c) k = gives_ends (length s) (length regions / region_size) (rows_bytes (answer_rows (tally_in lent) (sent_text s regions (length b))))
     go true (Err x) k = code_ends (length s) x k
     go false x k = code_ends (length s) (without_text NoRoom) zero-le

@@ -5,10 +5,12 @@ use mathlib.Core.List.{List, ◌++◌}
 use Prim.Native.Nat.{ℕ, ◌≤◌}
 use native.Mathlib.Omega.{arith}
 use lib.ListN.{length, drop}
+use Rattle.std.specs.Prelude.{Ok, Result}
 use Rattle.ledger.specs.Refusals.{fault_at, refusal_at, require}
 use Rattle.ledger.specs.declared.Row.{Row}
 use Rattle.ledger.specs.declared.Reason.TheVariants.{BlockRules, NoRoom}
 use Rattle.ledger.specs.Limits.{text_limit}
+use Rattle.ledger.specs.declared.Refusal.{Refusal}
 use Rattle.text.specs.Checks.{refused}
 use Rattle.writing.specs.Answers.{room_answer, left_after}
 use Rattle.blocks.specs.Rows.{table_of}
@@ -16,8 +18,6 @@ use Rattle.rows.proofs.ReaderLaws.{Reads, read_of}
 use Rattle.demands.specs.Formats.{Names, Format}
 use Rattle.demands.specs.Demand2.{ReadBack, Demand2}
 use Rattle.demands.proofs.RowLaws.{read_count, front_rows, self_rows, holds_if, breach_if, room_written, room_short}
-use Rattle.std.specs.Prelude.{Ok, Result}
-use Rattle.ledger.specs.declared.Refusal.{Refusal}
 
 pub record Shown (f : Format) : Type 1 where
   -- its text checker, its reader with some room, and the columns of rows of what is accepted, by the definitions

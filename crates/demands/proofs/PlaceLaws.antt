@@ -7,6 +7,7 @@ use native.Mathlib.Omega.{arith}
 use native.Mathlib.Nat.{le_refl}
 use lib.ListN.{length, drop, get_or, length-take, length-drop}
 use lib.Dec.{leb, eqb}
+use Rattle.std.specs.Prelude.{Ok, Err, Result, ⊤}
 use Rattle.ledger.specs.declared.Reason.{Reason}
 use Rattle.ledger.specs.declared.Reason.TheVariants.{TextTooLong, WrongCount, ByteNotAllowed, NumberMisspelt, NumberOutOfRange, BadWord, ListLength}
 use Rattle.ledger.specs.Limits.{text_limit, name_limit, colour_limit}
@@ -18,6 +19,7 @@ use Rattle.text.specs.Pieces.{onto, pieces_of, non_empty, words_of}
 use Rattle.text.specs.Words.{line_end, next_line, next_word, bytes_of}
 use Rattle.ledger.specs.declared.Fault.{Fault}
 use Rattle.ledger.specs.Refusals.{require, fault_at}
+use Rattle.ledger.specs.declared.Refusal.{Refusal}
 use Rattle.text.specs.Checks.{fault, refused, then_check, text_check, words_check, last_line_check}
 use Rattle.text.proofs.ShowLaws.{scan_in, next_in, word_in, line_in}
 use Rattle.numbers.specs.Spelling.{fault_in}
@@ -30,8 +32,6 @@ use Rattle.kinds.specs.Kinds.{count_after, fixed_text, is_strand, whole_of, name
 use Rattle.columns.specs.Columns.{field_of, field_from, then_columns, then_next, columns_from, then_numbers, values_from}
 use Rattle.columns.specs.OneLine.{count_check, then_last, line_read}
 use Rattle.demands.proofs.LengthLaws.{spread}
-use Rattle.std.specs.Prelude.{Ok, Err, Result, ⊤}
-use Rattle.ledger.specs.declared.Refusal.{Refusal}
 
 -- ---- where a stage has its fault, and where a check of a record is refused
 abbrev pub fault_place : Result ⊤ Fault → ℕ

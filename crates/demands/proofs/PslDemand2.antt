@@ -4,6 +4,7 @@ use mathlib.Core.Bool.{true, ◌&&◌}
 use mathlib.Core.List.{List}
 use Prim.Native.Nat.{ℕ, ◌≤◌}
 use lib.ListN.{length, take}
+use Rattle.std.specs.Prelude.{Ok}
 use Rattle.ledger.specs.declared.Row.{Row}
 use Rattle.ledger.specs.Limits.{text_limit}
 use Rattle.text.specs.declared.Class.TheVariants.{Graphic}
@@ -42,7 +43,6 @@ use Rattle.demands.proofs.FormatLaws as demands
 use Rattle.demands.proofs.LengthLaws.{psl_short}
 use Rattle.columns.specs.Names.{length_fits}
 use Rattle.columns.proofs.WordLaws.{graphic_all}
-use Rattle.std.specs.Prelude.{Ok}
 
 -- where the blocks start and end does not depend on the names
 rows_named : (r : Psl) (ns : Names) (ts qs zs : List ℕ) → rows_fit (named r ns.first ns.second) ts qs zs ≡ rows_fit r ts qs zs

@@ -6,6 +6,7 @@ use Prim.Native.Nat.{ℕ, ◌+◌, ◌-◌, ◌≤◌, ◌<◌}
 use native.Mathlib.Omega.{arith}
 use lib.Dec.{leb, ltb}
 use borrow.Author.Tests.{lt-ltb, le-ltb, le-leb, lt-leb, ltb-true, leb-true}
+use Rattle.std.specs.Prelude.{Ok, Err, Some, None, Result, Option}
 use Rattle.ledger.specs.Refusals.{without_text, require}
 use Rattle.ledger.specs.declared.Row.{Row}
 use Rattle.ledger.specs.declared.Reason.{Reason}
@@ -29,7 +30,6 @@ use Rattle.region.specs.Regions as region
 use Rattle.region.proofs.RegionLaws.{region_of, refused_exactly}
 use Rattle.turn.specs.Turns as turn
 use Rattle.demands.specs.Demand3.{InNone, Inside, PositionRefused, RegionRefused, TurnRefused, TallyRefused}
-use Rattle.std.specs.Prelude.{Ok, Err, Some, None, Result, Option}
 
 -- one refusal at place 0 has one number
 abbrev at_none : Reason → Refusal

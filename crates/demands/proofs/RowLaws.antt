@@ -6,6 +6,7 @@ use Prim.Native.Nat.{ℕ, ◌≤◌, ◌<◌}
 use native.Mathlib.Omega.{arith}
 use lib.ListN.{length, drop, drop_of_length-le}
 use borrow.Author.Tests.{le-leb, lt-leb}
+use Rattle.std.specs.Prelude.{Ok, Err}
 use Rattle.ledger.specs.Refusals.{without_text, require}
 use Rattle.ledger.specs.Limits.{text_limit, block_limit}
 use Rattle.ledger.specs.declared.Reason.TheVariants.{BlockRules, NoRoom}
@@ -16,7 +17,6 @@ use Rattle.blocks.proofs.TableLaws.{table_length}
 use Rattle.text.specs.Checks.{refused}
 use Rattle.writing.specs.Answers.{room_answer}
 use Rattle.rows.proofs.ReaderLaws.{Reads}
-use Rattle.std.specs.Prelude.{Ok, Err}
 
 -- the flat lists of a table of three lists of one length are those lists
 pub record Flat (ts qs zs : List ℕ) : Type 0 where

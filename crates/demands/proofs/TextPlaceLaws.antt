@@ -6,9 +6,12 @@ use Prim.Native.Nat.{ℕ, zero, suc, ◌+◌, ◌-◌, ◌*◌, ◌≤◌, ◌<�
 use native.Mathlib.Nat.{le_refl}
 use lib.ListN.{length, take, get_or}
 use lib.Dec.{leb, ltb, eqb}
+use Rattle.std.specs.Prelude.{Ok, Err, Result, ⊤}
 use Rattle.ledger.specs.Refusals.{fault_at, require}
 use Rattle.ledger.specs.declared.Reason.TheVariants.{WrongCount, SpanDisagrees, BlockRules, CountsDisagree, NoRoom}
 use Rattle.ledger.specs.Limits.{text_limit, block_limit}
+use Rattle.ledger.specs.declared.Fault.{Fault}
+use Rattle.ledger.specs.declared.Refusal.{Refusal}
 use Rattle.text.specs.Pieces.{line_of, words_of}
 use Rattle.text.specs.Words.{next_line, next_word, word_count}
 use Rattle.text.specs.Checks.{then_check, room_check, text_check, words_check, last_line_check}
@@ -32,7 +35,6 @@ use Rattle.psl.specs.Read as psl
 use Rattle.number_line.specs.Numbers as numbers
 use Rattle.chain.specs.declared.BlockLine.{BlockLine}
 use Rattle.chain.specs.declared.BlockLine.TheVariants.{Last, Gap}
-use Rattle.chain.specs.declared.BlockLine.TheVariants as block
 use Rattle.chain.specs.declared.Ending.{Ending}
 use Rattle.chain.specs.declared.Chain.{Chain}
 use Rattle.chain.specs.Table.{chain_columns, block_columns}
@@ -40,9 +42,6 @@ use Rattle.chain.specs.Records.{chain_record}
 use Rattle.chain.specs.Read as chain
 use Rattle.text.proofs.ShowLaws.{next_in, line_in}
 use Rattle.demands.proofs.PlaceLaws.{fault_place, required, then_place, next_place, text_place, words_place, last_place, columns_place, columns_place_lem, values_place, line_place}
-use Rattle.std.specs.Prelude.{Ok, Err, Result, ⊤}
-use Rattle.ledger.specs.declared.Fault.{Fault}
-use Rattle.ledger.specs.declared.Refusal.{Refusal}
 
 -- ---- BED
 abbrev pub bed_place : Result Bed Refusal → ℕ

@@ -1,6 +1,7 @@
 -- BED as a format of the demands.
 use Rattle.std.specs.Prelude.{ℕ, ◌≡◌, List, [], length, get_or, Ok, Err, Result}
 use Rattle.ledger.specs.declared.Row.{Row}
+use Rattle.ledger.specs.declared.Refusal.{Refusal}
 use Rattle.text.specs.declared.Class.TheVariants.{Graphic}
 use Rattle.text.specs.Scan.{run}
 use Rattle.text.specs.Pieces.{line_of, words_of}
@@ -13,7 +14,6 @@ use Rattle.bed.specs.Write.{bed_text, BedWrote, record_check}
 use Rattle.table_bed.specs.Rows.{RowsRead}
 use Rattle.entries.specs.Records.{bed_numbers}
 use Rattle.demands.specs.Formats.{Names, Format}
-use Rattle.ledger.specs.declared.Refusal.{Refusal}
 
 -- the text is a BED line (bed, specs/Rules.antt): its words spell some values and lists, and record and rows are what they say
 pub record BedSpells (s : List ℕ) (r : Bed) (rows : List Row) : Type 0 where
@@ -55,7 +55,7 @@ unfoldable pub bed : Format
 bed = record {
   Record = Bed;
   blocks = λ r. r.blockCount;
-  Answer = (Result Bed Refusal);
+  Answer = Result Bed Refusal;
   accepted = Ok;
   refused = Err;
   Spells = BedSpells;

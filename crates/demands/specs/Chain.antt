@@ -1,6 +1,7 @@
 -- The chain as a format of the demands.
 use Rattle.std.specs.Prelude.{ℕ, ◌≡◌, List, [], length, get_or, Ok, Err, Result}
 use Rattle.ledger.specs.declared.Row.{Row}
+use Rattle.ledger.specs.declared.Refusal.{Refusal}
 use Rattle.text.specs.declared.Class.TheVariants.{Graphic}
 use Rattle.text.specs.Scan.{run}
 use Rattle.text.specs.Pieces.{line_of, words_of}
@@ -12,7 +13,6 @@ use Rattle.chain.specs.Write.{chain_text, ChainWrote, record_check}
 use Rattle.table_chain.specs.Rows.{RowsRead}
 use Rattle.entries.specs.Records.{chain_numbers}
 use Rattle.demands.specs.Formats.{Names, Format}
-use Rattle.ledger.specs.declared.Refusal.{Refusal}
 
 -- the text is a chain (chain, specs/Rules.antt): the words of its header spell some values, its block lines say three lists, and record and rows are what they say
 pub record ChainSpells (s : List ℕ) (r : Chain) (rows : List Row) : Type 0 where
@@ -55,7 +55,7 @@ unfoldable pub chain : Format
 chain = record {
   Record = Chain;
   blocks = λ r. r.blockCount;
-  Answer = (Result Chain Refusal);
+  Answer = Result Chain Refusal;
   accepted = Ok;
   refused = Err;
   Spells = ChainSpells;

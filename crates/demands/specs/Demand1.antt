@@ -1,5 +1,5 @@
 -- DEMAND 1: every call ends with an answer or a numbered refusal and its place; a refused call leaves block tables and output buffers as it found them, and a tally moves only as the
--- paper says. (No public function has a precondition; the answers of the formats, lifts and turns are enums of what was asked and a refusal.)
+-- paper says. (No public function has a precondition; the answers of the formats, lifts and turns are a `Result` of what was asked or a refusal.)
 use Rattle.std.specs.Prelude.{ℕ, ◌+◌, ◌-◌, ◌*◌, ◌%◌, ◌≤◌, ◌≡◌, List, length, Ok, Err}
 use Rattle.ledger.specs.Refusals.{without_text}
 use Rattle.ledger.specs.declared.Row.{Row}

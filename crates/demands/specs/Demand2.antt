@@ -34,7 +34,7 @@ pub record Demand2 (f : Format) : Type 0 where
   -- the names, as they stand in the text and as they are handed back, are its words
   pub names_said : (s : List ℕ) (r : f.Record) (rows : List Row) → f.Spells s r rows → (f.names s r ≡ f.name_words s) × (f.handed s r ≡ f.names s r)
   -- the record checker holds exactly of the records that obey the format's rules; any breach is 9
-  pub checked_exactly : (r : f.Record) (table : List Row) → (f.check r table ≡ (Ok tt)) ↔ f.Rules r table
+  pub checked_exactly : (r : f.Record) (table : List Row) → (f.check r table ≡ Ok tt) ↔ f.Rules r table
   pub breached : (r : f.Record) (table : List Row) (x : Refusal) → f.check r table ≡ Err x → x ≡ without_text BlockRules
   -- what was read is valid, with its names and the table that was left
   pub left_valid : (s : List ℕ) (before after : List Row) (r : f.Record) → f.Reads s before after (f.accepted r) → f.Valid r (f.names s r) after

@@ -9,6 +9,7 @@ use Rattle.ledger.specs.declared.Strand.TheVariants.{Plus, Minus}
 use Rattle.ledger.specs.Strands.{strand_opposite, strand_letter}
 use Rattle.blocks.specs.Rows.{table_of}
 use Rattle.ledger.specs.declared.Reason.TheVariants.{NumberOutOfRange, BlockRules, CountsDisagree, NoRoom, NoPair, OutsideTarget}
+use Rattle.ledger.specs.declared.Refusal.{Refusal}
 use Rattle.chain.specs.declared.Chain.{Chain}
 use Rattle.lift.specs.declared.Span.{Span}
 use Rattle.lift.specs.Conversion.{converted}
@@ -26,7 +27,6 @@ use Rattle.table_chain.specs.Rows.{RowsRead}
 use Rattle.table_lift.specs.Lifts.{RegionTallied, BatchLifted, Calls}
 use Rattle.table_turn.specs.Turns.{RowsTurned}
 use Rattle.demands.specs.Chain.{ChainSpells}
-use Rattle.ledger.specs.declared.Refusal.{Refusal}
 
 -- a target base stands in a pair, and in none
 abbrev pub InPair : Chain → List Row → ℕ → ℕ → Type 0
@@ -106,7 +106,7 @@ singly c rows regions = map single (map (sent_as c rows) regions)
 -- call for region i with the tally v as the regions before it left it, the rows past the regions stay, and the tally is that after the single calls
 pub record BatchRows (t : Tally) (c : Chain) (rows : List Row) (regions before after : List (List ℕ)) (u : Tally) (x : Result ⊤ Refusal) : Type 0 where
   pub eleven : (x ≡ Err (without_text NoRoom)) ↔ (length before < length regions)
-  pub answered : (x ≡ (Ok tt)) ↔ (length regions ≤ length before)
+  pub answered : (x ≡ Ok tt) ↔ (length regions ≤ length before)
   pub left : length before < length regions → (u ≡ t) × (after ≡ before)
   pub row_is : length regions ≤ length before → (i : ℕ) → i < length regions → (v w : Tally) (y : Result Region Refusal) → Calls t (singly c rows (take i regions)) v
       → RegionTallied v c rows (get_or (get_or regions i []) 0 0) (get_or (get_or regions i []) 1 0) w y → get_or after i [] ≡ answer_row y

@@ -16,6 +16,7 @@ use Rattle.lift.specs.Positions.{lift_position}
 use Rattle.region.specs.Regions.{lift_region}
 use Rattle.region.specs.declared.Tally.{Tally}
 use Rattle.region.specs.Batches.{regions_in, rows_bytes, room_in_bytes}
+use Rattle.region.specs.declared.Region.{Region}
 use Rattle.table_lift.specs.Lifts.{RegionTallied, BatchLifted}
 use Rattle.numbers.specs.Ranges.{Between}
 use Rattle.turn.specs.Turns.{turned, turned_rows}
@@ -26,7 +27,6 @@ use Rattle.demands.specs.Formats.{Format}
 use Rattle.demands.specs.Bed.{bed}
 use Rattle.demands.specs.Psl.{psl}
 use Rattle.demands.specs.Chain.{ChainSpells, chain}
-use Rattle.region.specs.declared.Region.{Region}
 
 -- refused, with nothing written
 pub record RefusedBy (x : Refusal) (b b' : List ℕ) (a : ℕ) : Type 0 where

@@ -1,6 +1,7 @@
 -- PSL as a format of the demands.
 use Rattle.std.specs.Prelude.{ℕ, ◌≡◌, List, [], length, get_or, Ok, Err, Result}
 use Rattle.ledger.specs.declared.Row.{Row}
+use Rattle.ledger.specs.declared.Refusal.{Refusal}
 use Rattle.text.specs.declared.Class.TheVariants.{Graphic}
 use Rattle.text.specs.Scan.{run}
 use Rattle.text.specs.Pieces.{line_of, words_of}
@@ -12,7 +13,6 @@ use Rattle.psl.specs.Write.{psl_text, PslWrote, record_check}
 use Rattle.table_psl.specs.Rows.{RowsRead}
 use Rattle.entries.specs.Records.{psl_numbers}
 use Rattle.demands.specs.Formats.{Names, Format}
-use Rattle.ledger.specs.declared.Refusal.{Refusal}
 
 -- the text is a PSL line (psl, specs/Rules.antt): its words spell some values and lists, and record and rows are what they say
 pub record PslSpells (s : List ℕ) (r : Psl) (rows : List Row) : Type 0 where
@@ -54,7 +54,7 @@ unfoldable pub psl : Format
 psl = record {
   Record = Psl;
   blocks = λ r. r.blockCount;
-  Answer = (Result Psl Refusal);
+  Answer = Result Psl Refusal;
   accepted = Ok;
   refused = Err;
   Spells = PslSpells;

@@ -7,15 +7,15 @@ use Rattle.ledger.specs.Limits.{block_limit}
 use Rattle.text.specs.Parts.{part_bytes}
 use Rattle.blocks.specs.Rows.{targets_of, queries_of, sizes_of}
 use Rattle.psl.specs.Read.{psl_read}
+use Rattle.psl.specs.declared.Psl.{Psl}
 use Rattle.chain.specs.declared.Chain.{Chain}
 use Rattle.chain.specs.Read.{chain_read}
 use Rattle.chain.specs.Write.{chain_text}
 use Rattle.lift.specs.Positions.{lift_position}
 use Rattle.region.specs.Regions.{lift_region}
+use Rattle.region.specs.declared.Region.{Region}
 use Rattle.turn.specs.Turns.{turned_rows, turn}
 use Rattle.chain.specs.Records.{chain_rows}
-use Rattle.psl.specs.declared.Psl.{Psl}
-use Rattle.region.specs.declared.Region.{Region}
 
 -- what a sample says: nothing refused and these numbers, these bytes, or a refusal's number and place
 pub data Outcome : Type 0 where

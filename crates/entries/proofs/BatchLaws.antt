@@ -5,6 +5,7 @@ use Prim.Native.Nat.{ℕ, ◌*◌, ◌/◌, ◌≤◌, ◌<◌}
 use native.Mathlib.Omega.{arith}
 use lib.ListN.{length}
 use borrow.Author.Tests.{le-leb, lt-leb}
+use Rattle.std.specs.Prelude.{Ok, Err}
 use Rattle.ledger.specs.declared.Refusal.{Refusal}
 use Rattle.writing.specs.Puts.{Put}
 use Rattle.binary.specs.Bytes.{word_size}
@@ -16,7 +17,6 @@ use Rattle.region.proofs.ByteLaws.{refused_none}
 use Rattle.answers.specs.Answers.{told, refusal_code}
 use Rattle.answers.proofs.AnswerLaws.{refused_is, put_front}
 use Rattle.entries.specs.Entries.{tally_in, tally_bytes, batch_lifted, tally_kept, tally_after, BatchTold}
-use Rattle.std.specs.Prelude.{Ok, Err}
 
 -- the tally
 module _ (t : Tally) (b : List ℕ) where
@@ -43,5 +43,5 @@ module _ (s regions lent b b' : List ℕ) (t : Tally) (et : t ≡ tally_in lent)
   pub batch_told : (lent' : List ℕ) (r : ℕ) → d.check ≡ Ok tt → lent' ≡ tally_kept d.tally lent → r ≡ told (length regions / region_size) → BatchTold s regions lent lent' b b' r
   unfolding batch_lifted tally_after
   batch_told lent' r e f q =
-      let k : text_batch_check s regions (length b) ≡ (Ok tt) = sym done.check ∙ e in
+      let k : text_batch_check s regions (length b) ≡ Ok tt = sym done.check ∙ e in
       record { rows_told = rw (k, ← et) (record { is = q; left = done.answers }); tally_left = rw (k, ← et) (f ∙ ap (λ (u : Tally). tally_kept u lent) done.tally) }

@@ -4,6 +4,7 @@ use mathlib.Core.List.{List, [], ◌∷◌}
 use Prim.Native.Nat.{ℕ}
 use native.Mathlib.Omega.{arith}
 use lib.ListN.{length, take}
+use Rattle.std.specs.Prelude.{Ok, Err, Result}
 use Rattle.ledger.specs.declared.Reason.TheVariants.{NoRoom}
 use Rattle.ledger.specs.Refusals.{without_text}
 use Rattle.ledger.specs.declared.Refusal.{Refusal}
@@ -24,7 +25,6 @@ use Rattle.answers.specs.Answers.{told, refusal_code, Outcome, Answered, numbere
 use Rattle.entries.specs.Records.{bed_numbers, psl_numbers, chain_numbers, Held, BedStaged, PslStaged, ChainStaged}
 use Rattle.entries.specs.Entries.{of_bed, of_psl, of_chain, checked_bed, checked_psl, checked_chain, parsed_bed, parsed_psl, parsed_chain, converted_numbers, bed_written, psl_written, chain_written, formatted_bed, formatted_psl, formatted_chain}
 use Rattle.answers.proofs.AnswerLaws.{refused_is}
-use Rattle.std.specs.Prelude.{Ok, Err, Result}
 
 -- the rows of the room are those of the text
 pub held_rows : (n : ℕ) (ts qs zs ts' qs' zs' : List ℕ) → Held n ts qs zs ts' qs' zs' → table_of (take n ts') (take n qs') (take n zs') ≡ table_of ts qs zs

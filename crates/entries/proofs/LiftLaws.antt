@@ -8,6 +8,7 @@ use lib.ListN.{length}
 use lib.Dec.{ltb}
 use lib.IntN.{ℤ, pos, ◌-ℤ◌}
 use borrow.Author.Tests.{lt-ltb, le-ltb}
+use Rattle.std.specs.Prelude.{Ok, Err, Some, None, Result, Option}
 use Rattle.ledger.specs.Refusals.{require}
 use Rattle.ledger.specs.declared.Row.{Row}
 use Rattle.ledger.specs.declared.Refusal.{Refusal}
@@ -25,7 +26,6 @@ use Rattle.region.specs.Regions.{lift_region, text_lifted}
 use Rattle.answers.specs.Answers.{refusal_code, Outcome, Answered, refuses, numbered, no_room_at}
 use Rattle.entries.specs.Entries.{in_word, of_chain, of_position, position_lifted, of_region, region_lifted}
 use Rattle.answers.proofs.AnswerLaws.{refused_is}
-use Rattle.std.specs.Prelude.{Ok, Err, Some, None, Result, Option}
 
 -- partner minus position in a word
 pub drift_below : (p q : ℕ) → q < p → p < 2 ^ 64 → largest_number - (p - q) + 1 ≡ in_word (pos q -ℤ pos p)
@@ -46,8 +46,9 @@ drift_of c rows p q d e = go (accepted c rows) (ltb p c.tSize) (partner_of p (pa
     go true false x h = absurd (let z : ◌≡◌ {A = ℕ} 0 1 = cc in omega arith)
     go true true None h = absurd (let z : ◌≡◌ {A = ℕ} 0 1 = cc in omega arith)
     go true true (Some b) h =
-        let z : b ≡ q = cc in
-        let y : pos b -ℤ pos p ≡ d = cc in
+        let both : ◌≡◌ {A = ℕ × ℤ} (b, pos b -ℤ pos p) (q, d) = cc in
+        let z : b ≡ q = ap (λ (w : ℕ × ℤ). w.0) both in
+        let y : pos b -ℤ pos p ≡ d = ap (λ (w : ℕ × ℤ). w.1) both in
         sym y ∙ ap (λ (n : ℕ). pos n -ℤ pos p) z
 
 text_drift : (s : List ℕ) (p q : ℕ) (d : ℤ) → text_position s p ≡ Ok (q, d) → d ≡ pos q -ℤ pos p

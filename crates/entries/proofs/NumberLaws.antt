@@ -7,17 +7,17 @@ use native.Mathlib.Omega.{arith}
 use lib.ListN.{length}
 use lib.Dec.{leb}
 use borrow.Author.Tests.{leb-true, leb-false}
+use Rattle.std.specs.Prelude.{Ok, Err, Result}
 use Rattle.ledger.specs.Refusals.{fault_at, refusal_at}
 use Rattle.ledger.specs.declared.Reason.TheVariants.{NoRoom}
 use Rattle.ledger.specs.declared.Refusal.{Refusal}
+use Rattle.ledger.specs.declared.Fault.{Fault}
 use Rattle.binary.specs.Bytes.{word_size}
 use Rattle.number_line.specs.Numbers.{numbers_in, numbers_answer, numbers_stages, numbers_check, then_room, numbers_read, bytes_after, NumbersStored}
 use Rattle.number_line.proofs.LineLaws.{numbers_of, stages_is}
 use Rattle.answers.specs.Answers.{told, refusal_code, Answered, numbered, no_room_at}
 use Rattle.answers.proofs.AnswerLaws.{refused_is, numbers_short, numbers_put}
 use Rattle.entries.specs.Entries.{of_numbers, numbers_given}
-use Rattle.std.specs.Prelude.{Ok, Err, Result}
-use Rattle.ledger.specs.declared.Fault.{Fault}
 
 -- the one number of an answer
 abbrev code_of : Result ℕ Refusal → ℕ

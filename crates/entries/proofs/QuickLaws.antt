@@ -6,6 +6,8 @@ use Prim.Native.Nat.{ℕ}
 use native.Mathlib.Omega.{arith}
 use lib.ListN.{length, take}
 use lib.Seq.{sets}
+use Rattle.std.specs.Prelude.{Ok, Result}
+use Rattle.ledger.specs.declared.Refusal.{Refusal}
 use Rattle.blocks.specs.Blocks.{rows_of}
 use Rattle.blocks.specs.Rows.{table_of}
 use Rattle.blocks.proofs.TableLaws.{table_take}
@@ -22,8 +24,6 @@ use Rattle.answers.specs.Answers.{Answered, recorded, no_room_at}
 use Rattle.entries.specs.Records.{bed_numbers}
 use Rattle.entries.specs.Entries.{parsed_bed, copied, bed_written, formatted_bed}
 use Rattle.entries.proofs.StageLaws.{front}
-use Rattle.std.specs.Prelude.{Ok, Result}
-use Rattle.ledger.specs.declared.Refusal.{Refusal}
 
 -- FORMAT: the text itself
 standard_formatted : (s : List ℕ) → Standard s → (room : ℕ) → formatted_bed s room ≡ copied s room

@@ -6,6 +6,7 @@ use Prim.Native.Nat.{ℕ, ◌/◌, ◌%◌}
 use lib.ListN.{length}
 use lib.Dec.{eqb, leb}
 use borrow.Author.Tests.{eqb-true}
+use Rattle.std.specs.Prelude.{Ok, Err, Result, ⊤, ℤ}
 use Rattle.ledger.specs.Refusals.{without_text}
 use Rattle.ledger.specs.declared.Reason.TheVariants.{BadWord, NoRoom, NoPair}
 use Rattle.ledger.specs.declared.Refusal.{Refusal}
@@ -24,17 +25,16 @@ use Rattle.chain.specs.Write.{chain_write, chain_text}
 use Rattle.number_line.specs.Numbers.{numbers_in, numbers_check}
 use Rattle.lift.specs.Conversion.{converted}
 use Rattle.lift.specs.Positions.{lift_position}
+use Rattle.lift.specs.declared.Span.{Span}
 use Rattle.region.specs.declared.Tally.{Tally}
 use Rattle.region.specs.Regions.{lift_region}
 use Rattle.region.specs.Tallies.{tally_step}
 use Rattle.region.specs.Batches.{region_size, text_batch_check}
+use Rattle.region.specs.declared.Region.{Region}
 use Rattle.turn.specs.Turns as turns
 use Rattle.answers.specs.Answers.{Outcome, gives, refuses, Answered, refusal_code, roomed, numbered, recorded, no_room_at}
 use Rattle.answers.proofs.AnswerLaws.{accepted_reason, refused_reason}
 use Rattle.entries.specs.Entries.{by_kind, of_bed, of_psl, of_chain, of_numbers, of_span, of_position, of_region, of_turn, of_tallied, at_end, name_bytes, written, bed_written, psl_written, chain_written, parsed_bed, parsed_psl, parsed_chain, parsed, numbers_given, formatted_bed, formatted_psl, formatted_chain, formatted, converted_numbers, position_lifted, region_lifted, turn_written, turned_text, tally_in, tally_bytes, tallied, on_check, batch_lifted, tally_after, BatchTold, Refusing}
-use Rattle.std.specs.Prelude.{Ok, Err, Result, ⊤, ℤ}
-use Rattle.region.specs.declared.Region.{Region}
-use Rattle.lift.specs.declared.Span.{Span}
 
 -- an outcome that tells a refusal has no bytes
 record Quiet (o : Outcome) : Type 0 where

@@ -5,6 +5,7 @@ use Prim.Native.Nat.{ℕ, ◌+◌, ◌*◌, ◌≤◌}
 use native.Mathlib.Omega.{arith}
 use lib.ListN.{length, take, drop, length-take, length-drop}
 use lib.Seq.{sets, sets-eq, length-sets, take-append_seam, take-take}
+use Rattle.std.specs.Prelude.{Result}
 use Rattle.ledger.specs.Limits.{block_limit}
 use Rattle.ledger.specs.declared.Refusal.{Refusal}
 use Rattle.blocks.specs.Readers.{rows_after}
@@ -13,6 +14,7 @@ use Rattle.rows.proofs.ReaderLaws.{Reads}
 use Rattle.bed.specs.Records.{bed_targets, bed_queries, bed_sizes}
 use Rattle.bed.specs.Read.{BedRead}
 use Rattle.bed.specs.Read as bed-read
+use Rattle.bed.specs.declared.Bed.{Bed}
 use Rattle.table_bed.proofs.RowLaws.{bed_reads}
 use Rattle.psl.specs.declared.Psl.{Psl}
 use Rattle.psl.specs.Records.{psl_targets, psl_queries, psl_sizes}
@@ -22,11 +24,9 @@ use Rattle.table_psl.proofs.RowLaws.{psl_reads}
 use Rattle.chain.specs.Records.{chain_targets, chain_queries, chain_sizes}
 use Rattle.chain.specs.Read.{ChainRead}
 use Rattle.chain.specs.Read as chain-read
+use Rattle.chain.specs.declared.Chain.{Chain}
 use Rattle.table_chain.proofs.RowLaws.{chain_reads}
 use Rattle.entries.specs.Records.{Staging, Held, BedStaged, PslStaged, ChainStaged}
-use Rattle.std.specs.Prelude.{Result}
-use Rattle.bed.specs.declared.Bed.{Bed}
-use Rattle.chain.specs.declared.Chain.{Chain}
 
 -- what was stored at the front stands there
 pub front : (n : ℕ) (xs b : List ℕ) → length xs ≡ n → n ≤ length b → take n (sets b 0 xs) ≡ xs

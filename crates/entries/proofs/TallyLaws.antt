@@ -7,6 +7,7 @@ use native.Mathlib.Omega.{arith}
 use lib.ListN.{length, take}
 use lib.Dec.{leb}
 use borrow.Author.Tests.{le-leb, lt-leb, leb-true, leb-false, eq-eqb, ne_eqb}
+use Rattle.std.specs.Prelude.{Ok, Err, Result}
 use Rattle.ledger.specs.Refusals.{without_text, require}
 use Rattle.ledger.specs.declared.Row.{Row}
 use Rattle.ledger.specs.declared.Refusal.{Refusal}
@@ -29,7 +30,6 @@ use Rattle.entries.specs.Records.{ChainStaged}
 use Rattle.entries.specs.Entries.{bad_tally, tally_in, tally_bytes, of_tallied, tally_outcome, TallyRoom, tallied}
 use Rattle.answers.proofs.AnswerLaws.{refused_is, put_front}
 use Rattle.entries.proofs.EntryLaws.{chain_accepted}
-use Rattle.std.specs.Prelude.{Ok, Err, Result}
 
 -- reading it
 pub tally_short : (s : List ℕ) → length s < 3 * word_size → bad_tally ≡ tally_in s

@@ -4,6 +4,7 @@ use mathlib.Core.List.{List, map}
 use Prim.Native.Nat.{ℕ}
 use native.Mathlib.Omega.{arith}
 use lib.ListN.{length, take, length-map, length-take}
+use Rattle.std.specs.Prelude.{Ok, Err, Result}
 use Rattle.ledger.specs.declared.Row.{Row}
 use Rattle.ledger.specs.declared.Refusal.{Refusal}
 use Rattle.ledger.specs.Limits.{block_limit}
@@ -20,7 +21,6 @@ use Rattle.entries.specs.Entries.{chain_written, turn_written, turned_text}
 use Rattle.answers.proofs.AnswerLaws.{refused_is}
 use Rattle.entries.proofs.StageLaws.{room_is, held_front}
 use Rattle.entries.proofs.EntryLaws.{wide, chain_accepted}
-use Rattle.std.specs.Prelude.{Ok, Err, Result}
 
 -- a turn into room for any record's blocks
 module _ (c : Chain) (rows : List Row) (b₁ b₂ b₃ ts qs zs : List ℕ) (x : Result Chain Refusal) (f : turns.TurnedInto c rows b₁ b₂ b₃ ts qs zs x) (st : Staging b₁ b₂ b₃) where

@@ -5,6 +5,7 @@ use Prim.Native.Nat.{ℕ}
 use native.Mathlib.Omega.{arith}
 use lib.ListN.{length, take, length-take}
 use borrow.Author.Tests.{eq-eqb, ne_eqb}
+use Rattle.std.specs.Prelude.{Ok, Err, Result, ⊤}
 use Rattle.ledger.specs.declared.Reason.TheVariants.{NoRoom}
 use Rattle.ledger.specs.declared.Refusal.{Refusal}
 use Rattle.ledger.specs.Reasons.{reason_number}
@@ -23,7 +24,6 @@ use Rattle.chain.specs.declared.Chain.{Chain}
 use Rattle.chain.specs.Write as chain-write
 use Rattle.answers.specs.Answers.{told, refusal_code, no_room_at, Answered}
 use Rattle.entries.specs.Entries.{at_end, written, copied, name_bytes, bed_written, psl_written, chain_written}
-use Rattle.std.specs.Prelude.{Ok, Err, Result, ⊤}
 
 -- the place of a writer's refusal
 module _ (end : ℕ) (x : Refusal) (r m n : ℕ) (is : m ≡ reason_number x.reason) (room : n ≡ reason_number NoRoom) where

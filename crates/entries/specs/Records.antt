@@ -3,6 +3,7 @@ use Rattle.std.specs.Prelude.{ℕ, ◌≤◌, ◌≡◌, List, [], ◌∷◌, le
 use Rattle.ledger.specs.declared.Row.{Row}
 use Rattle.ledger.specs.Limits.{block_limit}
 use Rattle.ledger.specs.Strands.{strand_letter}
+use Rattle.ledger.specs.declared.Refusal.{Refusal}
 use Rattle.blocks.specs.Rows.{targets_of, queries_of, sizes_of}
 use Rattle.bed.specs.declared.Bed.{Bed}
 use Rattle.bed.specs.Records.{bed_targets, bed_queries, bed_sizes}
@@ -14,7 +15,6 @@ use Rattle.chain.specs.declared.Chain.{Chain}
 use Rattle.chain.specs.Records.{chain_targets, chain_queries, chain_sizes}
 use Rattle.chain.specs.Read.{chain_check}
 use Rattle.turn.specs.Turns as turns
-use Rattle.ledger.specs.declared.Refusal.{Refusal}
 
 -- a name is where it stands and its length, a strand its letter
 unfoldable pub bed_numbers : Bed → List ℕ

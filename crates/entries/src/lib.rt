@@ -192,7 +192,7 @@ pub fn numbers(text: &[u8], out: &mut [u8]) -> u64
 {
     match number_line::read_numbers(text, out) {
         Err(x) => answers::refusal_code(x),
-        Ok(n) => answers::told_as(n as u64),
+        Ok(count) => answers::told_as(count as u64),
     }
 }
 
