@@ -179,7 +179,7 @@ fn default_block(r: Bed, b: usize, lists: &mut [u64])
     if r.words == COLUMNS as u64 {
         return;
     }
-    numbers::store(lists, 0, blocks::less(r.chromEnd, r.chromStart));
+    numbers::store(lists, 0, r.chromEnd.saturating_sub(r.chromStart));
     numbers::store(lists, b, 0);
 }
 
@@ -188,7 +188,7 @@ fn check_blocks(text: &[u8], r: Bed, b: usize, lists: &[u64]) -> Result<(), Faul
     requires { Blocked b text.now r lists.now }
     ensures { result ≡ block_check text.now r }
 {
-    let span = blocks::less(r.chromEnd, r.chromStart);
+    let span = r.chromEnd.saturating_sub(r.chromStart);
     text::require(
         blocks::blocks_fill(&lists[b..], lists, r.blockCount as usize, 0, span),
         Reason::BlockRules,

@@ -7,6 +7,7 @@ use native.Mathlib.Nat.{pow-suc}
 use native.Mathlib.Numerals.{add-one}
 use lib.ListN.{length, get_or, take, drop, drop_of_length-le}
 use lib.Seq.{drop-cons, take_all}
+use Rattle.std.specs.Int.{w64, from_le_bytes}
 use Rattle.ledger.specs.declared.Row.{Row}
 use Rattle.ledger.specs.Limits.{largest_place}
 use Rattle.blocks.specs.Blocks.{rows_of}
@@ -177,10 +178,11 @@ low_none : (s : List ℕ) (i : ℕ) → low_at 0 s i ≡ 0
 unfolding low_at
 low_none s i = refl
 
-pub word_loaded : (s : List ℕ) (at a b c d e f g h low high : ℕ) → a ≡ get_or s at 0 → b ≡ get_or s (at + 1) 0 → c ≡ get_or s (at + 2) 0 → d ≡ get_or s (at + 3) 0
-    → e ≡ get_or s (at + 4) 0 → f ≡ get_or s (at + 5) 0 → g ≡ get_or s (at + 6) 0 → h ≡ get_or s (at + 7) 0
-    → low ≡ a + 256 * (b + 256 * (c + 256 * d)) → high ≡ e + 256 * (f + 256 * (g + 256 * h)) → low + 4294967296 * high ≡ low_at word_size s at
-word_loaded s at a b c d e f g h low high ea eb ec ed ee ef eg eh el ek =
+-- the number that a machine makes of eight bytes
+pub word_loaded : (s : List ℕ) (at r : ℕ)
+    → r ≡ from_le_bytes w64 (get_or s at 0 ∷ get_or s (at + 1) 0 ∷ get_or s (at + 2) 0 ∷ get_or s (at + 3) 0 ∷ get_or s (at + 4) 0 ∷ get_or s (at + 5) 0 ∷ get_or s (at + 6) 0 ∷ get_or s (at + 7) 0 ∷ [])
+    → r ≡ low_at word_size s at
+word_loaded s at r e =
     omega (
       arith,
       low_first 7 s at (at + 1) (omega arith),

@@ -1,12 +1,15 @@
 -- Numbers and rows stored as whole words, which there is room for. Assumes nothing.
-use mathlib.Core.Path.{◌≡◌, refl, sym, ◌∙◌}
+use mathlib.Core.Path.{◌≡◌, refl, sym, ap, ◌∙◌}
 use mathlib.Core.Bool.{Bool, true, false}
 use mathlib.Core.List.{List, [], ◌∷◌, ◌++◌}
-use Prim.Native.Nat.{ℕ, suc, ◌+◌, ◌-◌, ◌*◌, ◌/◌, ◌%◌, ◌≤◌, ◌<◌}
+use Prim.Native.Nat.{ℕ, zero, suc, ◌+◌, ◌-◌, ◌*◌, ◌/◌, ◌%◌, ◌^◌, ◌≤◌, ◌<◌}
 use native.Mathlib.Omega.{arith}
+use native.Mathlib.Nat.{pow-suc, div-div-eq-div-mul}
 use lib.Dec.{leb}
-use lib.ListN.{length, get_or, set, drop}
+use lib.ListN.{length, get_or, drop}
 use lib.Seq.{sets, length-sets}
+use borrow.Rule.Slice.PartMut.{put_mid}
+use Rattle.std.specs.Int.{w64, bytes_low_first, to_le_bytes}
 use borrow.Author.Tests.{leb-true, leb-false, le-leb, lt-leb}
 use Rattle.ledger.specs.Limits.{largest_place}
 use Rattle.blocks.specs.Blocks.{rows_of}
@@ -14,25 +17,28 @@ use Rattle.blocks.specs.Rows.{row_as, table_of}
 use Rattle.blocks.proofs.TableLaws.{table_length}
 use Rattle.writing.specs.Puts.{Put}
 use Rattle.writing.proofs.PutLaws.{sets_append}
+use Rattle.writing.proofs.StoreLaws.{store_copied}
 use Rattle.binary.specs.Bytes.{low_bytes, word_size, words_bytes, rows_numbers}
 use Rattle.binary.proofs.BackLaws.{low_length, words_length, rows_length}
 use Rattle.binary.proofs.ByteLaws.{words_next, words_past, append_nil, rows_next, rows_past}
 
--- a word's bytes one by one
-pub word_stored : (d : List ℕ) (at n : ℕ)
-    → set (set (set (set (set (set (set (set d at (n % 256)) (at + 1) (n / 256 % 256)) (at + 2) (n / 256 / 256 % 256)) (at + 3) (n / 256 / 256 / 256 % 256)) (at + 4) (n / 256 / 256 / 256 / 256 % 256))
-    (at + 5) (n / 256 / 256 / 256 / 256 / 256 % 256)) (at + 6) (n / 256 / 256 / 256 / 256 / 256 / 256 % 256)) (at + 7) (n / 256 / 256 / 256 / 256 / 256 / 256 / 256 % 256)
-    ≡ sets d at (low_bytes word_size n)
+-- the bytes that a machine makes of a number are its lowest ones
+low_from : (k i n : ℕ) → bytes_low_first i k n ≡ low_bytes k (n / 256 ^ i)
 unfolding low_bytes
-word_stored d at n =
-    let a : at + 1 ≡ suc at = omega arith in
-    let b : at + 2 ≡ suc (suc at) = omega arith in
-    let c : at + 3 ≡ suc (suc (suc at)) = omega arith in
-    let e : at + 4 ≡ suc (suc (suc (suc at))) = omega arith in
-    let f : at + 5 ≡ suc (suc (suc (suc (suc at)))) = omega arith in
-    let g : at + 6 ≡ suc (suc (suc (suc (suc (suc at))))) = omega arith in
-    let h : at + 7 ≡ suc (suc (suc (suc (suc (suc (suc at)))))) = omega arith in
-    rw (a, b, c, e, f, g, h)
+low_from zero i n = refl
+low_from (suc k) zero n =
+    let e : n / 256 ^ 0 ≡ n = omega arith in
+    rw e (ap (λ (l : List ℕ). n % 256 ∷ l) (low_from k 1 n))
+low_from (suc k) (suc i) n =
+    let e : n / 256 ^ suc (suc i) ≡ n / 256 ^ suc i / 256 = rw (pow-suc 256 (suc i)) (sym (div-div-eq-div-mul n (256 ^ suc i) 256)) in
+    ap (λ (l : List ℕ). n / 256 ^ suc i % 256 ∷ l) (rw e at (low_from k (suc (suc i)) n))
+
+-- a copy of them over the part of the buffer from a place on
+pub word_stored : (at n k : ℕ) (b bs : List ℕ) → at + word_size ≤ length b → k ≡ word_size → bs ≡ to_le_bytes w64 n → put_mid at k b bs ≡ sets b at (low_bytes word_size n)
+word_stored at n k b bs h m e =
+    let l : length (low_bytes word_size n) ≡ word_size = low_length word_size n in
+    let o : n / 256 ^ 0 ≡ n = omega arith in
+    store_copied (low_bytes word_size n) at k b bs (omega (arith, l)) (omega (arith, l)) (e ∙ rw o at (low_from word_size 0 n))
 
 -- what the loop over numbers keeps: storing those that are left makes the whole
 pub record Storing (vs : List ℕ) (at : ℕ) (b₀ : List ℕ) (i : ℕ) (b : List ℕ) : Type 0 where

@@ -24,26 +24,12 @@ pub fn put_low(buf: &mut [u8], at: usize, n: u64, count: usize) -> usize
     p
 }
 
-// Stores the bytes of a number, which there is room for. Plain stores, with no test between them, are made into one.
+// Stores the bytes of a number, which there is room for, all at once.
 fn store_word(buf: &mut [u8], at: usize, n: u64)
     requires { at + word_size ≤ length buf.old }
     ensures { buf.new ≡ sets buf.old at (low_bytes word_size n) }
 {
-    let a = n / 256;
-    let b = a / 256;
-    let c = b / 256;
-    let d = c / 256;
-    let e = d / 256;
-    let f = e / 256;
-    let g = f / 256;
-    buf[at] = (n % 256) as u8;
-    buf[at + 1] = (a % 256) as u8;
-    buf[at + 2] = (b % 256) as u8;
-    buf[at + 3] = (c % 256) as u8;
-    buf[at + 4] = (d % 256) as u8;
-    buf[at + 5] = (e % 256) as u8;
-    buf[at + 6] = (f % 256) as u8;
-    buf[at + 7] = (g % 256) as u8;
+    buf[at..at + WORD_SIZE].copy_from_slice(&n.to_le_bytes());
 }
 
 // Stores numbers, a word each, which there is room for.
@@ -57,6 +43,7 @@ fn store_words(buf: &mut [u8], at: usize, vs: &[u64])
 }
 
 // Whether so many bytes have room for so many words from a place on.
+// kept: words are counted by a quotient, since their bytes need not fit a place, which the room of `writing` takes.
 fn has_room(n: usize, at: usize, words: usize) -> bool
     ensures { result ≡ leb (at + word_size * words) n }
 {
@@ -169,12 +156,6 @@ pub fn put_rows(buf: &mut [u8], at: usize, targets: &[u64], queries: &[u64], siz
     put_each_row(buf, at, targets, queries, sizes, n)
 }
 
-fn wide(b: u8) -> u64
-    ensures { (result ≡ b) × (result ≤ 255) }
-{
-    b as u64
-}
-
 // The byte so many places on, as a number; 0 past the end.
 fn byte_at(bytes: &[u8], at: usize, on: usize) -> u64
     ensures { ByteRead bytes.now (at + on) result }
@@ -185,21 +166,14 @@ fn byte_at(bytes: &[u8], at: usize, on: usize) -> u64
     if bytes.len() - at <= on {
         return 0;
     }
-    wide(bytes[at + on])
-}
-
-// So many bytes, at most a word's.
-fn in_word(count: usize) -> usize
-    ensures { result ≡ min count word_size }
-{
-    if WORD_SIZE < count { WORD_SIZE } else { count }
+    u64::from(bytes[at + on])
 }
 
 // The number that so many bytes from a place on make, at most a word's.
 pub fn low_at(bytes: &[u8], at: usize, count: usize) -> u64
     ensures { result ≡ low_at (min count word_size) bytes.now at }
 {
-    let most = in_word(count);
+    let most = count.min(WORD_SIZE);
     let mut n = 0;
     for left in (0..most).rev() {
         n = byte_at(bytes, at, left) + 256 * n;
@@ -207,32 +181,21 @@ pub fn low_at(bytes: &[u8], at: usize, count: usize) -> u64
     n
 }
 
-// The number of four bytes.
-fn low_four(a: u64, b: u64, c: u64, d: u64) -> u64
-    requires { (a ≤ 255) × (b ≤ 255) × (c ≤ 255) × (d ≤ 255) }
-    ensures { result ≡ a + 256 * (b + 256 * (c + 256 * d)) }
-{
-    a + 256 * (b + 256 * (c + 256 * d))
-}
-
 // The eight bytes from a place on, where they are there.
 fn load_word(bytes: &[u8], at: usize) -> u64
     requires { at + word_size ≤ length bytes.now }
     ensures { result ≡ low_at word_size bytes.now at }
 {
-    let high = low_four(
-        wide(bytes[at + 4]),
-        wide(bytes[at + 5]),
-        wide(bytes[at + 6]),
-        wide(bytes[at + 7]),
-    );
-    let low = low_four(
-        wide(bytes[at]),
-        wide(bytes[at + 1]),
-        wide(bytes[at + 2]),
-        wide(bytes[at + 3]),
-    );
-    low + 4294967296 * high
+    u64::from_le_bytes([
+        bytes[at],
+        bytes[at + 1],
+        bytes[at + 2],
+        bytes[at + 3],
+        bytes[at + 4],
+        bytes[at + 5],
+        bytes[at + 6],
+        bytes[at + 7],
+    ])
 }
 
 // The word at a place.

@@ -1,7 +1,7 @@
 // The rules of blocks over flat slices: order, span, sums and ranges; and moving blocks between tables.
 #![tactic(auto)]
 
-ghost use Rattle.std.specs.Prelude.{◌≡◌, ◌+◌, ◌-◌, ◌*◌, min, length, take};
+ghost use Rattle.std.specs.Prelude.{◌≡◌, ◌+◌, ◌-◌, ◌*◌, length, take};
 ghost use Rattle.std.proofs.lemmas.List.Edits.{sets};
 ghost use Rattle.ledger.specs.Limits.{block_limit, largest_number};
 ghost use Rattle.blocks.specs.Blocks.{blocks_fill, are_sums, sums_within, shifted_within, subtracted, capped, sum_of, gap_count, gap_bases, all_between, row_numbers_fit, span_fits, count_fits, rows_of};
@@ -140,7 +140,7 @@ pub fn strand_start(strand: Strand, size: u64, start: u64, end: u64) -> u64
 {
     match strand {
         Strand::Plus => start,
-        Strand::Minus => less(size, end),
+        Strand::Minus => size.saturating_sub(end),
         Strand::Dot => start,
     }
 }
@@ -150,16 +150,9 @@ pub fn strand_end(strand: Strand, size: u64, start: u64, end: u64) -> u64
 {
     match strand {
         Strand::Plus => end,
-        Strand::Minus => less(size, start),
+        Strand::Minus => size.saturating_sub(start),
         Strand::Dot => end,
     }
-}
-
-// The difference of two numbers, or 0.
-pub fn less(x: u64, by: u64) -> u64
-    ensures { result ≡ x - by }
-{
-    if x < by { 0 } else { x - by }
 }
 
 // Puts the first so many numbers, moved down, at the front of a table, as far as it reaches; none goes below 0.
@@ -168,7 +161,7 @@ pub fn put_subtracted(from: &[u64], count: usize, by: u64, to: &mut [u64])
 {
     let n = count.min(from.len());
     for (i, &x) in from[..n].iter().enumerate() {
-        numbers::store(to, i, less(x, by));
+        numbers::store(to, i, x.saturating_sub(by));
     }
 }
 
@@ -176,19 +169,7 @@ pub fn put_subtracted(from: &[u64], count: usize, by: u64, to: &mut [u64])
 pub fn rows_of(targets: &[u64], queries: &[u64], sizes: &[u64]) -> usize
     ensures { result ≡ rows_of targets.now queries.now sizes.now }
 {
-    let a = targets.len();
-    let b = queries.len();
-    let c = sizes.len();
-    if b < c {
-        if a < b {
-            return a;
-        }
-        return b;
-    }
-    if a < c {
-        return a;
-    }
-    c
+    targets.len().min(queries.len()).min(sizes.len())
 }
 
 // Working room for three lists of a record's blocks.
@@ -207,38 +188,21 @@ pub fn count_fits(count: u64, rows: usize) -> bool
     (1 <= count) & ((count <= ledger::BLOCK_LIMIT) & (count <= rows as u64))
 }
 
-// The sum of two numbers, or the largest number.
-fn add(a: u64, b: u64) -> u64
-    ensures { result ≡ capped (a + b) }
-{
-    if ledger::LARGEST_NUMBER - a < b {
-        return ledger::LARGEST_NUMBER;
-    }
-    a + b
-}
-
 // The sum of the first so many numbers, or the largest number.
 pub fn sum_of(values: &[u64], count: usize) -> u64
     ensures { result ≡ capped (sum_of (take count values.now)) }
 {
-    values.iter().take(count).fold(0, |sum, v| add(sum, *v))
+    values
+        .iter()
+        .take(count)
+        .fold(0, |sum, v| sum.saturating_add(*v))
 }
 
 // The bases between the end of a block and the next start; 0 where they touch or overlap.
 pub fn gap_after(s: u64, z: u64, x: u64) -> u64
     ensures { result ≡ x - (s + z) }
 {
-    if x < s {
-        return 0;
-    }
-    less(x - s, z)
-}
-
-// 1 where there are bases, and 0 where there are none.
-fn one(gap: u64) -> u64
-    ensures { result ≡ min gap 1 }
-{
-    if gap == 0 { 0 } else { 1 }
+    x.saturating_sub(s).saturating_sub(z)
 }
 
 // The nonempty gaps between the first so many blocks.
@@ -253,7 +217,7 @@ pub fn gap_count(starts: &[u64], sizes: &[u64], count: usize) -> u64
     let mut s = starts[0];
     let mut z = sizes[0];
     for (&x, &y) in starts[1..n].iter().zip(&sizes[1..n]) {
-        gaps += one(gap_after(s, z, x));
+        gaps += gap_after(s, z, x).min(1);
         s = x;
         z = y;
     }
@@ -272,7 +236,7 @@ pub fn gap_bases(starts: &[u64], sizes: &[u64], count: usize) -> u64
     let mut s = starts[0];
     let mut z = sizes[0];
     for (&x, &y) in starts[1..n].iter().zip(&sizes[1..n]) {
-        bases = add(bases, gap_after(s, z, x));
+        bases = bases.saturating_add(gap_after(s, z, x));
         s = x;
         z = y;
     }

@@ -5,21 +5,10 @@
 ghost use Rattle.std.specs.Prelude.{◌≡◌, [], ◌∷◌, ◌++◌, ◌+◌, ◌≤◌, leb, length};
 ghost use Rattle.std.proofs.lemmas.List.Edits.{sets};
 ghost use Rattle.writing.specs.Digits.{digits, list_text};
-ghost use Rattle.writing.specs.Puts.{onward, Put};
+ghost use Rattle.writing.specs.Puts.{Put};
 ghost use Rattle.writing.specs.Answers.{room_answer, Wrote};
 
 use ledger::{Reason, Refusal};
-
-// The place so many bytes on, or the largest place.
-fn forward(at: usize, n: usize) -> usize
-    ensures { result ≡ onward at n }
-{
-    if ledger::LARGEST_PLACE - at < n {
-        ledger::LARGEST_PLACE
-    } else {
-        at + n
-    }
-}
 
 // Stores one byte.
 pub fn put_byte(buf: &mut [u8], at: usize, b: u8) -> usize
@@ -29,7 +18,7 @@ pub fn put_byte(buf: &mut [u8], at: usize, b: u8) -> usize
         buf[at] = b;
         return at + 1;
     }
-    forward(at, 1)
+    at.saturating_add(1)
 }
 
 // Stores bytes that there is room for.
@@ -127,7 +116,7 @@ pub fn write_bytes(buf: &mut [u8], bytes: &[u8]) -> Result<usize, Refusal>
 pub fn write_fed(buf: &mut [u8], bytes: &[u8]) -> Result<usize, Refusal>
     ensures { Wrote (bytes.now ++ (10 ∷ [])) buf.old buf.new result }
 {
-    room_for(forward(bytes.len(), 1), buf.len())?;
+    room_for(bytes.len().saturating_add(1), buf.len())?;
     let p = put_bytes(buf, 0, bytes);
     Ok(put_byte(buf, p, b'\n'))
 }

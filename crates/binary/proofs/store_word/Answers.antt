@@ -1,32 +1,8 @@
--- Eight bytes one by one. Assumes nothing.
+-- A copy of the eight bytes over their part of the buffer. Assumes nothing.
+use mathlib.Core.Path.{◌∙◌}
 use native.Mathlib.Omega.{arith}
-use lib.ListN.{length-set}
 use Rattle.binary.proofs.WordLaws.{word_stored}
 use Rattle.binary.proofs.store_word.Goals as goal
 
-pub bounds-buf-at-2 : goal.bounds-buf-at-2
-bounds-buf-at-2 c = simp length-set (omega arith)
-
-pub bounds-buf-at-3 : goal.bounds-buf-at-3
-bounds-buf-at-3 c = simp length-set (omega arith)
-
-pub bounds-buf-at-4 : goal.bounds-buf-at-4
-bounds-buf-at-4 c = simp length-set (omega arith)
-
-pub bounds-buf-at-5 : goal.bounds-buf-at-5
-bounds-buf-at-5 c = simp length-set (omega arith)
-
-pub bounds-buf-at-6 : goal.bounds-buf-at-6
-bounds-buf-at-6 c = simp length-set (omega arith)
-
-pub bounds-buf-at-7 : goal.bounds-buf-at-7
-bounds-buf-at-7 c = simp length-set (omega arith)
-
-pub bounds-buf-at-8 : goal.bounds-buf-at-8
-bounds-buf-at-8 c = simp length-set (omega arith)
-
-pub shape_of-buf : goal.shape_of-buf
-shape_of-buf c = simp length-set
-
 pub returns : goal.returns
-returns c = search word_stored
+returns c = word_stored _ _ _ _ _ c.requires (omega arith) (c.copy_from_slice.ensures.after ∙ c.to_le_bytes.ensures)

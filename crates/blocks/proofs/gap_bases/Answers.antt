@@ -20,7 +20,7 @@ loop-x-init c =
     (search rules, bases_start o.starts.now o.sizes.now o.count _ _ c.min.ensures c.min-n.ensures c.if-n-eq0.false _ _ a b)
 
 pub loop-x-preserved : goal.loop-x-preserved
-loop-x-preserved c = (search rules, bases_more _ _ _ _ _ _ c.loop-x.invariant.1 _ _ _ _ c.in-Some.ensures.steps _ _ c.gap_after.ensures c.add-bases.ensures)
+loop-x-preserved c = (search rules, bases_more _ _ _ _ _ _ c.loop-x.invariant.1 _ _ _ _ c.in-Some.ensures.steps _ _ c.gap_after.ensures c.saturating_add-bases.ensures)
 
 pub returns : goal.returns
 returns c =

@@ -2,6 +2,7 @@
 use borrow.Author.Rules.{rules}
 use mathlib.Core.Path.{◌≡◌}
 use Prim.Native.Nat.{◌-◌}
+use native.Mathlib.Omega.{arith}
 use lib.ListN.{take, drop}
 use Rattle.std.specs.Iterator.Adapters.{zip_first, zip_second}
 use Rattle.std.specs.Slice.Iter.{iter_rest}
@@ -20,7 +21,7 @@ loop-x-init c =
     gaps_start o.starts.now o.sizes.now o.count _ _ c.min.ensures c.min-n.ensures c.if-n-eq0.false _ _ a b
 
 pub loop-x-preserved : goal.loop-x-preserved
-loop-x-preserved c = gaps_more _ _ _ _ _ _ c.loop-x.invariant.1 _ _ _ _ c.in-Some.ensures.steps _ _ _ c.gap_after.ensures c.one-gaps.ensures c.loop-x.invariant.0
+loop-x-preserved c = gaps_more _ _ _ _ _ _ c.loop-x.invariant.1 _ _ _ _ c.in-Some.ensures.steps _ _ _ c.gap_after.ensures (omega arith) c.loop-x.invariant.0
 
 pub returns : goal.returns
 returns c =

@@ -2,4 +2,4 @@
 use Rattle.blocks.proofs.strand_start.Goals as goal
 
 pub returns-in-Minus : goal.returns-in-Minus
-returns-in-Minus c = rw c.in-Minus.is c.less.ensures
+returns-in-Minus c = rw c.in-Minus.is c.saturating_sub.ensures
