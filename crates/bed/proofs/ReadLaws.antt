@@ -8,8 +8,6 @@ use lib.ListN.{length, set, take, drop, length-set}
 use lib.Dec.{eqb}
 use borrow.Author.Tests.{le-leb, lt-leb, lt-ltb, le-ltb, ne_eqb, eq-eqb, eqb-true, eqb-false}
 use Rattle.std.specs.Prelude.{Ok, Err, Result, ⊤}
-use Rattle.std.specs.Result.{MatchResult, IsErrAnd}
-use Rattle.std.proofs.lemmas.Result.{err_from_is_err_and}
 use Rattle.ledger.specs.Strands.{strand_of, strand_is, strand_letter}
 use Rattle.ledger.specs.Parts.{part_at}
 use Rattle.ledger.specs.Refusals.{fault_at, refusal_at, require}

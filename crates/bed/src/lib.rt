@@ -13,7 +13,7 @@ ghost use Rattle.bed.specs.Tests.{if_there, names_fit, is_dot, strand_fits, fiel
 ghost use Rattle.bed.specs.Standard.{Standard};
 ghost use Rattle.bed.specs.Write.{names_show, write_check, bed_text, BedWrote, record_check};
 ghost use Rattle.bed.specs.Read.{thick_fits, thick_place, span_check, block_check};
-ghost use Rattle.bed.specs.Read.{after_spans, after_columns, after_words, after_text, bed_stages, bed_answer, bed_check, BedRead};
+ghost use Rattle.bed.specs.Read.{after_spans, after_columns, after_words, after_text, bed_stages, bed_check, BedRead};
 ghost use Rattle.bed.specs.Steps.{with_default, Counted, Listed, Blocked, is_few, QuickStaged, Stored, RowsStored};
 ghost use Rattle.bed.specs.Steps.{Tidied, bed_values, RowsThere, ListsPut, Writable};
 

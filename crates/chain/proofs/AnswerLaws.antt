@@ -10,8 +10,7 @@ use Rattle.text.specs.Checks.{then_check, room_check}
 use Rattle.blocks.specs.Readers.{then_room}
 use Rattle.chain.specs.declared.Chain.{Chain}
 use Rattle.chain.specs.Read.{chain_stages, chain_answer, chain_check, on_reading, on_answer, chain_roomed, chain_read}
-use Rattle.std.specs.Prelude.{Ok, Err, Result, ⊤, MatchResult, IsErrAnd}
-use Rattle.std.proofs.lemmas.Result.{err_from_is_err_and}
+use Rattle.std.specs.Prelude.{Ok, Err, Result, ⊤}
 
 -- a fault is no record
 pub read_apart : (r : Chain) (x : Fault) → Err x ≡ Ok r → ⊥

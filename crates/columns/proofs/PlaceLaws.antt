@@ -16,7 +16,6 @@ use Rattle.columns.specs.Places.{kind_at, count_before, base_before}
 use Rattle.columns.proofs.SpellsLaws.{word_later}
 use Rattle.std.specs.Prelude.{Ok, Err, Result}
 use Rattle.ledger.specs.declared.Fault.{Fault}
-use Rattle.ledger.specs.Refusals.{fault_at}
 
 -- the count before a column does not look at values before the first
 count_later : (cs : List Kind) (n v : ℕ) (vs : List ℕ) (j k : ℕ) → count_before cs n (v ∷ vs) (suc j) k ≡ count_before cs n vs j k

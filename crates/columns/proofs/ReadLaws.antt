@@ -1,13 +1,12 @@
 -- What each step of reading a line by its table shows, on plain values. Assumes nothing.
 use mathlib.Core.Path.{◌≡◌, refl, sym, ap, ◌∙◌}
 use mathlib.Core.Bool.{Bool, true, false}
-use mathlib.Core.List.{List, map}
+use mathlib.Core.List.{List}
 use Prim.Native.Nat.{ℕ, suc, ◌+◌, ◌-◌, ◌*◌, ◌≤◌, ◌<◌, min}
 use native.Mathlib.Omega.{arith}
 use native.Mathlib.Numerals.{add-one}
 use lib.ListN.{length, set, get_or, take, drop, length-take, drop_of_length-le}
 use lib.Seq.{sets, drop-cons, take_all}
-use Rattle.ledger.specs.declared.Reason.{Reason}
 use Rattle.ledger.specs.declared.Fault.{Fault}
 use Rattle.text.specs.declared.Extent.{Extent}
 use Rattle.text.specs.Words.{next_word, bytes_of}
@@ -17,7 +16,6 @@ use Rattle.kinds.specs.declared.Kind.TheVariants.{Name}
 use Rattle.kinds.specs.Kinds.{spelt, items_in, count_after, is_list, base_by, base_after, Spelled}
 use Rattle.columns.specs.Columns.{column_limit, table_of, field_of, field_from, columns_from, values_from, lists_by, lists_from, FieldRead, ColumnsWalked, ColumnsRead}
 use Rattle.std.specs.Prelude.{Ok, Err, Result}
-use Rattle.ledger.specs.Refusals.{fault_at}
 
 pub pair_stored : (b b₁ b₂ : List ℕ) (i j v p : ℕ) → b₁ ≡ set b i v → b₂ ≡ set b₁ j p → b₂ ≡ set (set b i v) j p
 pair_stored b b₁ b₂ i j v p e f = rw (f, e)

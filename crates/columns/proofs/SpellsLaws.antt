@@ -15,7 +15,6 @@ use Rattle.columns.specs.Spells.{Spells, firsts, seconds}
 use Rattle.columns.proofs.Meant.{Meant, meant_none, meant_more, lists_in, meant_spells, spells_meant}
 use Rattle.std.specs.Prelude.{Ok, Err, Result}
 use Rattle.ledger.specs.declared.Fault.{Fault}
-use Rattle.ledger.specs.Refusals.{fault_at}
 
 -- the first of at least one word is there
 pub first_there : (s : List ℕ) (at n : ℕ) → suc n ≤ word_count s at → (next_word s at).start < (next_word s at).end

@@ -1,6 +1,6 @@
 -- What reading a line by the first n columns of a table gives. Assumes nothing.
 use mathlib.Core.Path.{◌≡◌, sym, ◌∙◌}
-use mathlib.Core.List.{List, map}
+use mathlib.Core.List.{List}
 use Prim.Native.Nat.{ℕ, ◌*◌, ◌≤◌}
 use native.Mathlib.Omega.{arith}
 use lib.ListN.{length, replicate, get_or, take, length-take, length-replicate}
@@ -8,7 +8,7 @@ use lib.Seq.{sets, take_all}
 use Rattle.kinds.specs.declared.Kind.{Kind}
 use Rattle.columns.specs.Columns.{column_limit, table_of, columns_from, values_from, lists_from, ColumnsWalked}
 use Rattle.columns.proofs.PlaceLaws.{values_length}
-use Rattle.columns.proofs.WordLaws.{map_take, stored_at, zeros}
+use Rattle.columns.proofs.WordLaws.{stored_at, zeros}
 use Rattle.std.specs.Prelude.{Ok, Result}
 use Rattle.ledger.specs.declared.Fault.{Fault}
 

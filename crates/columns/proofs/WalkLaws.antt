@@ -1,6 +1,5 @@
 -- What a walk over columns passes: as many words as there are columns, and no line feed. Assumes nothing.
 use mathlib.Core.Path.{◌≡◌, refl, sym, ap, ◌∙◌}
-use mathlib.Core.Bool.{true, false}
 use mathlib.Core.List.{List, [], ◌∷◌}
 use Prim.Native.Nat.{ℕ, ◌+◌, ◌-◌, ◌<◌}
 use native.Mathlib.Omega.{arith}
@@ -24,7 +23,6 @@ use Rattle.columns.specs.Columns.{field_from, then_columns, columns_from, values
 use Rattle.std.specs.Prelude.{Ok, Err, Result, Some, Option}
 use Rattle.std.specs.Result.{result_ok}
 use Rattle.ledger.specs.declared.Fault.{Fault}
-use Rattle.ledger.specs.Refusals.{fault_at}
 
 -- a word of no bytes spells nothing
 no_value : (k : Kind) (n v : ℕ) → spelt k n [] ≡ Ok v → ◌≡◌ {A = ℕ} 0 1

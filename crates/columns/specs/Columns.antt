@@ -1,5 +1,5 @@
 -- A line read by its table of columns.
-use Rattle.std.specs.Prelude.{ℕ, ◌+◌, ◌*◌, ◌≤◌, ◌≡◌, Bool, true, ◌||◌, List, [], ◌∷◌, length, take, get_or, leb, eqb, Ok, Err, Result, Option, Some}
+use Rattle.std.specs.Prelude.{ℕ, ◌+◌, ◌*◌, ◌≤◌, ◌≡◌, Bool, ◌||◌, List, [], ◌∷◌, length, take, get_or, leb, eqb, Ok, Err, Result, Option, Some}
 use Rattle.std.proofs.lemmas.List.Edits.{sets}
 use Rattle.ledger.specs.declared.Fault.{Fault}
 use Rattle.ledger.specs.Limits.{block_limit}
@@ -11,7 +11,6 @@ use Rattle.numbers.specs.declared.Taken.{Taken}
 use Rattle.kinds.specs.declared.Kind.{Kind}
 use Rattle.columns.specs.declared.Quick.{Quick}
 use Rattle.kinds.specs.Kinds.{spelt, items_in, count_after, base_by}
-use Rattle.ledger.specs.Refusals.{fault_at}
 
 -- a table has at most so many columns; what stands past them is not read
 abbrev pub column_limit : ℕ

@@ -1,7 +1,7 @@
 // A line by its table of columns: one loop reads a line by any table, and one writes it.
 #![tactic(auto)]
 
-ghost use Rattle.std.specs.Prelude.{◌≡◌, ◌+◌, ◌*◌, ◌≤◌, min, map, length, set, get_or, Err};
+ghost use Rattle.std.specs.Prelude.{◌≡◌, ◌+◌, ◌*◌, ◌≤◌, min, length, set, get_or, Err};
 ghost use Rattle.ledger.specs.Limits.{name_limit, block_limit};
 ghost use Rattle.text.specs.declared.Class.TheVariants.{Blank};
 ghost use Rattle.text.specs.Scan.{end_of};
@@ -14,7 +14,7 @@ ghost use Rattle.kinds.specs.Kinds.{spelt, items_in, base_by, base_after, Spelle
 ghost use Rattle.columns.specs.Columns.{column_limit, table_of, value_of, place_of, FieldRead, FieldTaken, ColumnsWalked, ColumnsRead, few_blocks, is_line_end, WordTaken, QuickWalked};
 ghost use Rattle.columns.specs.OneLine.{count_check, WordsWalked, LineWalked};
 ghost use Rattle.columns.specs.Names.{names_in, length_fits, all_graphic};
-ghost use Rattle.columns.specs.Lines.{gap_of, line_from, line_text, fed_line};
+ghost use Rattle.columns.specs.Lines.{gap_of, line_text, fed_line};
 
 use kinds::{Kind, Range};
 use ledger::{Fault, Reason, Refusal};

@@ -17,7 +17,6 @@ use Rattle.kinds.specs.declared.Kind.TheVariants.{Name, Number, Count, Items, St
 use Rattle.kinds.specs.Kinds.{least_of, most_of, is_strand, same_bytes, packed, colour_of, whole_of, name_of, strand_of, spelt, items_in}
 use Rattle.std.specs.Prelude.{Ok, Err, Result}
 use Rattle.ledger.specs.declared.Fault.{Fault}
-use Rattle.ledger.specs.Refusals.{fault_at}
 
 -- a number, and a count
 pub number_spelt : (r : Range) (n : ℕ) (w : List ℕ) (v : ℕ) → spelt (Number r) n w ≡ Ok v → (least_of r ≤ v) × (v ≤ most_of r)

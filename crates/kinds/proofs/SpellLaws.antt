@@ -10,7 +10,6 @@ use borrow.Rule.Slice.PartMut.{put_mid}
 use lib.Pointwise.{pointwise}
 use lib.Dec.{eqb, leb}
 use Rattle.ledger.specs.Limits.{name_limit, colour_limit}
-use Rattle.ledger.specs.declared.Reason.{Reason}
 use Rattle.ledger.specs.declared.Reason.TheVariants.{BadWord}
 use Rattle.text.proofs.Laws.{either}
 use Rattle.numbers.specs.Spelling.{fault_in}

@@ -27,7 +27,6 @@ use Rattle.kinds.proofs.BackLaws.{most_small}
 use Rattle.kinds.proofs.DecimalLaws.{number_as, as_number, list_read, not_open, numbers_in_lem, numbers_count, numbers_word, list_as, as_shut, as_list}
 use Rattle.std.specs.Prelude.{Ok, Err, Result}
 use Rattle.ledger.specs.declared.Fault.{Fault}
-use Rattle.ledger.specs.Refusals.{fault_at}
 
 -- a word that is good as a whole
 whole_as : (t : Bool) (u v : ℕ) → whole_of t u ≡ Ok v → (t ≡ true) × (u ≡ v)

@@ -1,7 +1,7 @@
 // The kinds of column: what a word of a kind spells, and how it is written.
 #![tactic(auto)]
 
-ghost use Rattle.std.specs.Prelude.{◌≡◌, true, suc, ◌+◌, ◌*◌, ◌%◌, ◌≤◌, min, [], ◌∷◌, map, length, set, get_or, take, drop};
+ghost use Rattle.std.specs.Prelude.{◌≡◌, true, suc, ◌+◌, ◌*◌, ◌%◌, ◌≤◌, min, [], ◌∷◌, get_or, take, drop};
 ghost use Rattle.ledger.specs.Limits.{colour_limit};
 ghost use Rattle.numbers.specs.Lists.{items_of, good_values, list_of};
 ghost use Rattle.numbers.specs.Numbers.{number_of};

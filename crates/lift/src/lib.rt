@@ -6,7 +6,7 @@ ghost use Rattle.ledger.specs.Limits.{largest_position};
 ghost use Rattle.blocks.specs.Rows.{table_of};
 ghost use Rattle.chain.specs.Records.{chain_rows};
 ghost use Rattle.lift.specs.Accepted.{accepted, Ready};
-ghost use Rattle.lift.specs.Conversion.{not_converted, other_strand, converted};
+ghost use Rattle.lift.specs.Conversion.{not_converted, converted};
 ghost use Rattle.lift.specs.Pairs.{forward_on, pairs, partner_of, InBlock};
 ghost use Rattle.lift.specs.Positions.{not_lifted, lift_position};
 ghost use Rattle.lift.specs.Texts.{text_position, ChainHeld};

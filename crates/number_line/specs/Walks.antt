@@ -1,5 +1,5 @@
 -- What the steps of reading promise, inside the crate: the walk over the words, and the quick way through a plain line.
-use Rattle.std.specs.Prelude.{ℕ, ◌-◌, ◌≤◌, ◌≡◌, Bool, true, ◌||◌, cond, List, length, take, get_or, leb, eqb, Ok, Err, Result, Option, Some}
+use Rattle.std.specs.Prelude.{ℕ, ◌-◌, ◌≤◌, ◌≡◌, Bool, ◌||◌, cond, List, length, take, get_or, leb, eqb, Ok, Err, Result, Option, Some}
 use Rattle.std.proofs.lemmas.List.Edits.{sets}
 use Rattle.ledger.specs.declared.Fault.{Fault}
 use Rattle.text.specs.declared.Class.TheVariants.{Blank, Line, Allowed}

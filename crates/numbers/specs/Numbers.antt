@@ -1,5 +1,5 @@
 -- A number: digits only, no leading zero but in `0` itself, within a least and a greatest value.
-use Rattle.std.specs.Prelude.{ℕ, ◌+◌, ◌-◌, ◌*◌, ◌≤◌, ◌<◌, min, max, ◌≡◌, Bool, true, not, ◌&&◌, ◌||◌, List, [], ◌∷◌, length, get_or, take, drop, leb, eqb, Ok, Err, Result, Option, Some}
+use Rattle.std.specs.Prelude.{ℕ, ◌+◌, ◌-◌, ◌*◌, ◌≤◌, ◌<◌, min, max, ◌≡◌, Bool, not, ◌&&◌, ◌||◌, List, [], ◌∷◌, length, get_or, take, drop, leb, eqb, Ok, Err, Result, Option, Some}
 use Rattle.ledger.specs.declared.Reason.TheVariants.{NumberMisspelt, NumberOutOfRange}
 use Rattle.text.specs.declared.Class.TheVariants.{Digit, Word}
 use Rattle.text.specs.Scan.{is_in, end_of}

@@ -1,7 +1,6 @@
 -- What a word spells: a value, or a fault with its place in the word.
 use Rattle.std.specs.Prelude.{ℕ, Ok, Err, Result}
 use Rattle.ledger.specs.declared.Fault.{Fault}
-use Rattle.ledger.specs.Refusals.{fault_at}
 
 -- where in the word a fault stands
 abbrev pub fault_in : Result ℕ Fault → ℕ

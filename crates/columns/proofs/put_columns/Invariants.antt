@@ -1,6 +1,5 @@
 -- Whatever stores the columns from here on completes the line. Assumes nothing.
 use Prim.Native.Nat.{◌*◌, ◌≤◌}
-use mathlib.Core.List.{map}
 use lib.ListN.{length}
 use Rattle.ledger.specs.Limits.{block_limit, largest_place}
 use Rattle.writing.proofs.PutLaws.{Completes}

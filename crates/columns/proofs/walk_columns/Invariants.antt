@@ -1,7 +1,6 @@
 -- The columns from here on, and what they store, give what the whole table gives. Assumes nothing.
 use Prim.Native.Nat.{◌*◌, ◌≤◌}
 use mathlib.Core.Path.{◌≡◌}
-use mathlib.Core.List.{map}
 use lib.ListN.{drop}
 use lib.Seq.{sets}
 use Rattle.ledger.specs.Limits.{block_limit}
