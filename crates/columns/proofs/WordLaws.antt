@@ -2,7 +2,7 @@
 -- stored in a table of zeros. Assumes nothing.
 use mathlib.Core.Path.{◌≡◌, refl, sym, ap, ◌∙◌}
 use mathlib.Core.Bool.{Bool, true, false, ◌&&◌, ◌||◌}
-use mathlib.Core.List.{List, [], ◌∷◌, ◌++◌, map}
+use mathlib.Core.List.{List, [], ◌∷◌, ◌++◌}
 use Prim.Native.Nat.{ℕ, zero, suc, ◌+◌, ◌-◌, ◌≤◌, ◌%◌}
 use native.Mathlib.Omega.{arith}
 use lib.ListN.{length, take, drop, get_or, replicate, length-take, get_or-append, get_or-eq_default}
@@ -102,12 +102,6 @@ row_spells (row_more f t) = meant_more f.back (row_spells t)
 pub row_worded : {n : ℕ} {cs : List Kind} {ws : List (List ℕ)} {vs : List ℕ} → Row cs n ws vs → Worded ws
 row_worded row_none = worded_none
 row_worded (row_more {w = w} f t) = worded_more w f.some f.shows (row_worded t)
-
--- ---- lists
-pub map_take : (f : ℕ → Kind) (n : ℕ) (xs : List ℕ) → map f (take n xs) ≡ take n (map f xs)
-map_take f zero xs = refl
-map_take f (suc n) [] = refl
-map_take f (suc n) (x ∷ xs) = ap (λ (l : List Kind). f x ∷ l) (map_take f n xs)
 
 pub zeros : (m i : ℕ) → ◌≡◌ {A = ℕ} (get_or {A = ℕ} (replicate m 0) i 0) 0
 zeros zero i = refl
