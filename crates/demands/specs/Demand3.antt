@@ -41,7 +41,7 @@ Inside c a e = (a < e) × (e ≤ c.tSize)
 
 -- a position inside the target sequence lifts exactly when it stands in a pair, and then to its partner
 pub record Positions (c : Chain) (rows : List Row) : Type 0 where
-  pub lifts_exactly : (p q : ℕ) → (lift_position c rows p ≡ Ok (q, (pos q -ℤ pos p))) ↔ InPair c rows p q
+  pub lifts_exactly : (p q : ℕ) → (lift_position c rows p ≡ Ok (q, pos q -ℤ pos p)) ↔ InPair c rows p q
   pub one_partner : (p q q' : ℕ) → InPair c rows p q → InPair c rows p q' → q ≡ q'
   pub both_inside : (p q : ℕ) → InPair c rows p q → (p < c.tSize) × (q < c.qSize)
   -- what counts as kept is what stands in a pair
@@ -84,7 +84,7 @@ pub record Turns (c : Chain) (rows : List Row) (d : Chain) (rows' : List Row) : 
   -- with `-` both spans are converted, so that the new target is `+`
   pub query_converted : c.qStrand ≡ Minus → converted c.qStart c.qEnd c.qSize ≡ Ok (record { start = d.tStart; end = d.tEnd })
   pub target_converted : c.qStrand ≡ Minus → converted c.tStart c.tEnd c.tSize ≡ Ok (record { start = d.qStart; end = d.qEnd })
-  pub lifts_back : (p q : ℕ) → lift_position c rows p ≡ Ok (q, (pos q -ℤ pos p)) → lift_position d rows' q ≡ Ok (p, (pos p -ℤ pos q))
+  pub lifts_back : (p q : ℕ) → lift_position c rows p ≡ Ok (q, pos q -ℤ pos p) → lift_position d rows' q ≡ Ok (p, pos p -ℤ pos q)
   pub restored : (before after : List Row) (x : Result Chain Refusal) → RowsTurned d rows' before after x → c.blockCount ≤ length before
       → (x ≡ Ok c) × (after ≡ used c rows ++ drop c.blockCount before)
 
