@@ -11,6 +11,8 @@ mod chains;
 mod drifts;
 mod tallies;
 
+use chain::Chain;
+use ledger::Refusal;
 use std::io;
 use std::io::Write;
 
