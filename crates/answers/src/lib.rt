@@ -75,8 +75,7 @@ pub fn answer_without_text(vs: &[u64], out: &mut [u8]) -> u64
 fn first_rows(n: usize, targets: &[u64], queries: &[u64], sizes: &[u64]) -> usize
     ensures { result ≡ min n (rows_of targets.now queries.now sizes.now) }
 {
-    let rows = blocks::rows_of(targets, queries, sizes);
-    if n < rows { n } else { rows }
+    n.min(blocks::rows_of(targets, queries, sizes))
 }
 
 // Whether a record of so many numbers and rows fits into so many bytes.

@@ -43,7 +43,7 @@ fn store_words(buf: &mut [u8], at: usize, vs: &[u64])
 }
 
 // Whether so many bytes have room for so many words from a place on.
-// kept: words are counted by a quotient, since their bytes need not fit a place, which the room of `writing` takes.
+// Words are counted by a quotient: their bytes may be more than a place can hold, so `writing`'s `has_room` won't do.
 fn has_room(n: usize, at: usize, words: usize) -> bool
     ensures { result ≡ leb (at + word_size * words) n }
 {

@@ -99,9 +99,8 @@ pub fn span_fits(start: u64, end: u64, size: u64) -> bool
 pub fn copy_numbers(from: &[u64], count: usize, to: &mut [u64])
     ensures { to.new ≡ sets to.old 0 (take count from.now) }
 {
-    let n = count.min(from.len());
-    let m = n.min(to.len());
-    to[..m].copy_from_slice(&from[..m]);
+    let n = count.min(from.len()).min(to.len());
+    to[..n].copy_from_slice(&from[..n]);
 }
 
 // Puts the sums of the earlier sizes at the front of a table, as far as it reaches, for the first so many sizes. A sum that 64
@@ -209,7 +208,7 @@ pub fn gap_after(s: u64, z: u64, x: u64) -> u64
 pub fn gap_count(starts: &[u64], sizes: &[u64], count: usize) -> u64
     ensures { result ≡ gap_count (take count starts.now) (take count sizes.now) }
 {
-    let n = (count.min(sizes.len())).min(starts.len());
+    let n = count.min(sizes.len()).min(starts.len());
     if n == 0 {
         return 0;
     }
@@ -228,7 +227,7 @@ pub fn gap_count(starts: &[u64], sizes: &[u64], count: usize) -> u64
 pub fn gap_bases(starts: &[u64], sizes: &[u64], count: usize) -> u64
     ensures { result ≡ capped (gap_bases (take count starts.now) (take count sizes.now)) }
 {
-    let n = (count.min(sizes.len())).min(starts.len());
+    let n = count.min(sizes.len()).min(starts.len());
     if n == 0 {
         return 0;
     }

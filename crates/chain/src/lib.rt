@@ -465,7 +465,7 @@ pub struct Head {
     pub end: usize,
 }
 
-// The words of the columns stand at w0 to w12.
+// The header in one pass; its words stand at w0 to w12.
 fn quick_head(text: &[u8]) -> Option<Head>
     ensures { HeadTaken text.now result }
 {

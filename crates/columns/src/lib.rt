@@ -432,7 +432,7 @@ fn quick_columns(
     })
 }
 
-// THE QUICK WAY through a line by a table of columns, of which the last may be left out: it may say yes, and then all of its words
+// THE QUICK WAY through a line by a table of columns, of which the last may be left out: it may answer, and then all of its words
 // are good. For a caller's own working room, lists of few numbers.
 pub fn quick_words(
     text: &[u8],

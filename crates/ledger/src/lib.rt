@@ -97,7 +97,7 @@ impl Reason {
     }
 }
 
-// What is wrong with a text, inside the library: why, and the byte offset.
+// What is wrong with a text, or with a word of one, inside the library: why, and the byte offset in it.
 #[derive(Clone, Copy)]
 pub struct Fault {
     pub reason: Reason,
@@ -105,7 +105,7 @@ pub struct Fault {
 }
 
 // What a caller is told: why, and the place: a byte offset in the text, 0 for a call without a text. Made in the
-// outermost functions alone, and only by the two functions below: `?` takes the one that is made of a fault.
+// outermost functions alone, and only by the two functions below; `?` calls `from`, which makes one of a fault.
 #[derive(Clone, Copy)]
 pub struct Refusal {
     pub reason: Reason,

@@ -39,7 +39,7 @@ pub record Plain (line room : List ℕ) (n : ℕ) : Type 0 where
   pub count : length (words_of line) ≡ n
   pub values : good_in line ≡ take n room
 
--- the quick way through a line: where it counts numbers, the line is plain; else the walk decides
+-- the quick way through a line: where it answers, the line is plain; else the walk decides
 pub record QuickRead (line room : List ℕ) (r : Option ℕ) : Type 0 where
   pub plain : (n : ℕ) → r ≡ Some n → Plain line room n
   pub few : (n : ℕ) → r ≡ Some n → n ≤ length room

@@ -96,7 +96,7 @@ fn is_gap(line: &[u8], i: usize) -> bool
     text::is_in(Class::Blank, line[i])
 }
 
-// The quick way: numbers parted by single blanks, in one pass; how many there are. Where none are counted, the line has to be
+// The quick way: numbers parted by single blanks, in one pass; how many there are. Where it answers `None`, the line has to be
 // read with more care.
 fn quick_line(line: &[u8], room: &mut [u64]) -> Option<usize>
     ensures { QuickRead line.now room.new result }

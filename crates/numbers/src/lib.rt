@@ -166,7 +166,7 @@ fn read_long(word: &[u8], least: u64, most: u64) -> Result<u64, Fault>
     Ok(acc)
 }
 
-// The number that a word spells, from a least to a greatest value. A word of any length is told apart: misspelt, or out of range.
+// The number that a word spells, from a least to a greatest value; a fault's place counts from the word's first byte. A word of any length is told apart: misspelt, or out of range.
 pub fn read_number(word: &[u8], least: u64, most: u64) -> Result<u64, Fault>
     ensures { NumberRead least most word.now result }
 {
@@ -283,8 +283,7 @@ pub fn store_items(word: &[u8], least: u64, most: u64, out: &mut [u64]) -> Resul
     let mut n = 0;
     while i < word.len() {
         let x = read_item(word, i, least, most);
-        let spelt = x.spelt;
-        match spelt {
+        match x.spelt {
             Ok(v) => {
                 store(out, n, v);
             }

@@ -179,7 +179,7 @@ module _ (c : Chain) (rows : List Row) (ok : accepted c rows ≡ true) where
         go Dot e = absurd (rules.stranded e)
 
     -- A PARTNER LIFTS BACK to the position
-    pub lifts_back : (p q : ℕ) (d : ℤ) → lift_position c rows p ≡ Ok (q, d) → lift_position (turned c) rows' q ≡ Ok (p, (pos p -ℤ pos q))
+    pub lifts_back : (p q : ℕ) (d : ℤ) → lift_position c rows p ≡ Ok (q, d) → lift_position (turned c) rows' q ≡ Ok (p, pos p -ℤ pos q)
     lifts_back p q d e = lifts (turned c) rows' turned_accepted q p (exchanged p q (lifted_lem c rows ok p q d e).0)
 
 -- ---- from the function's promise
@@ -233,7 +233,7 @@ pub record Turning (c : Chain) (rows : List Row) (d : Chain) (rows' : List Row) 
   pub pairs_minus : c.qStrand ≡ Minus → pairs d rows' ≡ reverse (map swap_pair (pairs c rows))
   pub query_converted : c.qStrand ≡ Minus → converted c.qStart c.qEnd c.qSize ≡ Ok (record { start = d.tStart; end = d.tEnd })
   pub target_converted : c.qStrand ≡ Minus → converted c.tStart c.tEnd c.tSize ≡ Ok (record { start = d.qStart; end = d.qEnd })
-  pub lifts_back : (p q : ℕ) (z : ℤ) → lift_position c rows p ≡ Ok (q, z) → lift_position d rows' q ≡ Ok (p, (pos p -ℤ pos q))
+  pub lifts_back : (p q : ℕ) (z : ℤ) → lift_position c rows p ≡ Ok (q, z) → lift_position d rows' q ≡ Ok (p, pos p -ℤ pos q)
   pub restored : turned d ≡ c
   pub restored_rows : turned_rows d rows' ≡ used c rows
 

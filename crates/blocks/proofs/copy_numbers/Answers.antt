@@ -4,4 +4,4 @@ use Rattle.blocks.proofs.BlockLaws.{copied}
 use Rattle.blocks.proofs.copy_numbers.Goals as goal
 
 pub returns : goal.returns
-returns c = copied c.args.from.now c.args.count _ _ c.args.to.now _ c.min-n.ensures c.min-m.ensures (search rules)
+returns c = copied c.args.from.now c.args.count _ _ c.args.to.now _ c.min.ensures c.min-n.ensures (search rules)
