@@ -64,6 +64,7 @@ fn read_field(
 }
 
 // The word at or after a place, read as a column that is no list.
+#[inline]
 pub fn take_field(kind: Kind, text: &[u8], at: usize) -> Option<(u64, Extent)>
     ensures { FieldTaken kind text.now at result }
 {
@@ -71,7 +72,8 @@ pub fn take_field(kind: Kind, text: &[u8], at: usize) -> Option<(u64, Extent)>
 }
 
 // The same of a number, in one pass over its digits. Where none is taken, the word may be one that has to be read with more
-// care.
+// care. A header takes most of its columns so, one after the other.
+#[inline(always)]
 pub fn take_number(range: Range, text: &[u8], at: usize) -> Option<(u64, Extent)>
     ensures { FieldTaken (Number range) text.now at result }
 {
