@@ -1,8 +1,8 @@
 #!/usr/bin/env python3
 """What the design pass changed in words: python3 tools/design_list.py > docs/DESIGN-PASS-LIST.md
 
-Old and new side by side, of the commit in the first line of docs/DESIGN-PASS.md and of the work tree: each function's signature
-and clauses, each definition of specs/, and each law of proofs/ that README or docs/ name."""
+Old and new side by side, of the commit in the first line of docs/DESIGN-PASS.md and of the work tree: each function's
+signature and clauses, each definition of specs/, and each law of proofs/ that README or docs/ name."""
 import os
 import re
 import subprocess
@@ -10,6 +10,7 @@ import textwrap
 
 ROOT = os.path.dirname(os.path.dirname(os.path.abspath(__file__)))
 WIDTH = 116
+HEAD = r"^impl(?:<[^>]*>)? ([^{]+) \{|^(\s*)((?:pub(?:\(crate\))? )?(?:extern \"C\" )?fn \w+)|^\}"
 
 
 def git(*args):
@@ -47,7 +48,7 @@ def functions(files):
     for path, text in files:
         crate = path.split("/")[1]
         owner = ""
-        for m in re.finditer(r"^impl(?:<[^>]*>)? ([^{]+) \{|^(\s*)((?:pub(?:\(crate\))? )?(?:extern \"C\" )?fn \w+)|^\}", text, re.M):
+        for m in re.finditer(HEAD, text, re.M):
             if m.group(1):
                 owner = m.group(1).split(" for ")[-1].strip() + "::"
             elif m.group(0) == "}":
@@ -105,7 +106,8 @@ def section(title, old, new):
     gone = [k for k in sorted(old) if k not in new]
     come = [k for k in sorted(new) if k not in old]
     print(f"\n## {title}\n")
-    print(f"The same {sum(1 for k in old if new.get(k) == old[k])}, changed {len(both)}, gone {len(gone)}, new {len(come)}.\n")
+    same = sum(1 for k in old if new.get(k) == old[k])
+    print(f"The same {same}, changed {len(both)}, gone {len(gone)}, new {len(come)}.\n")
     print("```diff")
     for k in both:
         print(f"@ {k[0]}::{k[1]}")
@@ -130,9 +132,11 @@ def main():
             with open(os.path.join(ROOT, name)) as f:
                 docs += f.read()
     named = set(re.findall(r"`([\w']+)`", docs))
-    section("Signatures and clauses", functions(files_at(commit, "src", ".rt")), functions(files_now("src", ".rt")))
-    section("Definitions of specs/", definitions(files_at(commit, "specs", ".antt")), definitions(files_now("specs", ".antt")))
-    section("Laws of proofs/ that the documents name", laws(files_at(commit, "proofs", ".antt"), named), laws(files_now("proofs", ".antt"), named))
+    then, now = (lambda part, end: files_at(commit, part, end)), files_now
+    section("Signatures and clauses", functions(then("src", ".rt")), functions(now("src", ".rt")))
+    section("Definitions of specs/", definitions(then("specs", ".antt")), definitions(now("specs", ".antt")))
+    said = (laws(then("proofs", ".antt"), named), laws(now("proofs", ".antt"), named))
+    section("Laws of proofs/ that the documents name", *said)
 
 
 main()
