@@ -97,22 +97,22 @@ fn is_gap(line: &[u8], i: usize) -> bool
 }
 
 // The quick way: numbers parted by single blanks, in one pass; how many there are. Where it answers `None`, the line has to be
-// read with more care.
+// read with more care. The room is tested before a number is read: the test costs less there than after that of the gap.
 fn quick_line(line: &[u8], room: &mut [u64]) -> Option<usize>
     ensures { QuickRead line.now room.new result }
 {
     let mut at = 0;
     let mut n = 0;
     while at < line.len() {
+        if room.len() <= n {
+            return None;
+        }
         let d = numbers::digits_at(line, at, DIGITS);
         let end = d.end;
         if !numbers::leads(end - at, line[at]) {
             return None;
         }
         if !is_gap(line, end) {
-            return None;
-        }
-        if room.len() <= n {
             return None;
         }
         room[n] = d.value;

@@ -2,15 +2,40 @@
 use mathlib.Core.Path.{◌≡◌, refl, sym, ◌∙◌}
 use mathlib.Core.Bool.{Bool, true, false}
 use mathlib.Core.List.{List, append_assoc}
-use Prim.Native.Nat.{ℕ, ◌+◌, ◌-◌, ◌≤◌, ◌<◌}
+use Prim.Native.Nat.{ℕ, suc, ◌+◌, ◌-◌, ◌≤◌, ◌<◌}
 use native.Mathlib.Omega.{arith}
+use native.Mathlib.Numerals.{add-one}
 use lib.Dec.{leb}
-use lib.ListN.{length}
-use lib.Seq.{sets, sets-eq, drop-drop}
+use lib.ListN.{length, get_or, set, drop, length-set, drop_of_length-le}
+use lib.Seq.{sets, sets-eq, drop-cons, drop-drop}
 use borrow.Rule.Slice.PartMut.{put_mid}
 use borrow.Author.Tests.{leb-true, leb-false, le-leb, lt-leb}
 use Rattle.ledger.specs.Limits.{largest_place}
 use Rattle.writing.specs.Puts.{Put}
+
+-- what the loop keeps: storing the bytes that are left makes the whole
+pub record Storing (bs : List ℕ) (at : ℕ) (b₀ : List ℕ) (i : ℕ) (b : List ℕ) : Type 0 where
+  pub few : i ≤ length bs
+  pub long : length b ≡ length b₀
+  pub rest : sets b (at + i) (drop i bs) ≡ sets b₀ at bs
+
+pub storing_starts : (bs : List ℕ) (at : ℕ) (b : List ℕ) → Storing bs at b 0 b
+storing_starts bs at b =
+    let z : at + 0 ≡ at = omega arith in
+    record { few = omega arith; long = refl; rest = rw z }
+
+module _ (bs : List ℕ) (at : ℕ) (b₀ : List ℕ) (i : ℕ) (b : List ℕ) (s : Storing bs at b₀ i b) where
+  pub storing_step : (b₁ : List ℕ) → i < length bs → b₁ ≡ set b (at + i) (get_or bs i 0) → Storing bs at b₀ (i + 1) b₁
+  storing_step b₁ h e =
+      let n : at + (i + 1) ≡ suc (at + i) = omega arith in
+      record {
+        few = omega arith;
+        long = rw e (length-set b (at + i) (get_or bs i 0) ∙ s.long);
+        rest = rw (n, add-one i, e) (rw (drop-cons bs i 0 h) at s.rest);
+      }
+
+  pub storing_ends : length bs ≤ i → b ≡ sets b₀ at bs
+  storing_ends h = rw (drop_of_length-le bs h) at s.rest
 
 -- a copy over the part of the buffer from a place on
 pub store_copied : (bs : List ℕ) (at k : ℕ) (b ys : List ℕ) → at + length bs ≤ length b → k ≡ length bs → ys ≡ bs → put_mid at k b ys ≡ sets b at bs

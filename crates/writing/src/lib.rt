@@ -21,12 +21,14 @@ pub fn put_byte(buf: &mut [u8], at: usize, b: u8) -> usize
     at.saturating_add(1)
 }
 
-// Stores bytes that there is room for.
+// Stores bytes that there is room for. By a loop: a copy of slices would have programs that link the archive supply `memmove`.
 fn store_bytes(buf: &mut [u8], at: usize, bytes: &[u8])
     requires { at + length bytes.now ≤ length buf.old }
     ensures { buf.new ≡ sets buf.old at bytes.now }
 {
-    buf[at..at + bytes.len()].copy_from_slice(bytes);
+    for (i, b) in bytes.iter().enumerate() {
+        buf[at + i] = *b;
+    }
 }
 
 // Stores bytes one by one, as far as the buffer reaches.

@@ -1,7 +1,12 @@
--- A copy over the part of the buffer that the bytes take. Assumes nothing.
-use native.Mathlib.Omega.{arith}
-use Rattle.writing.proofs.StoreLaws.{store_copied}
+-- Storing the bytes that are left makes the whole. Assumes nothing.
+use Rattle.writing.proofs.StoreLaws.{storing_starts, storing_step, storing_ends}
 use Rattle.writing.proofs.store_bytes.Goals as goal
 
+pub loop-i-init : goal.loop-i-init
+loop-i-init c = search storing_starts
+
+pub loop-i-preserved : goal.loop-i-preserved
+loop-i-preserved c = search storing_step
+
 pub returns : goal.returns
-returns c = store_copied _ _ _ _ _ c.requires (omega arith) c.copy_from_slice.ensures.after
+returns c = search storing_ends
